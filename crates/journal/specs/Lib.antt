@@ -1,0 +1,5 @@
+pub mod Events
+pub mod Law
+pub mod Shape
+pub mod Tell
+pub mod Texts
