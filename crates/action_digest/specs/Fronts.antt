@@ -1,0 +1,68 @@
+-- What the typed fronts say of keys and values.
+use Rattle.std.specs.Prelude.{◌≡◌, ℕ, List, [], ◌∷◌, Option, Some, None, Result, IsSome, refl}
+use Rattle.std.proofs.Common.{sym, subst, cc}
+use Rattle.dice_key.specs.Meaning.{Answered, Step, Asks, Ends}
+use Rattle.dice_key.specs.Fronts.{ValuesAreOf}
+use Rattle.target_file.specs.Targets.{Target, Located}
+use Rattle.action_digest.specs.declared.key.Key.{Key}
+use Rattle.action_digest.specs.declared.key.Key.TheVariants as key
+use Rattle.action_digest.specs.declared.value.Value.{Value}
+use Rattle.action_digest.specs.declared.value.Value.TheVariants as value
+use Rattle.action_digest.specs.declared.fault.Fault.{Fault}
+use Rattle.action_digest.specs.Buck.{buck, buck_next, value_by, first_of}
+
+-- what a value of each kind holds
+abbrev pub as_source : Value → Option (Option (List ℕ))
+as_source (value.Source o) = Some o
+as_source x = None
+
+abbrev pub as_package : Value → Option (Result (List Located) Fault)
+as_package (value.Package r) = Some r
+as_package x = None
+
+abbrev pub as_rule : Value → Option (Result Target Fault)
+as_rule (value.Rule r) = Some r
+as_rule x = None
+
+abbrev pub as_action : Value → Option (Result (List ℕ) Fault)
+as_action (value.Action r) = Some r
+as_action x = None
+
+abbrev pub as_digest : Value → Option (Result (List ℕ) Fault)
+as_digest (value.Digest r) = Some r
+as_digest x = None
+
+ends_same : (x y : Value) → Ends {Key} x ≡ Ends y → x ≡ y
+ends_same x y e = cc
+
+-- each value of a key of the kind holds what the kind's front reads
+pub source_front : (p : List ℕ) → ValuesAreOf buck (key.Source p) as_source
+source_front p = record { absent = refl; ends = λ A v x e. subst (λ y. IsSome (as_source y)) (ends_same _ x e) refl }
+
+package_ends : (p : List ℕ) (A : List (Answered Key Value)) (v : ℕ) (x : Value) → buck_next (key.Package p) A v ≡ Ends x → IsSome (as_package x)
+package_ends p [] v x e = cc
+package_ends p (a ∷ A) v x e = subst (λ y. IsSome (as_package y)) (ends_same _ x e) refl
+
+pub package_front : (p : List ℕ) → ValuesAreOf buck (key.Package p) as_package
+package_front p = record { absent = refl; ends = package_ends p }
+
+rule_ends : (p : List ℕ) (A : List (Answered Key Value)) (v : ℕ) (x : Value) → buck_next (key.Rule p) A v ≡ Ends x → IsSome (as_rule x)
+rule_ends p [] v x e = cc
+rule_ends p (a ∷ A) v x e = subst (λ y. IsSome (as_rule y)) (ends_same _ x e) refl
+
+pub rule_front : (p : List ℕ) → ValuesAreOf buck (key.Rule p) as_rule
+rule_front p = record { absent = refl; ends = rule_ends p }
+
+action_ends : (p : List ℕ) (A : List (Answered Key Value)) (v : ℕ) (x : Value) → buck_next (key.Action p) A v ≡ Ends x → IsSome (as_action x)
+action_ends p [] v x e = cc
+action_ends p (a ∷ A) v x e = subst (λ y. IsSome (as_action y)) (ends_same _ x e) refl
+
+pub action_front : (p : List ℕ) → ValuesAreOf buck (key.Action p) as_action
+action_front p = record { absent = refl; ends = action_ends p }
+
+digest_ends : (p : List ℕ) (A : List (Answered Key Value)) (v : ℕ) (x : Value) → buck_next (key.Digest p) A v ≡ Ends x → IsSome (as_digest x)
+digest_ends p [] v x e = cc
+digest_ends p (a ∷ A) v x e = subst (λ y. IsSome (as_digest y)) (ends_same _ x e) refl
+
+pub digest_front : (p : List ℕ) → ValuesAreOf buck (key.Digest p) as_digest
+digest_front p = record { absent = refl; ends = digest_ends p }

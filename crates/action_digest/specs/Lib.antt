@@ -1,0 +1,5 @@
+pub mod Actions
+pub mod Buck
+pub mod Same
+pub mod Laws
+pub mod Fronts

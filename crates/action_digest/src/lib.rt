@@ -1,0 +1,24 @@
+//! The universe of Buck targets: sources, packages, rules, actions and digests.
+#![tactic(auto)]
+
+mod action;
+mod buck;
+mod fault;
+mod fronts;
+mod key;
+mod laws;
+mod rule;
+mod run;
+mod value;
+
+pub use buck::Buck;
+pub use fault::Fault;
+pub use fronts::{ActionKey, DigestKey, PackageKey, RuleKey, SourceKey};
+pub use key::Key;
+pub use laws::every_key_has_a_value;
+pub use rule::Rule;
+pub use run::Run;
+pub use value::Value;
+
+#[cfg(test)]
+mod tests;

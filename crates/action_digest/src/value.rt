@@ -1,0 +1,21 @@
+//! The values.
+
+use buck_label::Text;
+use crate::fault::Fault;
+use crate::rule::Rule;
+use target_file::File;
+
+/// The value of a key, of the key's kind.
+#[derive(PartialEq, Eq, Drop)]
+pub enum Value {
+    /// The bytes of a file, or that there is none.
+    Source(Option<Text>),
+    /// The targets of a package.
+    Package(Result<File, Fault>),
+    /// One target.
+    Rule(Result<Rule, Fault>),
+    /// The text of an action.
+    Action(Result<Text, Fault>),
+    /// The SHA-256 of an action's text.
+    Digest(Result<[u8; 32], Fault>),
+}

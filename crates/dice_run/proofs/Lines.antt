@@ -1,0 +1,247 @@
+-- One line of a script more.
+use Rattle.std.proofs.Common.{◌≡◌, ◌≤◌, ◌⊎◌, inl, inr, ℕ, Bool, true, false, cond, nat_eq, List, [], ◌∷◌, ◌++◌, length, map, filter, decimal, codes, Option, Some, None, refl, sym, ap, ◌∙◌, subst, arith, append-nil, append_assoc, length-append}
+use Rattle.std.proofs.lemmas.List.{length-map}
+use Rattle.std.specs.Option.{unwrap_or}
+use Rattle.std.specs.Map.{lookup}
+use Rattle.std.specs.Str.{bytes_eq}
+use Rattle.std.specs.HashMap.{get}
+use Rattle.std.specs.Cmp.Lexicographic.{pointwise, nat_list_eq_equiv}
+use Rattle.std.proofs.lemmas.Slice.Eq.{bytes_eq-Decides}
+use mathlib.Core.List.{map-append}
+use Rattle.dice_model.specs.Log.{pairs_of, Has, AreDistinct}
+use Rattle.dice_model.specs.Eval.{HasValue}
+use Rattle.dice_model.proofs.Stable.{value_stable}
+use Rattle.action_digest.specs.declared.key.Key.{Key}
+use Rattle.action_digest.specs.declared.key.Key.TheVariants as key
+use Rattle.action_digest.specs.declared.value.Value.{Value}
+use Rattle.action_digest.specs.declared.value.Value.TheVariants as value
+use Rattle.action_digest.specs.Buck.{buck}
+use Rattle.action_digest.specs.Same.{key_equal}
+use Rattle.script.specs.declared.line.Line.{Line}
+use Rattle.script.specs.declared.line.Line.TheVariants.{Put, Commit, Open, Ask, Action}
+use Rattle.script.specs.declared.line.Request.{Request}
+use Rattle.script.specs.Faults.{Past, after, nothing}
+use Rattle.script.specs.Order.{Fits, InOrder}
+use Rattle.script.specs.Plan.{Plan, Change, Wish, Digest, Text, no_plan, planned, plan_from, plan_of, version_of, wanted, differs, committed, with_commit}
+use Rattle.dice_run.specs.Output.{line, log_of, pair_of_change, pairs_of_changes, key_of, value_lines, IsAnswered, IsPrinted, IsOutputFrom, IsOutput}
+use Rattle.dice_run.specs.Driving.{paths_of, Matches, Drove, Answered, differs_from}
+use Rattle.dice_run.specs.declared.driver.Driver.{Driver}
+use Rattle.dice_run.proofs.Changing.{differing_same}
+
+-- ---- lists
+
+has_end : {X : Type 0} (xs : List X) (x y : X) → Has (xs ++ x ∷ []) y → Has xs y ⊎ (x ≡ y)
+has_end [] x y (inl e) = inr e
+has_end [] x y (inr h) = absurd h
+has_end (z ∷ zs) x y (inl e) = inl (inl e)
+has_end (z ∷ zs) x y (inr h) = elim (has_end zs x y h) as (λ _. Has (z ∷ zs) y ⊎ (x ≡ y)) [ inl a ↦ inl (inr a) | inr e ↦ inr e ]
+
+distinct_end : {X : Type 0} (xs : List X) (x : X) → AreDistinct xs → (Has xs x → ⊥) → AreDistinct (xs ++ x ∷ [])
+distinct_end [] x d n = ((λ h. h), tt)
+distinct_end (z ∷ zs) x d n = (
+  (λ h. elim (has_end zs x z h) as (λ _. ⊥) [ inl a ↦ d.0 a | inr e ↦ n (inl (sym e)) ]),
+  distinct_end zs x d.1 (λ h. n (inr h)),
+)
+
+-- ---- put
+
+put_gathered : (g : List (Key × Value)) (cs : List Change) (c : Change) → g ≡ pairs_of_changes cs → g ++ pair_of_change c ∷ [] ≡ pairs_of_changes (cs ++ c ∷ [])
+put_gathered g cs c e = ap (λ (x : List (Key × Value)). x ++ pair_of_change c ∷ []) e ∙ sym (map-append pair_of_change cs (c ∷ []))
+
+put_paths : (cs : List Change) (c : Change) → paths_of (cs ++ c ∷ []) ≡ paths_of cs ++ c.path ∷ []
+put_paths cs c = map-append (λ (c : Change). c.path) cs (c ∷ [])
+
+if_not : (b c : Bool) → cond b true c ≡ false → c ≡ false
+if_not true c e = cc
+if_not false c e = e
+
+put_touched : (past : Past) (path q : List ℕ) (xs : List (List ℕ)) → ((p : List ℕ) → past.touched p ≡ false → Has xs p → ⊥) → cond (bytes_eq path q) true (past.touched q) ≡ false → Has (xs ++ path ∷ []) q → ⊥
+put_touched past path q xs t e h = elim (has_end xs path q h) as (λ _. ⊥) [
+  | inl a ↦ t q (if_not (bytes_eq path q) (past.touched q) e) a
+  | inr s ↦ (let b : bytes_eq path q ≡ true = (bytes_eq-Decides path q).1 s in let f : cond true true (past.touched q) ≡ false = subst (λ (x : Bool). cond x true (past.touched q) ≡ false) b e in cc)
+]
+
+pub put_drove : (d e : Driver) (p : Plan) (past : Past) (path bytes : List ℕ) → Matches d p past → past.touched path ≡ false
+    → e.commits ≡ d.commits → pairs_of e.gathered.items ≡ pairs_of d.gathered.items ++ (key.Source path, value.Source (Some bytes)) ∷ [] → e.versions ≡ d.versions → e.out.items ≡ d.out.items
+    → Drove d e p past (Put path bytes)
+put_drove d e p past path bytes m fresh ec eg ev eo =
+    let c : Change = record { path = path; bytes = bytes } in
+    record {
+      text = [];
+      out = eo ∙ sym (append-nil d.out.items);
+      printed = λ more. refl;
+      stands = record {
+        commits = ec ∙ m.commits;
+        gathered = eg ∙ put_gathered (pairs_of d.gathered.items) p.gathered c m.gathered;
+        versions = λ t. ap (λ v. get (pointwise nat_eq) v t) ev ∙ m.versions t;
+        within = m.within;
+        distinct = subst AreDistinct (sym (put_paths p.gathered c)) (distinct_end (paths_of p.gathered) path m.distinct (m.touched path fresh));
+        touched = λ q t h. put_touched past path q (paths_of p.gathered) m.touched t (subst (λ (xs : List (List ℕ)). Has xs q) (put_paths p.gathered c) h);
+      };
+    }
+
+-- ---- the log goes on
+
+pub log_more : (log : List (List Change)) (cs : List Change) → (m : List (List Change)) × (with_commit log cs ≡ log ++ m)
+log_more log [] = ([], sym (append-nil log))
+log_more log (c ∷ cs) = ((c ∷ cs) ∷ [], refl)
+
+planned_more : (p : Plan) (l : Line) → (m : List (List Change)) × ((planned p l).log ≡ p.log ++ m)
+planned_more p (Put path bytes) = ([], sym (append-nil p.log))
+planned_more p Commit = log_more p.log (filter (differs p.log) p.gathered)
+planned_more p (Open t) = ([], sym (append-nil p.log))
+planned_more p (Ask r) = ([], sym (append-nil p.log))
+planned_more p (Action r) = ([], sym (append-nil p.log))
+
+pub plan_more : (ls : List Line) (p : Plan) → (m : List (List Change)) × ((plan_from p ls).log ≡ p.log ++ m)
+plan_more [] p = ([], sym (append-nil p.log))
+plan_more (l ∷ ls) p =
+    let a = planned_more p l in
+    let b = plan_more ls (planned p l) in
+    (a.0 ++ b.0, b.1 ∙ (ap (λ (x : List (List Change)). x ++ b.0) a.1 ∙ append_assoc p.log a.0 b.0))
+
+log_of_more : (xs ys : List (List Change)) → log_of (xs ++ ys) ≡ log_of xs ++ log_of ys
+log_of_more xs ys = map-append pairs_of_changes xs ys
+
+log_length : (log : List (List Change)) → length (log_of log) ≡ length log
+log_length log = length-map pairs_of_changes log
+
+-- ---- commit
+
+committed_log : (log : List (List Change)) (cs : List Change) (C : List (List (Key × Value))) (changes : List (Key × Value)) → C ≡ log_of log → changes ≡ pairs_of_changes cs → 0 < length changes → C ++ changes ∷ [] ≡ log_of (with_commit log cs)
+committed_log log [] C changes e f some = absurd (let z : length changes ≡ 0 = ap length f in omega arith)
+committed_log log (c ∷ cs) C changes e f some =
+    ap (λ (x : List (List (Key × Value))). x ++ changes ∷ []) e ∙ (ap (λ (x : List (Key × Value)). log_of log ++ x ∷ []) f ∙ sym (log_of_more log ((c ∷ cs) ∷ [])))
+
+nothing_committed : (log : List (List Change)) (cs : List Change) (C : List (List (Key × Value))) (changes : List (Key × Value)) → C ≡ log_of log → changes ≡ pairs_of_changes cs → length changes ≡ 0 → C ≡ log_of (with_commit log cs)
+nothing_committed log [] C changes e f none = e
+nothing_committed log (c ∷ cs) C changes e f none = absurd (let z : length changes ≡ length (pairs_of_changes (c ∷ cs)) = ap length f in let y : length (pairs_of_changes (c ∷ cs)) ≡ length (pairs_of_changes cs) + 1 = omega arith in omega arith)
+
+pub commit_drove : (d e : Driver) (p : Plan) (past : Past) → Matches d p past
+    → e.commits ≡ log_of (committed p.log p.gathered) → e.gathered.items ≡ [] → e.versions ≡ d.versions → e.out.items ≡ d.out.items ++ (codes "commit " ++ decimal (length e.commits) ++ 10 ∷ [])
+    → Drove d e p past Commit
+commit_drove d e p past m ec eg ev eo =
+    let n : length e.commits ≡ length (committed p.log p.gathered) = ap length ec ∙ log_length (committed p.log p.gathered) in
+    let more = log_more p.log (filter (differs p.log) p.gathered) in
+    let l : length (committed p.log p.gathered) ≡ length p.log + length more.0 = ap length more.1 ∙ length-append p.log more.0 in
+    record {
+      text = line (codes "commit " ++ decimal (length (committed p.log p.gathered)));
+      out = eo ∙ ap (λ n. d.out.items ++ (codes "commit " ++ decimal n ++ 10 ∷ [])) n;
+      printed = λ more. refl;
+      stands = record {
+        commits = ec;
+        gathered = ap pairs_of eg;
+        versions = λ t. ap (λ v. get (pointwise nat_eq) v t) ev ∙ m.versions t;
+        within = λ t. (let w = m.within t in omega arith);
+        distinct = tt;
+        touched = λ q t h. h;
+      };
+    }
+
+-- ---- open
+
+open_looked : (t q : List ℕ) (n : ℕ) (o : Option ℕ) (opened : List (List ℕ × ℕ)) → o ≡ lookup (bytes_eq q) opened → cond (bytes_eq t q) (Some n) o ≡ lookup (bytes_eq q) ((t, n) ∷ opened)
+open_looked t q n o opened e = ap (λ b. cond b (Some n) o) (nat_list_eq_equiv.symm t q) ∙ ap (cond (bytes_eq q t) (Some n)) e
+
+open_within : (t q : List ℕ) (n : ℕ) (opened : List (List ℕ × ℕ)) → version_of q opened ≤ n → version_of q ((t, n) ∷ opened) ≤ n
+open_within t q n opened w = by_test (bytes_eq q t)
+  where
+    by_test : (b : Bool) → unwrap_or (cond b (Some n) (lookup (bytes_eq q) opened)) 0 ≤ n
+    by_test true = omega arith
+    by_test false = w
+
+pub open_drove : (d e : Driver) (p : Plan) (past : Past) (t : List ℕ) (n : ℕ) → Matches d p past → n ≡ length d.commits
+    → e.commits ≡ d.commits → e.gathered ≡ d.gathered → ((q : List ℕ) → get (pointwise nat_eq) e.versions q ≡ cond (bytes_eq t q) (Some n) (get (pointwise nat_eq) d.versions q))
+    → e.out.items ≡ d.out.items ++ (codes "open " ++ t ++ 32 ∷ decimal n ++ 10 ∷ []) → Drove d e p past (Open t)
+open_drove d e p past t n m en ec eg ev eo =
+    let l : n ≡ length p.log = en ∙ (ap length m.commits ∙ log_length p.log) in
+    record {
+      text = line (codes "open " ++ t ++ 32 ∷ decimal (length p.log));
+      out = eo ∙ ap (λ n. d.out.items ++ (codes "open " ++ t ++ 32 ∷ decimal n ++ 10 ∷ [])) l;
+      printed = λ more. refl;
+      stands = record {
+        commits = ec ∙ m.commits;
+        gathered = ap (λ g. pairs_of g.items) eg ∙ m.gathered;
+        versions = λ q. ev q ∙ (ap (λ n. cond (bytes_eq t q) (Some n) (get (pointwise nat_eq) d.versions q)) l ∙ open_looked t q (length p.log) _ p.opened (m.versions q));
+        within = λ q. open_within t q (length p.log) p.opened (m.within q);
+        distinct = m.distinct;
+        touched = m.touched;
+      };
+    }
+
+-- ---- requests
+
+abbrev pub answer_text : Request → ℕ → Value → List ℕ
+answer_text r v x = r.name ++ 32 ∷ decimal v ++ 32 ∷ value_lines x
+
+answered : (d e : Driver) (p : Plan) (past : Past) (r : Request) (w : Wish) → Matches d p past → (a : Answered d e r (key_of w)) → (more : List (List (Key × Value))) → IsAnswered (log_of p.log ++ more) (wanted p r w) (answer_text r a.version a.value)
+answered d e p past r w m a more =
+    let v : a.version ≡ version_of r.transaction p.opened = a.version_is ∙ ap (λ o. unwrap_or o 0) (m.versions r.transaction) in
+    let within : a.version ≤ length (log_of p.log) = (let x = m.within r.transaction in let y = log_length p.log in omega arith) in
+    let has : HasValue key_equal buck (log_of p.log) a.version (key_of w) a.value = subst (λ C. HasValue key_equal buck C a.version (key_of w) a.value) m.commits a.has in
+    let stable = value_stable key_equal buck (log_of p.log) more a.version within (key_of w) a.value has in
+    record { value = a.value; has = subst (λ n. HasValue key_equal buck (log_of p.log ++ more) n (key_of w) a.value) v stable; text_is = ap (λ n. answer_text r n a.value) v }
+
+request_stands : (d e : Driver) (p : Plan) (past : Past) (r : Request) (k : Key) → Matches d p past → Answered d e r k → Matches e p past
+request_stands d e p past r k m a = record {
+  commits = a.commits ∙ m.commits;
+  gathered = ap (λ g. pairs_of g.items) a.gathered ∙ m.gathered;
+  versions = λ t. ap (λ v. get (pointwise nat_eq) v t) a.versions ∙ m.versions t;
+  within = m.within;
+  distinct = m.distinct;
+  touched = m.touched;
+}
+
+pub ask_drove : (d e : Driver) (p : Plan) (past : Past) (r : Request) → Matches d p past → Answered d e r (key.Digest r.label) → Drove d e p past (Ask r)
+ask_drove d e p past r m a = record {
+  text = answer_text r a.version a.value;
+  out = a.out;
+  printed = λ more. answered d e p past r (Digest r.label) m a more;
+  stands = request_stands d e p past r (key.Digest r.label) m a;
+}
+
+pub action_drove : (d e : Driver) (p : Plan) (past : Past) (r : Request) → Matches d p past → Answered d e r (key.Action r.label) → Drove d e p past (Action r)
+action_drove d e p past r m a = record {
+  text = answer_text r a.version a.value;
+  out = a.out;
+  printed = λ more. answered d e p past r (Text r.label) m a more;
+  stands = request_stands d e p past r (key.Action r.label) m a;
+}
+
+-- ---- the whole script
+
+-- the driver stands behind some lines, and before the rest; what the rest prints makes the output whole
+pub record Going (lines rest : List Line) (d : Driver) : Type 0 where
+  pub plan : Plan
+  pub past : Past
+  pub stands : Matches d plan past
+  pub order : InOrder past rest
+  pub whole : plan_of lines ≡ plan_from plan rest
+  pub goes_on : (more : List ℕ) → IsOutputFrom (log_of (plan_of lines).log) plan rest more → IsOutput lines (d.out.items ++ more)
+
+pub going_first : (lines : List Line) (d : Driver) → Matches d no_plan nothing → InOrder nothing lines → d.out.items ≡ [] → Going lines lines d
+going_first lines d m o e = record {
+  plan = no_plan;
+  past = nothing;
+  stands = m;
+  order = o;
+  whole = refl;
+  goes_on = λ more h. subst (λ (x : List ℕ). IsOutput lines (x ++ more)) (sym e) h;
+}
+
+pub going_more : (lines rest : List Line) (l : Line) (d e : Driver) → (g : Going lines (l ∷ rest) d) → Drove d e g.plan g.past l → Going lines rest e
+going_more lines rest l d e g w =
+    let m = plan_more rest (planned g.plan l) in
+    let C : log_of (plan_of lines).log ≡ log_of (planned g.plan l).log ++ log_of m.0 = ap (λ (p : Plan). log_of p.log) g.whole ∙ (ap log_of m.1 ∙ log_of_more (planned g.plan l).log m.0) in
+    let printed : IsPrinted (log_of (plan_of lines).log) g.plan l w.text = subst (λ C. IsPrinted C g.plan l w.text) (sym C) (w.printed (log_of m.0)) in
+    record {
+      plan = planned g.plan l;
+      past = after g.past l;
+      stands = w.stands;
+      order = g.order.1;
+      whole = g.whole;
+      goes_on = λ more h. subst (IsOutput lines) (sym (append_assoc d.out.items w.text more) ∙ ap (λ (x : List ℕ). x ++ more) (sym w.out)) (g.goes_on (w.text ++ more) (w.text, more, refl, printed, h));
+    }
+
+pub going_end : (lines : List Line) (d : Driver) → Going lines [] d → IsOutput lines d.out.items
+going_end lines d g = subst (IsOutput lines) (append-nil d.out.items) (g.goes_on [] refl)

@@ -1,0 +1,82 @@
+-- The output that stands for a script.
+use Rattle.std.specs.Prelude.{◌≡◌, ℕ, List, [], ◌∷◌, ◌++◌, codes, map, length, decimal, Result, Ok, Err, Some, None}
+use Rattle.hex.specs.Hex.{encode_lower}
+use Rattle.buck_label.specs.Labels.{printed_package}
+use Rattle.dice_model.specs.Eval.{HasValue}
+use Rattle.action_digest.specs.declared.key.Key.{Key}
+use Rattle.action_digest.specs.declared.key.Key.TheVariants as key
+use Rattle.action_digest.specs.declared.value.Value.{Value}
+use Rattle.action_digest.specs.declared.value.Value.TheVariants as value
+use Rattle.action_digest.specs.declared.fault.Fault.{Fault}
+use Rattle.action_digest.specs.declared.fault.Fault.TheVariants.{NoPackage, BadFile, NoTarget}
+use Rattle.action_digest.specs.Buck.{buck}
+use Rattle.action_digest.specs.Same.{key_equal}
+use Rattle.script.specs.declared.line.Line.{Line}
+use Rattle.script.specs.declared.line.Line.TheVariants.{Put, Commit, Open, Ask, Action}
+use Rattle.script.specs.Plan.{Plan, Planned, Change, Wish, Digest, Text, no_plan, planned, plan_of, wanted}
+
+-- a text and its line feed
+abbrev pub line : List ℕ → List ℕ
+line text = text ++ 10 ∷ []
+
+-- what stands behind the word `fault`
+abbrev pub fault_text : Fault → List ℕ
+fault_text (NoPackage p) = codes "no-package " ++ printed_package p
+fault_text (BadFile p n) = codes "bad-file " ++ p ++ 32 ∷ decimal n
+fault_text (NoTarget l) = codes "no-target " ++ l
+
+abbrev pub fault_line : Fault → List ℕ
+fault_line f = line (codes "fault " ++ fault_text f)
+
+-- a digest in hex; the length of an action's text, and behind that line the text; or a fault
+abbrev pub digest_line : Result (List ℕ) Fault → List ℕ
+digest_line (Ok d) = line (encode_lower d)
+digest_line (Err f) = fault_line f
+
+abbrev pub action_lines : Result (List ℕ) Fault → List ℕ
+action_lines (Ok t) = line (codes "action " ++ decimal (length t)) ++ t
+action_lines (Err f) = fault_line f
+
+-- how a value is answered; only digests and actions are requested
+abbrev pub value_lines : Value → List ℕ
+value_lines (value.Digest d) = digest_line d
+value_lines (value.Action t) = action_lines t
+value_lines x = []
+
+-- the key that a request is for
+abbrev pub key_of : Wish → Key
+key_of (Digest l) = key.Digest l
+key_of (Text l) = key.Action l
+
+-- a commit of a script, as the universe's keys and values
+abbrev pub pair_of_change : Change → Key × Value
+pair_of_change c = (key.Source c.path, value.Source (Some c.bytes))
+
+abbrev pub pairs_of_changes : List Change → List (Key × Value)
+pairs_of_changes cs = map pair_of_change cs
+
+abbrev pub log_of : List (List Change) → List (List (Key × Value))
+log_of log = map pairs_of_changes log
+
+-- the request's name and version, and how the value of its key is answered, by the log C
+pub record IsAnswered (C : List (List (Key × Value))) (r : Planned) (text : List ℕ) : Type 0 where
+  pub value : Value
+  pub has : HasValue key_equal buck C r.version (key_of r.wish) value
+  pub text_is : text ≡ r.name ++ 32 ∷ decimal r.version ++ 32 ∷ value_lines value
+
+-- what a line of the script prints, by the whole log C, where the lines before it make this plan
+abbrev pub IsPrinted : List (List (Key × Value)) → Plan → Line → List ℕ → Type 0
+IsPrinted C p (Put path bytes) text = text ≡ []
+IsPrinted C p Commit text = text ≡ line (codes "commit " ++ decimal (length (planned p Commit).log))
+IsPrinted C p (Open t) text = text ≡ line (codes "open " ++ t ++ 32 ∷ decimal (length p.log))
+IsPrinted C p (Ask r) text = IsAnswered C (wanted p r (Digest r.label)) text
+IsPrinted C p (Action r) text = IsAnswered C (wanted p r (Text r.label)) text
+
+-- the texts of these lines in order, one behind the other
+abbrev pub IsOutputFrom : List (List (Key × Value)) → Plan → List Line → List ℕ → Type 0
+IsOutputFrom C p [] out = out ≡ []
+IsOutputFrom C p (l ∷ ls) out = (text : List ℕ) × (rest : List ℕ) × (out ≡ text ++ rest) × IsPrinted C p l text × IsOutputFrom C (planned p l) ls rest
+
+-- the output stands for the script of these lines
+abbrev pub IsOutput : List Line → List ℕ → Type 0
+IsOutput ls out = IsOutputFrom (log_of (plan_of ls).log) no_plan ls out

@@ -1,0 +1,62 @@
+//! A run, from the words of the command line to a status.
+ghost use Rattle.std.specs.Prelude.{◌≡◌, ◌≢◌, ◌⊎◌, List, [], ℕ, Some, map};
+ghost use Rattle.dice_io.specs.Streams.{Rose, Gained, GainedPart, Unchanged};
+ghost use Rattle.dice_words.specs.Accepted.{IsAccepted};
+ghost use Rattle.script.specs.declared.line.Line.{Line};
+ghost use Rattle.script.specs.Scripts.{IsScript};
+ghost use Rattle.dice_run.specs.Run.{Answers, Refuses, IsWritten};
+
+use crate::append;
+use crate::driver::drive;
+use crate::status::Status;
+use dice_io::{Gate, ReadFail, Sink, Source, read_all, write_all};
+use dice_key::NoMemory;
+use dice_words::{Command, WordsFail, read_words};
+use script::{Script, ScriptRefusal};
+use std::alloc::Global;
+use std::sync::{Threads, Wait};
+
+/// How many bytes are read at most: one more than a script may have.
+const MOST: usize = 4_194_305;
+
+/// Reads the words of the command line, of which the first is the program's name, and does what they say: `run` reads a script
+/// from the source to its end, checks the whole of it, carries it out, and writes the output to the sink.
+///
+/// The status says how it ended, and is tested in this order: words, reading, length, grammar, running, writing; want of memory
+/// comes where it is met, before anything is written. Reading asks for at most 65,536 bytes a call; the whole rest of the output
+/// is handed to the sink in each call, and no memory is taken once it is built. The runtime and the gate serve workers, which
+/// are not there yet.
+pub fn run<R: Threads + Wait, S: Source, K: Sink, G: Gate>(
+    _rt: &R,
+    alloc: Global,
+    words: &[&str],
+    source: &mut S,
+    sink: &mut K,
+    _gate: &G,
+) -> Status
+    ensures words { result ≡ Status.WordsRefused → (IsAccepted (map (λ w. w.now) words.now) → ⊥) × Unread (S.left source.old) (S.left source.new) × Unchanged (K.taken sink.old) (K.taken sink.new) }
+    ensures read { result ≡ Status.ReadFailed → Rose (S.faults source.old) (S.faults source.new) × Unchanged (K.taken sink.old) (K.taken sink.new) }
+    ensures write { result ≡ Status.WriteFailed → Rose (K.faults sink.old) (K.faults sink.new) × ((input : List ℕ) → S.left source.old ≡ Some input → (out : List ℕ) × IsWritten input out × GainedPart (K.taken sink.old) (K.taken sink.new) out) }
+    ensures script { result ≡ Status.ScriptRefused → (input : List ℕ) → S.left source.old ≡ Some input → (out : List ℕ) × Refuses input out × Gained (K.taken sink.old) (K.taken sink.new) out }
+    ensures done { result ≡ Status.Done → (input : List ℕ) → S.left source.old ≡ Some input → (out : List ℕ) × Answers input out × Gained (K.taken sink.old) (K.taken sink.new) out × (S.left source.new ≡ Some []) }
+    ensures memory { result ≡ Status.NoMemory → Unchanged (K.taken sink.old) (K.taken sink.new) }
+{
+    match read_words(alloc, words) {
+        Ok(Command::Run) => {}
+        Err(WordsFail::Refused) => return Status::WordsRefused,
+        Err(WordsFail::NoMemory) => return Status::NoMemory,
+    }
+    let bytes = match read_all(alloc, source, MOST) {
+        Ok(bytes) => bytes,
+        Err(ReadFail::Failed) => return Status::ReadFailed,
+        Err(ReadFail::NoMemory) => return Status::NoMemory,
+    };
+    let (status, out) = match answer(alloc, &bytes) {
+        Ok(answer) => answer,
+        Err(NoMemory) => return Status::NoMemory,
+    };
+    match write_all(sink, &out) {
+        Ok(()) => status,
+        Err(_) => Status::WriteFailed,
+    }
+}
