@@ -1,0 +1,66 @@
+-- Rows of the definition.
+use Rattle.std.proofs.Common.{◌≡◌, ◌⊎◌, refl, inl, inr, ℕ, List, [], ◌∷◌, ◌++◌, codes, Some, arith}
+use Rattle.target_file.specs.declared.table.Rule.TheVariants.{WriteFile}
+use Rattle.target_file.specs.declared.table.Attribute.TheVariants.{Name, Content}
+use Rattle.buck_label.specs.Paths.{IsPath}
+use Rattle.target_file.specs.Tokens.{Token, Word, Text, Mark, tokens, scan, start}
+use Rattle.target_file.specs.Calls.{One, Call, AreCalls}
+use Rattle.target_file.specs.Files.{IsWritten, IsDead}
+use Rattle.target_file.specs.Machine.{State, Steps, Runs, first}
+use Rattle.target_file.proofs.Fresh.{segment_path}
+use Rattle.target_file.proofs.Faults.{dead_byte, dead_token, stuck}
+
+-- the empty file, and a comment with no end
+empty_file : IsWritten [] []
+empty_file = record { made_of = []; tokens_are = refl; calls_are = refl; each = tt; once = tt }
+
+comment_file : IsWritten (codes "# x") []
+comment_file = record { made_of = []; tokens_are = refl; calls_are = refl; each = tt; once = tt }
+
+w_path : IsPath (codes "w")
+w_path = segment_path (codes "w") (record { some = λ e. cc; each = (refl, tt); no_dot = λ e. cc; no_dots = λ e. cc }) (omega arith)
+
+w_call : Call
+w_call = record { line = 1; rule = WriteFile; arguments = record { attribute = Name; value = One (codes "w") } ∷ record { attribute = Content; value = One (codes "a") } ∷ [] }
+
+-- write_file(name='w',content='a')
+w_file : IsWritten (codes "write_file(name='w',content='a')") (record { line = 1; rule = WriteFile; arguments = record { attribute = Name; value = One (codes "w") } ∷ record { attribute = Content; value = One (codes "a") } ∷ [] } ∷ [])
+w_file =
+    let name : List Token = Word 1 (codes "name") ∷ Mark 61 ∷ Text (codes "w") ∷ [] in
+    let content : List Token = Word 1 (codes "content") ∷ Mark 61 ∷ Text (codes "a") ∷ [] in
+    let inner : List Token = name ++ Mark 44 ∷ content in
+    record {
+      made_of = Word 1 (codes "write_file") ∷ Mark 40 ∷ (inner ++ Mark 41 ∷ []);
+      tokens_are = refl;
+      calls_are = (
+        Word 1 (codes "write_file") ∷ Mark 40 ∷ (inner ++ Mark 41 ∷ []),
+        [],
+        refl,
+        record {
+          word = codes "write_file";
+          rule_is = refl;
+          inner = inner;
+          tokens_are = refl;
+          arguments = inr (
+            name,
+            content ++ Mark 44 ∷ [],
+            refl,
+            record { line = 1; word = codes "name"; attribute_is = refl; value = Text (codes "w") ∷ []; tokens_are = refl; value_is = refl },
+            (content, [], refl, record { line = 1; word = codes "content"; attribute_is = refl; value = Text (codes "a") ∷ []; tokens_are = refl; value_is = refl }, refl),
+          );
+        },
+        refl,
+      );
+      each = (record { each = (w_path, (tt, tt)); once = (λ h. elim h [ inl e ↦ cc | inr n ↦ n ], ((λ h. h), tt)); whole = (inl refl, (inr (inl refl), tt)) }, tt);
+      once = ((λ h. h), tt);
+    }
+
+-- no file begins with a tilde, nor with cxx_library(
+tilde_dead : IsDead (codes "~")
+tilde_dead = dead_byte (codes "~") refl
+
+no_rule : (e : State) → Runs (first WriteFile) (Word 1 (codes "cxx_library") ∷ Mark 40 ∷ []) e → ⊥
+no_rule e h = let k = h.1.1 in cc
+
+cxx_dead : IsDead (codes "cxx_library(")
+cxx_dead = dead_token WriteFile (codes "cxx_library(") (record { tokens = Word 1 (codes "cxx_library") ∷ Mark 40 ∷ []; mode = _; line = 1 }) refl (stuck WriteFile [] (Word 1 (codes "cxx_library") ∷ Mark 40 ∷ []) (first WriteFile) refl no_rule)

@@ -1,0 +1,24 @@
+use Rattle.std.proofs.Common.{◌≡◌, ◌∙◌, ◌++◌, ◌∷◌, [], ap, sym, subst, List, ℕ, Some, if◌then◌else◌, map, length}
+use Rattle.target_file.specs.declared.call.Argument.{Argument}
+use Rattle.target_file.specs.declared.call.Value.TheVariants as value
+use Rattle.target_file.specs.Calls.{One}
+use Rattle.target_file.specs.Machine.{IsFresh}
+use Rattle.target_file.specs.Names.{number_of, number_from, gives_name}
+use Rattle.target_file.specs.Seen.{call_of, arguments_of}
+use Rattle.target_file.proofs.Numbers.{noted}
+use Rattle.target_file.proofs.progress.Progress.value.Goals as goal
+
+pub invariant_of-self-2 : goal.invariant_of-self-2
+invariant_of-self-2 c =
+    let p = c.args.self.now in
+    let a = c.args.attribute in
+    let x : Argument = record { attribute = a; value = value.One c.args.text } in
+    let e : c.push.new.self.items ≡ p.given.items ++ x ∷ [] = c.in_ok-push.ensures.items ∙ ap (λ (r : List Argument). r ++ x ∷ []) c.in_ok-reserve.ensures.items in
+    let l : c.len.result ≡ length p.calls.items = c.len.ensures ∙ p.calls.ok.0 in
+    let g : IsFresh (map call_of p.calls.items) a (One c.deref-else-not-may_be.result.now) = c.is_fresh.ensures.0 c.if-not-is_fresh.false in
+    let f : IsFresh (map call_of p.calls.items) a (One c.args.text.items) = subst (λ (t : List ℕ). IsFresh (map call_of p.calls.items) a (One t)) c.deref-else-not-may_be.ensures.value g in
+    let n : (q : List ℕ) → number_of c.note.new.self q ≡ (if gives_name q a (One c.args.text.items) then Some c.len.result else number_of p.names q) =
+    subst (λ (t : List ℕ). (q : List ℕ) → number_of c.note.new.self q ≡ (if gives_name q a (One t) then Some c.len.result else number_of p.names q)) c.deref-2.ensures.value c.in_ok-note.ensures.ok in record {
+      numbered = λ q. noted q _ c.len.result p.calls.items p.given.items c.push.new.self.items x e l f (n q ∙ ap (λ (k : _). if gives_name q a (One c.args.text.items) then Some c.len.result else k) (p.numbered q));
+      idle = λ e. cc;
+    }

@@ -1,0 +1,13 @@
+pub mod Tokens
+pub mod Table
+pub mod Calls
+pub mod Files
+pub mod Targets
+pub mod Laws
+pub mod Names
+pub mod Seen
+pub mod Lent
+pub mod Machine
+pub mod Code
+pub mod Contents
+pub mod Reading

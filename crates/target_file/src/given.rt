@@ -1,0 +1,64 @@
+//! The arguments of a call so far.
+ghost use Rattle.std.specs.Prelude.{◌≡◌, ◌↔◌, true, List, []};
+ghost use Rattle.std.specs.List.{AllByRecursion};
+ghost use Rattle.target_file.specs.Calls.{One, Many};
+ghost use Rattle.target_file.specs.Table.{form_of, needed};
+ghost use Rattle.target_file.specs.Files.{Has, Belongs, attributes};
+ghost use Rattle.target_file.specs.Machine.{HasItem};
+ghost use Rattle.target_file.specs.Seen.{arguments_of};
+
+use crate::call::Argument;
+use crate::table::{Attribute, Form, Rule, form_of, needed};
+use buck_label::is_path;
+
+/// Whether no attribute that has no default is missing.
+pub fn is_whole(rule: Rule, given: &[Argument]) -> bool
+    ensures { (result ≡ true) ↔ AllByRecursion (λ a. Has (attributes (arguments_of given.now)) a) (needed rule) }
+{
+    for attribute in needed(rule) {
+        if !is_given(given, *attribute) {
+            return false;
+        }
+    }
+    true
+}
+
+/// Whether the attribute is among these.
+pub fn is_given(given: &[Argument], attribute: Attribute) -> bool
+    ensures { (result ≡ true) ↔ Has (attributes (arguments_of given.now)) attribute }
+{
+    for argument in given {
+        if argument.attribute == attribute {
+            return true;
+        }
+    }
+    false
+}
+
+/// Whether the string may be the attribute's value.
+pub fn may_be(rule: Rule, attribute: Attribute, text: &[u8]) -> bool
+    ensures { (result ≡ true) ↔ Belongs (form_of rule attribute) (One text.now) }
+{
+    match form_of(rule, attribute) {
+        Some(Form::Path) => is_path(text),
+        Some(Form::Text) => true,
+        None => false,
+    }
+}
+
+/// Whether an attribute of this form takes a list: none does yet.
+pub fn is_list(form: Option<Form>) -> bool
+    ensures { (result ≡ true) ↔ Belongs form (Many []) }
+{
+    match form {
+        None | Some(Form::Path) | Some(Form::Text) => false,
+    }
+}
+
+/// Whether the string may stand in the attribute's list: no attribute takes one yet.
+pub fn may_hold(rule: Rule, attribute: Attribute, text: &[u8]) -> bool
+    ensures { (result ≡ true) ↔ HasItem (form_of rule attribute) text.now }
+{
+    let _ = text;
+    is_list(form_of(rule, attribute))
+}

@@ -1,0 +1,23 @@
+//! Target files: their grammar, what their calls mean, and the line of a fault.
+#![tactic(auto)]
+
+mod call;
+mod fault;
+mod file;
+mod given;
+mod laws;
+mod locating;
+mod mode;
+mod names;
+mod place;
+mod progress;
+mod reading;
+mod reader;
+mod table;
+mod target;
+
+pub use fault::FileFault;
+pub use file::{File, Located};
+pub use laws::contents_by_grammar;
+pub use reading::read;
+pub use target::Target;

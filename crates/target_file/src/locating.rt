@@ -1,0 +1,36 @@
+//! From calls to targets.
+ghost use Rattle.std.specs.Prelude.{◌≡◌, map, IfOk};
+ghost use Rattle.std.specs.List.{AllByRecursion};
+ghost use Rattle.target_file.specs.Files.{IsFine};
+ghost use Rattle.target_file.specs.Seen.{call_of};
+ghost use Rattle.target_file.specs.Targets.{located};
+ghost use Rattle.target_file.specs.Lent.{located_of, all_of};
+
+use crate::call::Call;
+use crate::fault::NoMemory;
+use crate::file::Located;
+use crate::target::Target;
+use std::alloc::Global;
+use std::sync::Arc;
+
+/// The target of a call.
+fn locate(alloc: Global, call: Call) -> Result<Located, NoMemory>
+    requires { IsFine (call_of call) }
+    ensures { IfOk result (λ l. located_of l ≡ located (call_of call)) }
+{
+    let line = call.line;
+    let target = Arc::new(alloc, Target::of(alloc, call.arguments)?)?;
+    Ok(Located { line, target })
+}
+
+/// The targets of the calls, in order.
+pub fn located_all(alloc: Global, calls: Vec<Call>) -> Result<Vec<Located>, NoMemory>
+    requires { AllByRecursion IsFine (map call_of calls.items) }
+    ensures { IfOk result (λ ls. all_of ls.items ≡ map located (map call_of calls.items)) }
+{
+    let mut targets = Vec::with_capacity(alloc, calls.len())?;
+    for call in calls {
+        targets.push(locate(alloc, call)?)?;
+    }
+    Ok(targets)
+}
