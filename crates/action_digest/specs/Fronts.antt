@@ -1,6 +1,6 @@
 -- What the typed fronts say of keys and values.
 use Rattle.std.specs.Prelude.{◌≡◌, ℕ, List, [], ◌∷◌, Option, Some, None, Result, IsSome, refl}
-use Rattle.std.proofs.Common.{sym, subst, cc}
+use Rattle.std.proofs.Common.{sym, ◌∙◌, subst}
 use Rattle.dice_key.specs.Meaning.{Answered, Step, Asks, Ends}
 use Rattle.dice_key.specs.Fronts.{ValuesAreOf}
 use Rattle.target_file.specs.Targets.{Target, Located}
@@ -9,7 +9,7 @@ use Rattle.action_digest.specs.declared.key.Key.TheVariants as key
 use Rattle.action_digest.specs.declared.value.Value.{Value}
 use Rattle.action_digest.specs.declared.value.Value.TheVariants as value
 use Rattle.action_digest.specs.declared.fault.Fault.{Fault}
-use Rattle.action_digest.specs.Buck.{buck, buck_next, value_by, first_of}
+use Rattle.action_digest.specs.Buck.{buck, buck_next, base_of, value_by, first_of}
 
 -- what a value of each kind holds
 abbrev pub as_source : Value → Option (Option (List ℕ))
@@ -32,37 +32,40 @@ abbrev pub as_digest : Value → Option (Result (List ℕ) Fault)
 as_digest (value.Digest r) = Some r
 as_digest x = None
 
-ends_same : (x y : Value) → Ends {Key} x ≡ Ends y → x ≡ y
-ends_same x y e = cc
+ends_same : (x y : Value) (s : Step Key Value) → s ≡ Ends x → s ≡ Ends y → x ≡ y
+ends_same x y s p q = let r : Ends x ≡ Ends y = sym p ∙ q in cc
+
+asks_no_end : (ks : List Key) (y : Value) (s : Step Key Value) → s ≡ Asks ks → s ≡ Ends y → ⊥
+asks_no_end ks y s p q = let r : Asks ks ≡ Ends y = sym p ∙ q in cc
 
 -- each value of a key of the kind holds what the kind's front reads
 pub source_front : (p : List ℕ) → ValuesAreOf buck (key.Source p) as_source
-source_front p = record { absent = refl; ends = λ A v x e. subst (λ y. IsSome (as_source y)) (ends_same _ x e) refl }
+source_front p = record { absent = refl; ends = λ A v x e. subst (λ y. IsSome (as_source y)) (ends_same (value.Source None) x (buck_next (key.Source p) A v) refl e) refl }
 
 package_ends : (p : List ℕ) (A : List (Answered Key Value)) (v : ℕ) (x : Value) → buck_next (key.Package p) A v ≡ Ends x → IsSome (as_package x)
-package_ends p [] v x e = cc
-package_ends p (a ∷ A) v x e = subst (λ y. IsSome (as_package y)) (ends_same _ x e) refl
+package_ends p [] v x e = absurd (asks_no_end (base_of (key.Package p) ∷ []) x (buck_next (key.Package p) [] v) refl e)
+package_ends p (a ∷ A) v x e = subst (λ y. IsSome (as_package y)) (ends_same (value_by (key.Package p) (first_of a.values)) x (buck_next (key.Package p) (a ∷ A) v) refl e) refl
 
 pub package_front : (p : List ℕ) → ValuesAreOf buck (key.Package p) as_package
 package_front p = record { absent = refl; ends = package_ends p }
 
 rule_ends : (p : List ℕ) (A : List (Answered Key Value)) (v : ℕ) (x : Value) → buck_next (key.Rule p) A v ≡ Ends x → IsSome (as_rule x)
-rule_ends p [] v x e = cc
-rule_ends p (a ∷ A) v x e = subst (λ y. IsSome (as_rule y)) (ends_same _ x e) refl
+rule_ends p [] v x e = absurd (asks_no_end (base_of (key.Rule p) ∷ []) x (buck_next (key.Rule p) [] v) refl e)
+rule_ends p (a ∷ A) v x e = subst (λ y. IsSome (as_rule y)) (ends_same (value_by (key.Rule p) (first_of a.values)) x (buck_next (key.Rule p) (a ∷ A) v) refl e) refl
 
 pub rule_front : (p : List ℕ) → ValuesAreOf buck (key.Rule p) as_rule
 rule_front p = record { absent = refl; ends = rule_ends p }
 
 action_ends : (p : List ℕ) (A : List (Answered Key Value)) (v : ℕ) (x : Value) → buck_next (key.Action p) A v ≡ Ends x → IsSome (as_action x)
-action_ends p [] v x e = cc
-action_ends p (a ∷ A) v x e = subst (λ y. IsSome (as_action y)) (ends_same _ x e) refl
+action_ends p [] v x e = absurd (asks_no_end (base_of (key.Action p) ∷ []) x (buck_next (key.Action p) [] v) refl e)
+action_ends p (a ∷ A) v x e = subst (λ y. IsSome (as_action y)) (ends_same (value_by (key.Action p) (first_of a.values)) x (buck_next (key.Action p) (a ∷ A) v) refl e) refl
 
 pub action_front : (p : List ℕ) → ValuesAreOf buck (key.Action p) as_action
 action_front p = record { absent = refl; ends = action_ends p }
 
 digest_ends : (p : List ℕ) (A : List (Answered Key Value)) (v : ℕ) (x : Value) → buck_next (key.Digest p) A v ≡ Ends x → IsSome (as_digest x)
-digest_ends p [] v x e = cc
-digest_ends p (a ∷ A) v x e = subst (λ y. IsSome (as_digest y)) (ends_same _ x e) refl
+digest_ends p [] v x e = absurd (asks_no_end (base_of (key.Digest p) ∷ []) x (buck_next (key.Digest p) [] v) refl e)
+digest_ends p (a ∷ A) v x e = subst (λ y. IsSome (as_digest y)) (ends_same (value_by (key.Digest p) (first_of a.values)) x (buck_next (key.Digest p) (a ∷ A) v) refl e) refl
 
 pub digest_front : (p : List ℕ) → ValuesAreOf buck (key.Digest p) as_digest
 digest_front p = record { absent = refl; ends = digest_ends p }

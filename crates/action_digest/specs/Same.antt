@@ -2,8 +2,12 @@
 use Rattle.std.specs.Prelude.{◌≡◌, ◌&&◌, ℕ, Bool, true, false, nat_eq, List, [], ◌∷◌, Option, Some, None, Result, Ok, Err, refl}
 use Rattle.std.proofs.Common.{sym, ap, ◌∙◌}
 use Rattle.std.specs.declared.cmp.Ordering.TheVariants.{Equal}
-use Rattle.std.specs.Cmp.Lexicographic.{pointwise}
-use Rattle.std.proofs.lemmas.Slice.Eq.{bytes_eq-Decides}
+use Rattle.std.specs.Option.{option_eq}
+use Rattle.std.specs.Result.{result_eq}
+use Rattle.std.specs.Cmp.{unsigned_Decides}
+use Rattle.std.specs.Cmp.Lexicographic.{pointwise, bytes_decides}
+use Rattle.target_file.specs.Targets.{Target, Located, same_target, same_file}
+use Rattle.target_file.specs.Laws.{same_targets, same_files}
 use Rattle.std.proofs.lemmas.Map.Lookups.{exact_bytes}
 use Rattle.dice_key.specs.Lawful.{SameKeys, AreSame}
 use Rattle.action_digest.specs.contracts.key.KeyPartialEq.TheImpl as key_eq
@@ -17,10 +21,17 @@ use Rattle.action_digest.specs.declared.value.Value.TheVariants as value
 use Rattle.action_digest.specs.declared.fault.Fault.{Fault}
 use Rattle.action_digest.specs.declared.fault.Fault.TheVariants.{NoPackage, BadFile, NoTarget}
 
-text_same : (x y : List ℕ) → pointwise nat_eq x y ≡ true → x ≡ y
-text_same x y h = (bytes_eq-Decides x y).0 h
+-- how keys and values are compared
+abbrev pub key_equal : Key → Key → Bool
+key_equal = key_eq.ghosts.eq
 
-pub keys_equal : AreSame key_eq.ghosts.eq
+abbrev pub value_equal : Value → Value → Bool
+value_equal = value_eq.ghosts.eq
+
+text_same : (x y : List ℕ) → pointwise nat_eq x y ≡ true → x ≡ y
+text_same x y h = (bytes_decides x y).0 h
+
+pub keys_equal : AreSame key_equal
 keys_equal (key.Source p) (key.Source q) h = ap key.Source (text_same p q h)
 keys_equal (key.Package p) (key.Package q) h = ap key.Package (text_same p q h)
 keys_equal (key.Rule p) (key.Rule q) h = ap key.Rule (text_same p q h)
@@ -35,3 +46,35 @@ keys_same (key.Rule p) (key.Rule q) h = ap key.Rule (exact_bytes p q h)
 keys_same (key.Action p) (key.Action q) h = ap key.Action (exact_bytes p q h)
 keys_same (key.Digest p) (key.Digest q) h = ap key.Digest (exact_bytes p q h)
 keys_same x y h = cc
+
+option_same : {X : Type 0} (e : X → X → Bool) → AreSame e → AreSame (option_eq e)
+option_same e same None None h = refl
+option_same e same None (Some y) h = cc
+option_same e same (Some x) None h = cc
+option_same e same (Some x) (Some y) h = ap Some (same x y h)
+
+result_same : {X E : Type 0} (e : X → X → Bool) (f : E → E → Bool) → AreSame e → AreSame f → AreSame (result_eq e f)
+result_same e f same fault (Ok x) (Ok y) h = ap Ok (same x y h)
+result_same e f same fault (Ok x) (Err y) h = cc
+result_same e f same fault (Err x) (Ok y) h = cc
+result_same e f same fault (Err x) (Err y) h = ap Err (fault x y h)
+
+both : (a b : Bool) → (a && b) ≡ true → (a ≡ true) × (b ≡ true)
+both true b h = (refl, h)
+both false b h = cc
+
+faults_equal : AreSame fault_eq.ghosts.eq
+faults_equal (NoPackage p) (NoPackage q) h = ap NoPackage (text_same p q h)
+faults_equal (BadFile p m) (BadFile q n) h =
+    let b = both (pointwise nat_eq p q) (nat_eq m n) h in
+    ap (λ x. BadFile x m) (text_same p q b.0) ∙ ap (BadFile q) ((unsigned_Decides m n).0 b.1)
+faults_equal (NoTarget l) (NoTarget k) h = ap NoTarget (text_same l k h)
+faults_equal x y h = cc
+
+pub values_equal : AreSame value_equal
+values_equal (value.Source a) (value.Source b) h = ap value.Source (option_same (pointwise nat_eq) text_same a b h)
+values_equal (value.Package a) (value.Package b) h = ap value.Package (result_same same_file fault_eq.ghosts.eq same_files faults_equal a b h)
+values_equal (value.Rule a) (value.Rule b) h = ap value.Rule (result_same same_target fault_eq.ghosts.eq same_targets faults_equal a b h)
+values_equal (value.Action a) (value.Action b) h = ap value.Action (result_same (pointwise nat_eq) fault_eq.ghosts.eq text_same faults_equal a b h)
+values_equal (value.Digest a) (value.Digest b) h = ap value.Digest (result_same (pointwise nat_eq) fault_eq.ghosts.eq text_same faults_equal a b h)
+values_equal x y h = cc

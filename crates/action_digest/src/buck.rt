@@ -1,5 +1,5 @@
 //! The universe.
-ghost use Rattle.std.specs.Prelude.{◌≡◌, [], ◌∷◌, List, IfOk, Option, Some, None};
+ghost use Rattle.std.specs.Prelude.{◌≡◌, [], ◌∷◌, ℕ, List, IfOk, Option, Some, None, map};
 ghost use Rattle.std.specs.Arc.{arc_value};
 ghost use Rattle.action_digest.specs.Buck.{absent_of, value_by, first_of, package_by, rule_by, action_by, digest_by, source_in, package_in, rule_in, action_in};
 ghost use Rattle.action_digest.specs.declared.key.Key.TheVariants as key;
@@ -27,11 +27,11 @@ pub struct Buck {
     no_rule: Arc<Value>,
     no_action: Arc<Value>,
     no_digest: Arc<Value>,
-    ghost no_source_is: { (p : List ℕ) → arc_value no_source ≡ absent_of (Source p) },
-    ghost no_package_is: { (p : List ℕ) → arc_value no_package ≡ absent_of (Package p) },
-    ghost no_rule_is: { (l : List ℕ) → arc_value no_rule ≡ absent_of (Rule l) },
-    ghost no_action_is: { (l : List ℕ) → arc_value no_action ≡ absent_of (Action l) },
-    ghost no_digest_is: { (l : List ℕ) → arc_value no_digest ≡ absent_of (Digest l) },
+    ghost no_source_is: { (p : List ℕ) → arc_value no_source ≡ absent_of (key.Source p) },
+    ghost no_package_is: { (p : List ℕ) → arc_value no_package ≡ absent_of (key.Package p) },
+    ghost no_rule_is: { (l : List ℕ) → arc_value no_rule ≡ absent_of (key.Rule l) },
+    ghost no_action_is: { (l : List ℕ) → arc_value no_action ≡ absent_of (key.Action l) },
+    ghost no_digest_is: { (l : List ℕ) → arc_value no_digest ≡ absent_of (key.Digest l) },
 }
 
 impl Buck {
@@ -56,28 +56,26 @@ impl Buck {
 /// The targets of a package, by what its target file holds.
 fn package_by(
     alloc: Global,
-    package: &Package,
+    home: &Package,
     source: Option<&Text>,
 ) -> Result<Result<File, Fault>, NoMemory>
-    ensures { IfOk result (λ r. r ≡ package_by package.now (option_copied source)) }
+    ensures { IfOk result (λ r. r ≡ package_by home.now (option_copied source.entry)) }
 {
     let Some(bytes) = source else {
-        return Ok(Err(Fault::NoPackage(package.try_clone()?)));
+        return Ok(Err(Fault::NoPackage(home.try_clone()?)));
     };
     match target_file::read(alloc, bytes.as_bytes()) {
         Ok(file) => Ok(Ok(file)),
-        Err(FileFault::Bad { line }) => {
-            Ok(Err(Fault::BadFile(package.target_file(alloc)?, line)))
-        }
+        Err(FileFault::Bad { line }) => { Ok(Err(Fault::BadFile(home.target_file(alloc)?, line))) }
         Err(FileFault::NoMemory) => Err(NoMemory),
     }
 }
 
 /// The target of a label, by the targets of its package.
-fn rule_by(label: &Label, package: &Result<File, Fault>) -> Result<Result<Rule, Fault>, NoMemory>
-    ensures { IfOk result (λ r. r ≡ rule_by label.now package.now) }
+fn rule_by(label: &Label, found: &Result<File, Fault>) -> Result<Result<Rule, Fault>, NoMemory>
+    ensures { IfOk result (λ r. r ≡ rule_by label.now found.now) }
 {
-    match package {
+    match found {
         Ok(file) => match file.target(label.name()) {
             Some(target) => Ok(Ok(Rule::of(Arc::try_clone(target)?))),
             None => Ok(Err(Fault::NoTarget(label.try_clone()?))),
@@ -108,7 +106,7 @@ fn digest_by(text: &Result<Text, Fault>) -> Result<Result<[u8; 32], Fault>, NoMe
 
 /// The value of a key, by the answer for its base.
 fn value_by(alloc: Global, key: &Key, answer: Option<&Value>) -> Result<Value, NoMemory>
-    ensures { IfOk result (λ x. x ≡ value_by key.now (option_copied answer)) }
+    ensures { IfOk result (λ x. x ≡ value_by key.now (option_copied answer.entry)) }
 {
     match key {
         Key::Source(_) => Ok(Value::Source(None)),
@@ -203,10 +201,7 @@ impl Universe for Buck {
     }
 
     fn project(&self, key: &Key, base: &Value) -> Result<Arc<Value>, NoMemory> {
-        Ok(Arc::new(
-            self.alloc,
-            value_by(self.alloc, key, Some(base))?,
-        )?)
+        Ok(Arc::new(self.alloc, value_by(self.alloc, key, Some(base))?)?)
     }
 
     fn is_transient(&self, _value: &Value) -> bool {

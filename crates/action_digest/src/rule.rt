@@ -3,7 +3,7 @@ ghost use Rattle.std.specs.Prelude.{◌≡◌, IfOk};
 ghost use Rattle.std.specs.Arc.{arc_value};
 ghost use Rattle.std.specs.Cmp.{partial_equiv_from_equiv};
 ghost use Rattle.target_file.specs.Targets.{same_target};
-ghost use Rattle.target_file.specs.Laws.{same_target_equiv};
+ghost use Rattle.target_file.specs.Laws.{target_equiv};
 
 use std::marker::Model;
 use std::sync::Arc;
@@ -43,7 +43,7 @@ impl Rule {
 impl PartialEq for Rule {
     ghost eq = { same_target };
 
-    ghost laws = { partial_equiv_from_equiv same_target_equiv };
+    ghost laws = { partial_equiv_from_equiv target_equiv };
 
     fn eq(&self, other: &Rule) -> bool {
         *self.target == *other.target
@@ -51,5 +51,5 @@ impl PartialEq for Rule {
 }
 
 impl Eq for Rule {
-    ghost laws = { same_target_equiv };
+    ghost laws = { target_equiv };
 }

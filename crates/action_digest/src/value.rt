@@ -1,8 +1,8 @@
 //! The values.
 
-use buck_label::Text;
 use crate::fault::Fault;
 use crate::rule::Rule;
+use buck_label::Text;
 use target_file::File;
 
 /// The value of a key, of the key's kind.
