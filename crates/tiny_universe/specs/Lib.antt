@@ -1,0 +1,3 @@
+pub mod Tiny
+pub mod Laws
+pub mod Same
