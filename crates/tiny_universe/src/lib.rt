@@ -8,3 +8,6 @@ mod tiny;
 pub use fronts::{CellKey, FollowKey, ParityKey};
 pub use place::{Place, Value};
 pub use tiny::{Run, Tiny};
+
+#[cfg(test)]
+mod tests;
