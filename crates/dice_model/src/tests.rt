@@ -3,7 +3,10 @@ ghost use Rattle.std.specs.Prelude.{◌≢◌, IfOk};
 ghost use Rattle.dice_model.specs.Log.{IsCommit, pairs_of};
 ghost use Rattle.tiny_universe.specs.Tiny.{tiny};
 
-use crate::{Commits, plain, same_answers_give_the_value, traces_are_settled, values_are_settled};
+use crate::{
+    Commits, inputs_are_settled, plain, same_answers_give_the_value, traces_are_settled,
+    values_are_settled,
+};
 use dice_key::NoMemory;
 use std::alloc::Global;
 use std::sync::Arc;
@@ -116,6 +119,7 @@ fn the_log_is_what_was_committed(rt: HostRuntime) -> Result<(), Fail> {
         let found = commits.input(&universe, version, &Place::Cell(2))?;
         assert_eq!(rt; *found, Value::Number(want), "at {version}");
     }
+    inputs_are_settled::<Tiny>();
     values_are_settled::<Tiny>();
     traces_are_settled::<Tiny>();
     same_answers_give_the_value::<Tiny>();
