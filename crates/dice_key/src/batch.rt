@@ -145,6 +145,8 @@ impl<V> Answers<V> {
 /// What a run does next: it asks a batch, or is done with a value.
 #[derive(Drop)]
 pub enum Move<K, V> {
+    /// It asks these keys, and goes on when each of them is answered.
     Ask(Batch<K>),
+    /// It is done: this is the value of its key.
     Done(Arc<V>),
 }

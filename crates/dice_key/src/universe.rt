@@ -20,11 +20,14 @@ pub type KeyRef<U> = Arc<<U as Universe>::Key>;
 /// A value, shared.
 pub type ValueRef<U> = Arc<<U as Universe>::Value>;
 
-/// How a key comes to its value: it is set from outside, computed from other keys, or computed from one base alone.
+/// How a key comes to its value.
 #[derive(Clone, Copy, Debug, PartialEq, Eq)]
 pub enum Kind {
+    /// It is set from outside, by commits.
     Injected,
+    /// It is computed by a run, which may ask any keys.
     Computed,
+    /// It is computed by a run that asks one key, its base, and takes a part of that key's value.
     Projection,
 }
 
@@ -49,10 +52,13 @@ impl<T: Drop> From<AllocFailed<T>> for NoMemory {
 /// A key's value is found by a run, which asks for other keys in batches until it is done. The next move is a function of the
 /// key, the answers so far and the version; only a transient result may depend on the version.
 pub trait Universe: Send + Sync + Drop {
+    /// What is asked for.
     type Key: Ord + Eq + Hash + Send + Sync + Drop;
 
+    /// What a key comes to.
     type Value: Eq + Send + Sync + Drop;
 
+    /// A key on its way to its value.
     type Run: Send + Drop;
 
     /// What the calls mean, the same for every value of the type.
@@ -89,11 +95,11 @@ pub trait Universe: Send + Sync + Drop {
         ensures run { OnOk result (running run.new ≡ resumed meaning (running run.old) answers.now) }
         ensures step { IfOk result (λ p. IsStep p (next_of meaning (running run.new))) };
 
-    /// The base of a projection key.
+    /// The base of a projection key. Of another key nothing is said.
     fn base(&self, key: &Self::Key) -> Result<Arc<Self::Key>, NoMemory>
         ensures { IfOk result (λ b. meaning.kind key.now ≡ Projection → arc_value b ≡ meaning.base key.now) };
 
-    /// The value of a projection key from the value of its base.
+    /// The value of a projection key from the value of its base. Of another key nothing is said.
     fn project(&self, key: &Self::Key, base: &Self::Value) -> Result<Arc<Self::Value>, NoMemory>
         ensures { IfOk result (λ x. meaning.kind key.now ≡ Projection → arc_value x ≡ meaning.project key.now base.now) };
 
@@ -109,6 +115,7 @@ pub trait Universe: Send + Sync + Drop {
     fn print(&self, key: &Self::Key, short: bool) -> Result<Line, NoMemory>
         ensures { IfOk result (λ t. t ≡ meaning.text key.now short) };
 
+    /// Moves end, depend on the version in a transient end alone, and are those of a projection where the key is one.
     ghost lawful: { IsLawful meaning };
 
     /// Keys that compare equal are the same.

@@ -10,6 +10,7 @@ use std::alloc::Global;
 use std::marker::Model;
 use std::sync::Arc;
 
+/// The commits so far, oldest first. Each sets one or more injected keys, and none twice. The first `v` of them are version `v`.
 #[derive(Drop)]
 pub struct Commits<U: Universe> {
     commits: Vec<Vec<(Arc<U::Key>, Arc<U::Value>)>>,
@@ -36,7 +37,7 @@ impl<U: Universe> Commits<U> {
         }
     }
 
-    /// Adds a commit.
+    /// Adds a commit. At an error the log is as before.
     pub fn push(&mut self, changes: Vec<(Arc<U::Key>, Arc<U::Value>)>) -> Result<(), NoMemory>
         requires { IsCommit U.meaning (pairs_of changes.items) }
         ensures ok { OnOk result (self.new ≡ self.old ++ pairs_of changes.items ∷ []) }
@@ -53,7 +54,8 @@ impl<U: Universe> Commits<U> {
         self.commits.len()
     }
 
-    /// The input at a version: the value in the last of its commits that has one, else the absent one.
+    /// The input at a version: the value in the last of its commits that has one, else the absent one. It looks through all
+    /// commits up to the version.
     #[tactic(auto, using(crate::proofs::Firsts::mapped_first))]
     pub fn input(&self, universe: &U, version: u64, key: &U::Key) -> Result<Arc<U::Value>, NoMemory>
         ensures { IfOk result (λ x. arc_value x ≡ input U.Key.eq U.meaning self.now version key.now) }

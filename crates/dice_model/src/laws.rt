@@ -3,10 +3,22 @@ ghost use Rattle.std.specs.Prelude.{◌≡◌, ◌≢◌, ◌⊎◌, ◌≤◌, 
 ghost use Rattle.dice_key.specs.Meaning.{Answered};
 ghost use Rattle.dice_key.specs.declared.universe.Kind.TheVariants.{Injected};
 ghost use Rattle.dice_model.specs.Eval.{eval, HasValue};
-ghost use Rattle.dice_model.specs.Log.{Has};
+ghost use Rattle.dice_model.specs.Log.{Has, IsLog, input, version_of};
+ghost use Rattle.dice_model.specs.Newest.{IsNewest, IsUnset};
 ghost use Rattle.dice_model.specs.Asks.{AllTrue, IsTrace, ReachesCycle, IsClosed};
 
 use dice_key::{Universe, laws_of};
+
+/// The input of a key at a version is its value in the last commit by then that has one; where none has one, it is the absent
+/// value; one of the two is the case. The value of an injected key is its input.
+pub fn inputs_are_settled<U: Universe>()
+    ensures newest { (C : List (List (U.Key × U.Value))) (v : ℕ) (k : U.Key) (x : U.Value) → IsLog U.meaning C → IsNewest k x (version_of C v) → input U.Key.eq U.meaning C v k ≡ x }
+    ensures unset { (C : List (List (U.Key × U.Value))) (v : ℕ) (k : U.Key) → IsUnset k (version_of C v) → input U.Key.eq U.meaning C v k ≡ U.meaning.absent k }
+    ensures either { (C : List (List (U.Key × U.Value))) (k : U.Key) → ((x : U.Value) × IsNewest k x C) ⊎ IsUnset k C }
+    ensures value { (C : List (List (U.Key × U.Value))) (v : ℕ) (k : U.Key) → U.meaning.kind k ≡ Injected → HasValue U.Key.eq U.meaning C v k (input U.Key.eq U.meaning C v k) }
+{
+    laws_of::<U>();
+}
 
 /// A key has at most one value; more depth keeps it; it is the same over each log that goes on from this one, for versions up
 /// to its length; a key that reaches a cycle has none; and where finitely many keys are reached, a key has a value or reaches a
