@@ -1,13 +1,12 @@
 -- What the parts of the reader answer, over plain values.
-use Rattle.std.proofs.Common.{◌≡◌, ◌≤◌, ◌∙◌, ◌+◌, sym, ap, subst, refl, inl, inr, ℕ, true, false, List, take, drop, length, Ok, Err, Some, None}
-use Rattle.buck_label.specs.Labels.{Name, IsLabel, printed}
+use Rattle.std.proofs.Common.{◌≡◌, ◌∙◌, ◌+◌, sym, ap, subst, inr, ℕ, false, List, take, drop, Ok, Err, Some}
 use Rattle.script.specs.declared.fault.Stop.{Stop}
 use Rattle.script.specs.declared.fault.Stop.TheVariants as stop
 use Rattle.script.specs.declared.line.Line.{Line}
 use Rattle.script.specs.declared.line.Request.{Request}
 use Rattle.script.specs.declared.line.Line.TheVariants.{Put, Commit, Open, Ask, Action}
-use Rattle.script.specs.Lines.{IsDecimal, IsName, words, line_of, behind_line}
-use Rattle.script.specs.Faults.{Past, after, adding, no_texts, Form, puts, commits, opens, asks, acts, asking, form_of, AllHold, tests}
+use Rattle.script.specs.Lines.{IsName, words, line_of, behind_line}
+use Rattle.script.specs.Faults.{Past, adding, no_texts, Form, puts, commits, opens, asks, acts, form_of}
 use Rattle.script.specs.Scripts.{IsSkipped, Makes, put_line, commit_line, open_line, ask_line, action_line}
 use Rattle.script.specs.Taking.{IsPutRead, IsRequestRead, IsTaken, IsLineTaken}
 
@@ -20,12 +19,13 @@ open_taken p q t name behind e h f g =
 
 pub put_taken : (p q : Past) (path number behind name bytes : List ℕ) (n m : ℕ) → IsPutRead p path number behind (Ok (name, n)) →
     bytes ≡ take n behind → drop m behind ≡ drop (n + 1) behind → q ≡ record p { touched = adding name p.touched } → IsTaken p (puts path number) behind (Ok (Put name bytes, m)) q
-put_taken p q path number behind name bytes n m h e d g =
-    (h.0,
-      subst (λ (r : List ℕ). Makes (puts path number) behind (Put name bytes) r) (sym d)
+put_taken p q path number behind name bytes n m h e d g = (
+  h.0,
+  subst (λ (r : List ℕ). Makes (puts path number) behind (Put name bytes) r) (sym d)
       (subst (λ (b : List ℕ). Makes (puts path number) behind (Put name b) (drop (n + 1) behind)) (sym e)
       (subst (λ (a : List ℕ). Makes (puts path number) behind (Put a (take n behind)) (drop (n + 1) behind)) (sym h.1) (put_line path number behind n h.2))),
-      g)
+  g,
+)
 
 pub ask_taken : (p q : Past) (t name label behind : List ℕ) (r : Request) → IsRequestRead p t name label (Ok r) → q ≡ record p { asked = adding r.name p.asked } → IsTaken p (asks t name label) behind (Ok (Ask r, 0)) q
 ask_taken p q t name label behind r h g =

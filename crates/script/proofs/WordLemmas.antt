@@ -1,5 +1,5 @@
 -- The words of a line, and its end.
-use Rattle.std.proofs.Common.{◌≡◌, ◌⊎◌, ◌∙◌, ◌<◌, ◌+◌, ◌-◌, subst, sym, ap, refl, inl, inr, ℕ, Bool, true, false, List, [], ◌∷◌, take, drop, length, suc, add-one, arith, nat_eq}
+use Rattle.std.proofs.Common.{◌≡◌, ◌⊎◌, ◌∙◌, ◌<◌, ◌+◌, ◌-◌, subst, sym, ap, refl, inl, inr, ℕ, Bool, true, false, List, [], ◌∷◌, take, drop, length, suc, arith, nat_eq}
 use Rattle.std.proofs.Math.Seq.{take-length}
 use Rattle.std.proofs.lemmas.List.{length-drop}
 use Rattle.std.proofs.Common.{None}

@@ -1,4 +1,4 @@
-use Rattle.std.proofs.Common.{◌≡◌, ◌∙◌, ◌+◌, ◌-◌, ap, sym, subst, take, drop, length, List, ℕ, rules, Some, Ok, Err}
+use Rattle.std.proofs.Common.{◌≡◌, sym, subst, take, drop, List, ℕ, rules, Some, Ok, Err}
 use Rattle.std.proofs.lemmas.List.{drop-drop}
 use Rattle.script.specs.Lines.{line_of, behind_line, words}
 use Rattle.script.specs.Scripts.{IsSkipped}
