@@ -1,5 +1,5 @@
 -- The words of a line, and its end.
-use Rattle.std.proofs.Common.{◌≡◌, ◌⊎◌, ◌∙◌, ◌<◌, ◌+◌, ◌-◌, subst, sym, ap, refl, inl, inr, ℕ, Bool, true, false, List, [], ◌∷◌, take, drop, length, suc, add-one, arith, nat_eq}
+use Rattle.std.proofs.Common.{◌≡◌, ◌⊎◌, ◌∙◌, ◌<◌, ◌+◌, ◌-◌, subst, sym, ap, refl, inl, inr, ℕ, Bool, true, false, List, [], ◌∷◌, take, drop, length, suc, arith, nat_eq}
 use Rattle.std.proofs.Math.Seq.{take-length}
 use Rattle.std.proofs.lemmas.List.{length-drop}
 use Rattle.std.proofs.Common.{None}
@@ -29,7 +29,7 @@ only_word (b ∷ bs) h = elim (bool_cases (nat_eq b 32)) [
   | inr f ↦ let g : before 32 bs + 1 ≡ length (b ∷ bs) = rw f at h in rw f (ap (front_word b) (only_word bs (omega arith)))
 ]
 
-rest_of : (xs : List ℕ) (k : ℕ) → take (length xs - k) (drop k xs) ≡ drop k xs
+pub rest_of : (xs : List ℕ) (k : ℕ) → take (length xs - k) (drop k xs) ≡ drop k xs
 rest_of xs k = ap (λ (n : ℕ). take n (drop k xs)) (sym (length-drop k xs)) ∙ take-length (drop k xs)
 
 pub split_found : (bs : List ℕ) (at : ℕ) → at ≡ before 32 bs → at < length bs → words bs ≡ take at bs ∷ words (take (length bs - (at + 1)) (drop (at + 1) bs))

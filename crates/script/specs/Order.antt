@@ -1,5 +1,5 @@
 -- What a script's lines keep among one another.
-use Rattle.std.specs.Prelude.{◌≡◌, ℕ, true, false, List, [], ◌∷◌}
+use Rattle.std.specs.Prelude.{◌≡◌, true, false, List, [], ◌∷◌}
 use Rattle.buck_label.specs.Paths.{IsPath}
 use Rattle.script.specs.Lines.{IsName}
 use Rattle.script.specs.Faults.{Past, after}

@@ -9,9 +9,9 @@ use Rattle.script.specs.declared.line.Line.{Line}
 use Rattle.script.specs.declared.line.Line.TheVariants.{Put, Commit, Open, Ask, Action}
 
 -- an empty line, and one that begins with #
-pub data IsSkipped : List ℕ → Type 0 where
-  empty : IsSkipped []
-  comment : (bs : List ℕ) → IsSkipped (35 ∷ bs)
+abbrev pub IsSkipped : List ℕ → Type 0
+IsSkipped [] = Unit {0}
+IsSkipped (b ∷ bs) = b ≡ 35
 
 -- a line of this form, with the bytes behind it: what it does, and what is left
 pub data Makes : Form → List ℕ → Line → List ℕ → Type 0 where

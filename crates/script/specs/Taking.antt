@@ -1,16 +1,19 @@
 -- What the parts of the reader answer.
-use Rattle.std.specs.Prelude.{◌≡◌, ◌⊎◌, ◌≤◌, ◌+◌, ℕ, List, Option, Some, None, length, drop, Result, Ok, Err}
+use Rattle.std.specs.Prelude.{◌≡◌, ◌⊎◌, ◌≤◌, ℕ, List, Option, Some, None, length, drop, Result, Ok, Err}
 use Rattle.script.specs.declared.fault.Word.{Word}
 use Rattle.script.specs.declared.fault.Word.TheVariants as fault
 use Rattle.script.specs.declared.fault.Stop.{Stop}
 use Rattle.script.specs.declared.fault.Stop.TheVariants as stop
+use Rattle.script.specs.declared.script.Broken.{Broken}
+use Rattle.script.specs.declared.script.Broken.TheVariants as broken
+use Rattle.std.specs.declared.vec.Vec.{Vec}
 use Rattle.script.specs.declared.line.Line.{Line}
 use Rattle.script.specs.declared.line.Request.{Request}
 use Rattle.script.specs.declared.past.Known.{Known}
 use Rattle.script.specs.Names.{has}
 use Rattle.script.specs.Lines.{IsDecimal, IsName, words, line_of, behind_line}
-use Rattle.script.specs.Faults.{Past, after, Form, puts, asking, form_of, AllHold, FirstToFail, tests}
-use Rattle.script.specs.Scripts.{IsSkipped, Makes}
+use Rattle.script.specs.Faults.{Past, nothing, after, Form, puts, asking, form_of, AllHold, FirstToFail, tests}
+use Rattle.script.specs.Scripts.{IsSkipped, Makes, IsFrom, FaultAt}
 use Rattle.buck_label.specs.Paths.{IsPath}
 use Rattle.buck_label.specs.Labels.{Name, IsLabel, printed}
 
@@ -64,3 +67,17 @@ abbrev pub IsLineTaken : Past → List ℕ → Result (Option Line × ℕ) Stop 
 IsLineTaken p text (Ok r) q = HasDone p text r.0 (drop r.1 text) q
 IsLineTaken p text (Err (stop.Fault w)) q = HasFault p text w
 IsLineTaken p text (Err stop.NoMemory) q = Unit {0}
+
+abbrev pub broken_at : ℕ → Stop → Broken
+broken_at at (stop.Fault w) = broken.At at w
+broken_at at stop.NoMemory = broken.NoMemory
+
+-- The line that begins at this byte has this fault.
+abbrev pub IsBroken : List ℕ → Broken → Type 0
+IsBroken text (broken.At at w) = (at ≤ length text) × FaultAt nothing text (drop at text) w
+IsBroken text broken.NoMemory = Unit {0}
+
+-- All lines were taken, or why not.
+abbrev pub AreLines : {A : Type 0} → List ℕ → Result (Vec Line A) Broken → Type 0
+AreLines text (Ok v) = IsFrom nothing text v.items
+AreLines text (Err b) = IsBroken text b

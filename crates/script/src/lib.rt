@@ -13,7 +13,5 @@ mod script;
 pub use fault::{ScriptRefusal, Word};
 pub use line::{Line, Request};
 pub use name::Name;
-
-
-
-
+pub use number::MOST_BYTES;
+pub use script::{Script, read, readings_are_one};

@@ -1,5 +1,5 @@
 //! What the lines so far did, and the tests of the next one.
-ghost use Rattle.std.specs.Prelude.{◌≡◌, ◌↔◌, ◌≤◌, ◌<◌, ◌++◌, ◌∷◌, [], ℕ, true, length, drop, take, IfOk, OnOk};
+ghost use Rattle.std.specs.Prelude.{◌≡◌, ◌↔◌, ◌≤◌, ◌<◌, ◌++◌, ◌∷◌, [], ℕ, true, length, drop, take, ◌+◌, IfOk, OnOk};
 ghost use Rattle.script.specs.Lines.{IsDecimal, line_of, behind_line};
 ghost use Rattle.script.specs.Faults.{nothing, after, tests, puts, commits, opens, asks, acts, IsEnough, IsFollowed};
 ghost use Rattle.script.specs.Scripts.{IsSkipped};
@@ -21,6 +21,16 @@ pub(crate) struct Known {
     touched: Names,
     opened: Names,
     asked: Names,
+}
+
+/// Behind this place and the byte that stands there, if one does.
+fn past_byte(text: &[u8], at: usize) -> usize
+    requires { at ≤ length text.now }
+    ensures left { drop result text.now ≡ drop (at + 1) text.now }
+    ensures fits { result ≤ length text.now }
+    ensures more { (at ≤ result) × (0 < length text.now → 0 < result) }
+{
+    if at < text.len() { at + 1 } else { at }
 }
 
 /// Whether so many bytes are left, and then an LF or the end.
@@ -96,7 +106,8 @@ impl Known {
         number: &[u8],
         behind: &[u8],
     ) -> Result<(Path, usize), Stop>
-        ensures { IsPutRead (past_of self.now) path.now number.now behind.now result }
+        ensures tested { IsPutRead (past_of self.now) path.now number.now behind.now result }
+        ensures fits { IfOk result (λ r. r.1 ≤ length behind.now) }
     {
         let path = read_path(alloc, path)?;
         if self.touched.has(path.as_text()) {
@@ -122,7 +133,7 @@ impl Known {
         let (path, count) = self.put_operands(alloc, path, number, behind)?;
         let bytes = Text::from_slice(alloc, &behind[..count])?;
         self.touched.add(path.as_text())?;
-        let taken = behind.len().min(count + 1);
+        let taken = past_byte(behind, count);
         Ok((Line::Put(path, bytes), taken))
     }
 
@@ -146,10 +157,12 @@ impl Known {
         })
     }
 
-    fn commit(&mut self, alloc: Global)
-        ensures { past_of self.new ≡ after (past_of self.old) Line.Commit }
+    fn commit(&mut self, alloc: Global, behind: &[u8]) -> Result<(Line, usize), Stop>
+        ensures taken { IsTaken (past_of self.old) commits behind.now result (past_of self.new) }
+        ensures fits { IfOk result (λ r. r.1 ≤ length behind.now) }
     {
         self.touched = Names::new(alloc);
+        Ok((Line::Commit, 0))
     }
 
     fn open(&mut self, alloc: Global, t: &[u8], behind: &[u8]) -> Result<(Line, usize), Stop>
@@ -164,6 +177,38 @@ impl Known {
         Ok((Line::Open(name), 0))
     }
 
+    fn ask(
+        &mut self,
+        alloc: Global,
+        t: &[u8],
+        name: &[u8],
+        label: &[u8],
+        behind: &[u8],
+    ) -> Result<(Line, usize), Stop>
+        ensures taken { IsTaken (past_of self.old) (asks t.now name.now label.now) behind.now result (past_of self.new) }
+        ensures fits { IfOk result (λ r. r.1 ≤ length behind.now) }
+    {
+        let request = self.request(alloc, t, name, label)?;
+        self.asked.add(request.name.as_text())?;
+        Ok((Line::Ask(request), 0))
+    }
+
+    fn action(
+        &mut self,
+        alloc: Global,
+        t: &[u8],
+        name: &[u8],
+        label: &[u8],
+        behind: &[u8],
+    ) -> Result<(Line, usize), Stop>
+        ensures taken { IsTaken (past_of self.old) (acts t.now name.now label.now) behind.now result (past_of self.new) }
+        ensures fits { IfOk result (λ r. r.1 ≤ length behind.now) }
+    {
+        let request = self.request(alloc, t, name, label)?;
+        self.asked.add(request.name.as_text())?;
+        Ok((Line::Action(request), 0))
+    }
+
     /// Takes a line of this form, and so many of the bytes behind it.
     fn form(&mut self, alloc: Global, form: Form, behind: &[u8]) -> Result<(Line, usize), Stop>
         ensures taken { IsTaken (past_of self.old) (form_seen form.entry) behind.now result (past_of self.new) }
@@ -172,20 +217,9 @@ impl Known {
         match form {
             Form::Put(path, number) => self.put(alloc, path, number, behind),
             Form::Open(t) => self.open(alloc, t, behind),
-            Form::Commit => {
-                self.commit(alloc);
-                Ok((Line::Commit, 0))
-            }
-            Form::Ask(t, name, label) => {
-                let request = self.request(alloc, t, name, label)?;
-                self.asked.add(request.name.as_text())?;
-                Ok((Line::Ask(request), 0))
-            }
-            Form::Action(t, name, label) => {
-                let request = self.request(alloc, t, name, label)?;
-                self.asked.add(request.name.as_text())?;
-                Ok((Line::Action(request), 0))
-            }
+            Form::Commit => self.commit(alloc, behind),
+            Form::Ask(t, name, label) => self.ask(alloc, t, name, label, behind),
+            Form::Action(t, name, label) => self.action(alloc, t, name, label, behind),
         }
     }
 
@@ -198,16 +232,16 @@ impl Known {
     {
         let end = before(b'\n', text);
         let line = &text[..end];
-        let behind = text.len().min(end + 1);
+        let behind = past_byte(text, end);
         if is_skipped(line) {
             return Ok((None, behind));
         }
         match form_of(line) {
             None => Err(Stop::Fault(Word::Word)),
-            Some(form) => {
-                let (made, taken) = self.form(alloc, form, &text[behind..])?;
-                Ok((Some(made), behind + taken))
-            }
+            Some(form) => match self.form(alloc, form, &text[behind..]) {
+                Ok((made, taken)) => Ok((Some(made), behind + taken)),
+                Err(stop) => Err(stop),
+            },
         }
     }
 }
