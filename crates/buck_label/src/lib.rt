@@ -11,6 +11,7 @@ pub use label::{Label, is_label_text, labels_are_short, printed_is_read};
 pub use laws::equal_is_same;
 pub use package::Package;
 pub use path::{Path, Refused, is_path};
+pub use text::Text;
 
 #[cfg(test)]
 mod tests;

@@ -56,7 +56,7 @@ impl Package {
         requires { IsPackage bytes.now }
         ensures { IfOk result (λ p. p ≡ bytes.now) }
     {
-        let text = Text::new(alloc, Vec::from_slice(alloc, bytes)?)?;
+        let text = Text::from_slice(alloc, bytes)?;
         Ok(Package { text })
     }
 
@@ -99,6 +99,13 @@ impl Package {
         let mut bytes = Vec::from_slice(alloc, b"//")?;
         bytes.extend_from_slice(self.as_bytes())?;
         Ok(bytes)
+    }
+
+    /// The text that it is kept as.
+    pub fn as_text(&self) -> &Text
+        ensures { result.now ≡ self.now }
+    {
+        &self.text
     }
 
     /// The same package again; no byte is copied.

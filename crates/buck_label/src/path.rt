@@ -113,7 +113,9 @@ impl Path {
         if !is_path(bytes) {
             return Err(Refused::Bad);
         }
-        Ok(Path::of(alloc, Vec::from_slice(alloc, bytes)?)?)
+        Ok(Path {
+            text: Text::from_slice(alloc, bytes)?,
+        })
     }
 
     /// The path of these bytes.
@@ -131,6 +133,13 @@ impl Path {
         ensures path { IsPathText self.now }
     {
         self.text.as_bytes()
+    }
+
+    /// The text that it is kept as.
+    pub fn as_text(&self) -> &Text
+        ensures { result.now ≡ self.now }
+    {
+        &self.text
     }
 
     /// The same path again; no byte is copied.

@@ -12,9 +12,12 @@ use std::hash::{FoldHasher, Hash, Hasher};
 use std::marker::Model;
 use std::sync::Arc;
 
-/// Bytes that are kept once: another owner of them copies none.
+/// Bytes that are kept once, with their hash beside them. A contract sees them as a list.
+///
+/// A clone copies no byte, equality of unlike texts mostly looks at the hashes alone, and hashing
+/// takes constant time. The order is that of the bytes.
 #[derive(Drop)]
-pub(crate) struct Text {
+pub struct Text {
     shared: Arc<Hashed>,
 }
 
@@ -45,7 +48,8 @@ fn hash_of(bytes: &[u8]) -> u64
 }
 
 impl Text {
-    pub(crate) fn new(alloc: Global, bytes: Vec<u8>) -> Result<Text, AllocError>
+    /// The text of these bytes; they are moved, not copied, and hashed once.
+    pub fn new(alloc: Global, bytes: Vec<u8>) -> Result<Text, AllocError>
         ensures { IfOk result (λ t. t ≡ bytes.items) }
     {
         let hash = hash_of(&bytes);
@@ -53,13 +57,22 @@ impl Text {
         Ok(Text { shared })
     }
 
-    pub(crate) fn as_bytes(&self) -> &[u8]
+    /// The text of a copy of these bytes.
+    pub fn from_slice(alloc: Global, bytes: &[u8]) -> Result<Text, AllocError>
+        ensures { IfOk result (λ t. t ≡ bytes.now) }
+    {
+        Text::new(alloc, Vec::from_slice(alloc, bytes)?)
+    }
+
+    /// Its bytes.
+    pub fn as_bytes(&self) -> &[u8]
         ensures { result.now ≡ self.now }
     {
         self.shared.bytes.as_slice()
     }
 
-    pub(crate) fn try_clone(&self) -> Result<Text, AllocError>
+    /// The same text again; no byte is copied.
+    pub fn try_clone(&self) -> Result<Text, AllocError>
         ensures { IfOk result (λ t. t ≡ self.now) }
     {
         let shared = Arc::try_clone(&self.shared)?;

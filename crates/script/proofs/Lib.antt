@@ -1,0 +1,5 @@
+pub mod WordLemmas
+pub mod NumberLemmas
+pub mod Taken
+pub mod Reached
+pub mod Laws

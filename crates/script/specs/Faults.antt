@@ -1,0 +1,108 @@
+-- The tests of each line, in their order, over what the lines before it did.
+use Rattle.std.specs.Prelude.{◌≡◌, ◌⊎◌, ◌≤◌, ℕ, Bool, true, false, if◌then◌else◌, List, [], ◌∷◌, codes, length, drop, Option, Some, None}
+use Rattle.std.specs.Str.{bytes_eq}
+use Rattle.buck_label.specs.Paths.{IsPath}
+use Rattle.buck_label.specs.Labels.{Name, IsLabel}
+use Rattle.script.specs.Lines.{IsDecimal, IsName}
+use Rattle.script.specs.declared.fault.Word.{Word}
+use Rattle.script.specs.declared.fault.Word.TheVariants as fault
+use Rattle.script.specs.declared.line.Line.{Line}
+use Rattle.script.specs.declared.line.Line.TheVariants.{Put, Commit, Open, Ask, Action}
+
+-- a set of texts, as the test for them
+abbrev pub Texts : Type 0
+Texts = List ℕ → Bool
+
+abbrev pub no_texts : Texts
+no_texts = λ q. false
+
+abbrev pub adding : List ℕ → Texts → Texts
+adding text set = λ q. if bytes_eq text q then true else set q
+
+-- the paths put since the last commit, the transactions opened, and the requests made
+pub record Past : Type 0 where
+  pub touched : Texts
+  pub opened : Texts
+  pub asked : Texts
+
+abbrev pub nothing : Past
+nothing = record { touched = no_texts; opened = no_texts; asked = no_texts }
+
+abbrev pub after : Past → Line → Past
+after p (Put path bytes) = record p { touched = adding path p.touched }
+after p Commit = record p { touched = no_texts }
+after p (Open t) = record p { opened = adding t p.opened }
+after p (Ask r) = record p { asked = adding r.name p.asked }
+after p (Action r) = record p { asked = adding r.name p.asked }
+
+-- Tests, each with the word for where it fails.
+pub data Tests : Type 1 where
+  done : Tests
+  test : Type 0 → Word → Tests → Tests
+
+abbrev pub AllHold : Tests → Type 0
+AllHold done = Unit {0}
+AllHold (test holds w ts) = holds × AllHold ts
+
+-- the first that fails, with those before it holding
+abbrev pub FirstToFail : Tests → Word → Type 0
+FirstToFail done w = ⊥
+FirstToFail (test holds v ts) w = ((holds → ⊥) × (w ≡ v)) ⊎ (holds × FirstToFail ts w)
+
+-- A line's operands as written, where its first word is in the table and their number is right.
+pub data Form : Type 0 where
+  puts : List ℕ → List ℕ → Form
+  commits : Form
+  opens : List ℕ → Form
+  asks : List ℕ → List ℕ → List ℕ → Form
+  acts : List ℕ → List ℕ → List ℕ → Form
+
+abbrev pub one_word : List ℕ → Option Form
+one_word w = if bytes_eq w (codes "commit") then Some commits else None
+
+abbrev pub two_words : List ℕ → List ℕ → Option Form
+two_words w a = if bytes_eq w (codes "open") then Some (opens a) else None
+
+abbrev pub three_words : List ℕ → List ℕ → List ℕ → Option Form
+three_words w a b = if bytes_eq w (codes "put") then Some (puts a b) else None
+
+abbrev pub four_words : List ℕ → List ℕ → List ℕ → List ℕ → Option Form
+four_words w a b c =
+    if bytes_eq w (codes "ask") then Some (asks a b c) else
+    if bytes_eq w (codes "action") then Some (acts a b c) else None
+
+-- the table of first words and of how many words a line has
+abbrev pub form_of : List (List ℕ) → Option Form
+form_of (w ∷ []) = one_word w
+form_of (w ∷ a ∷ []) = two_words w a
+form_of (w ∷ a ∷ b ∷ []) = three_words w a b
+form_of (w ∷ a ∷ b ∷ c ∷ []) = four_words w a b c
+form_of ws = None
+
+abbrev pub IsSmallNumber : List ℕ → Type 0
+IsSmallNumber number = (n : ℕ) × IsDecimal number n × (n ≤ 4194304)
+
+-- nothing, or an LF in front
+abbrev pub IsFollowed : List ℕ → Type 0
+IsFollowed rest = (rest ≡ []) ⊎ ((more : List ℕ) × (rest ≡ 10 ∷ more))
+
+-- that many bytes are left, and then an LF or the end
+abbrev pub IsEnough : List ℕ → List ℕ → Type 0
+IsEnough number rest = (n : ℕ) → IsDecimal number n → (n ≤ length rest) × IsFollowed (drop n rest)
+
+-- a request in transaction t, of this name, for a label
+abbrev pub asking : Past → List ℕ → List ℕ → List ℕ → Tests
+asking p t name label =
+    test (IsName t) fault.Name (test (p.opened t ≡ true) fault.Open
+    (test (IsName name) fault.Name (test (p.asked name ≡ false) fault.Taken
+    (test ((n : Name) × IsLabel label n) fault.Label done))))
+
+-- the tests of a line behind which these bytes stand
+abbrev pub tests : Past → Form → List ℕ → Tests
+tests p (puts path number) rest =
+    test (IsPath path) fault.Path (test (p.touched path ≡ false) fault.Twice
+    (test (IsSmallNumber number) fault.Number (test (IsEnough number rest) fault.Count done)))
+tests p commits rest = done
+tests p (opens t) rest = test (IsName t) fault.Name (test (p.opened t ≡ false) fault.Taken done)
+tests p (asks t name label) rest = asking p t name label
+tests p (acts t name label) rest = asking p t name label

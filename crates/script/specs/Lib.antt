@@ -1,0 +1,10 @@
+pub mod Words
+pub mod Lines
+pub mod Faults
+pub mod Scripts
+pub mod Order
+pub mod Plan
+pub mod Names
+pub mod Seen
+pub mod Taking
+pub mod Reading

@@ -1,0 +1,86 @@
+//! What is wrong with a script, and where.
+ghost use Rattle.std.specs.Prelude.{◌≡◌};
+ghost use Rattle.script.specs.Words.{text_of};
+ghost use Rattle.script.specs.declared.fault.Stop.TheVariants as stop;
+
+use std::alloc::AllocError;
+use std::fmt;
+use thiserror::Error;
+
+/// The test of a line that failed.
+#[derive(Clone, Copy, Debug, PartialEq, Eq)]
+pub enum Word {
+    /// The first word is none of the table, or the number of words is wrong.
+    Word,
+    /// Not a path.
+    Path,
+    /// The path was put since the last commit.
+    Twice,
+    /// Not a decimal number, or above 4,194,304.
+    Number,
+    /// Fewer bytes are left, or neither an LF nor the end follows them.
+    Count,
+    /// Not a name.
+    Name,
+    /// An earlier transaction or request has this name.
+    Taken,
+    /// The transaction was not opened.
+    Open,
+    /// Not an absolute label.
+    Label,
+}
+
+impl Word {
+    /// The word as it prints.
+    pub fn text(self) -> &'static str
+        ensures { result.now ≡ text_of self }
+    {
+        match self {
+            Word::Word => "word",
+            Word::Path => "path",
+            Word::Twice => "twice",
+            Word::Number => "number",
+            Word::Count => "count",
+            Word::Name => "name",
+            Word::Taken => "taken",
+            Word::Open => "open",
+            Word::Label => "label",
+        }
+    }
+}
+
+impl fmt::Display for Word {
+    fn fmt<W: fmt::Write>(&self, f: &mut fmt::Formatter<W>) -> fmt::Result {
+        f.write_str(self.text())
+    }
+}
+
+/// Why a script was refused.
+#[derive(Clone, Copy, Debug, PartialEq, Eq, Error)]
+pub enum ScriptRefusal {
+    /// The first line with a fault, and there the first test that fails. The line's number is 1
+    /// plus the LFs before it, those in put bytes counted.
+    #[error("line {line}: {word}")]
+    Fault { line: usize, word: Word },
+    /// The script has more than 4,194,304 bytes.
+    #[error("script too long")]
+    TooLong,
+    /// Memory was refused.
+    #[error("no memory")]
+    NoMemory,
+}
+
+/// Why a line was not taken.
+#[derive(Clone, Copy, Debug, PartialEq, Eq)]
+pub(crate) enum Stop {
+    Fault(Word),
+    NoMemory,
+}
+
+impl From<AllocError> for Stop {
+    ghost from_gives = { λ _ e. e ≡ stop.NoMemory };
+
+    fn from(_: AllocError) -> Stop {
+        Stop::NoMemory
+    }
+}

@@ -1,0 +1,135 @@
+//! Scripts, read and checked as a whole.
+ghost use Rattle.std.specs.Prelude.{◌≡◌, ◌≤◌, ◌+◌, ◌++◌, ℕ, List, length, take, OnOk, option_to_list};
+ghost use Rattle.script.specs.Lines.{line_feeds};
+ghost use Rattle.script.specs.Faults.{nothing};
+ghost use Rattle.script.specs.Scripts.{IsScript, IsFirstFault};
+ghost use Rattle.script.specs.Order.{InOrder};
+ghost use Rattle.script.specs.Reading.{IsRead};
+ghost use Rattle.script.specs.Taking.{AreLines, broken_at};
+
+use crate::fault::{ScriptRefusal, Stop, Word};
+use crate::line::Line;
+use crate::number::MOST_BYTES;
+use crate::past::Known;
+use buck_label::printed_is_read;
+use std::alloc::{AllocError, Global};
+use std::marker::Model;
+
+/// A script that was read: its lines that do something, in order.
+#[derive(Drop)]
+pub struct Script {
+    lines: Vec<Line>,
+}
+
+impl Model for Script {
+    ghost use Rattle.std.specs.Prelude.{List, ℕ};
+    ghost use Rattle.script.specs.declared.line.Line.{Line};
+    ghost use Rattle.script.specs.Scripts.{IsScript};
+
+    ghost Value = { List Line };
+
+    ghost view = { λ s. s.lines.items };
+
+    ghost invariant = { λ s. (text : List ℕ) × IsScript text s.lines.items };
+}
+
+impl Script {
+    /// Its lines.
+    pub fn lines(&self) -> &[Line]
+        ensures lines { result.now ≡ self.now }
+        ensures read { (text : List ℕ) × IsScript text self.now }
+        ensures in_order { InOrder nothing self.now }
+    {
+        self.lines.as_slice()
+    }
+}
+
+/// Why the lines were not all taken.
+#[derive(Clone, Copy, Debug, PartialEq, Eq)]
+enum Broken {
+    /// The line that begins at this byte has this fault.
+    At(usize, Word),
+    NoMemory,
+}
+
+fn line_feeds(bytes: &[u8]) -> usize
+    ensures count { result ≡ line_feeds bytes.now }
+    ensures fits { result ≤ length bytes.now }
+{
+    let mut count = 0;
+    for byte in bytes {
+        if *byte == b'\n' {
+            count += 1;
+        }
+    }
+    count
+}
+
+fn broken_at(at: usize, stop: Stop) -> Broken
+    ensures { result ≡ broken_at at stop }
+{
+    match stop {
+        Stop::Fault(word) => Broken::At(at, word),
+        Stop::NoMemory => Broken::NoMemory,
+    }
+}
+
+fn keep(lines: &mut Vec<Line>, made: Option<Line>) -> Result<(), AllocError>
+    ensures { OnOk result (lines.new.items ≡ lines.old.items ++ option_to_list made) }
+{
+    if let Some(line) = made {
+        lines.push(line)?;
+    }
+    Ok(())
+}
+
+fn lines_of(alloc: Global, bytes: &[u8]) -> Result<Vec<Line>, Broken>
+    ensures { AreLines bytes.now result }
+{
+    let mut known = Known::new(alloc);
+    let mut lines = Vec::new(alloc);
+    let mut at = 0;
+    while at < bytes.len() {
+        match known.line(alloc, &bytes[at..]) {
+            Ok((made, taken)) => {
+                if keep(&mut lines, made).is_err() {
+                    return Err(Broken::NoMemory);
+                }
+                at += taken;
+            }
+            Err(stop) => return Err(broken_at(at, stop)),
+        }
+    }
+    Ok(lines)
+}
+
+/// Reads a script: all of it is checked before anything runs.
+///
+/// `TooLong` is tested first. A `Fault` names the first line with a fault and the first test
+/// that fails there, the operands from left to right. The time is that of a walk over the bytes,
+/// and of a look-up in an ordered set for each line.
+pub fn read(alloc: Global, bytes: &[u8]) -> Result<Script, ScriptRefusal>
+    ensures { IsRead bytes.now result }
+{
+    if bytes.len() > MOST_BYTES {
+        return Err(ScriptRefusal::TooLong);
+    }
+    readings_are_one();
+    match lines_of(alloc, bytes) {
+        Ok(lines) => Ok(Script { lines }),
+        Err(Broken::At(at, word)) => Err(ScriptRefusal::Fault {
+            line: 1 + line_feeds(&bytes[..at]),
+            word,
+        }),
+        Err(Broken::NoMemory) => Err(ScriptRefusal::NoMemory),
+    }
+}
+
+/// A text is one script, or has one first fault, and not both.
+pub fn readings_are_one()
+    ensures script { (text : List ℕ) (ls ms : List Line) → IsScript text ls → IsScript text ms → ls ≡ ms }
+    ensures fault { (text : List ℕ) (m n : ℕ) (v w : Word) → IsFirstFault text m v → IsFirstFault text n w → (m ≡ n) × (v ≡ w) }
+    ensures not_both { (text : List ℕ) (ls : List Line) (n : ℕ) (w : Word) → IsScript text ls → IsFirstFault text n w → ⊥ }
+{
+    printed_is_read();
+}
