@@ -1,16 +1,16 @@
 -- The contents of a text are those of the grammar.
-use Rattle.std.proofs.Common.{◌≡◌, ◌<◌, ◌≤◌, ◌+◌, ◌^◌, ◌∙◌, ◌↔◌, sym, ap, refl, subst, inl, inr, ℕ, zero, suc, Bool, true, false, if◌then◌else◌, nat_eq, List, [], ◌∷◌, ◌++◌, append_assoc, append-nil, length, length-append, map, Option, Some, None, arith}
+use Rattle.std.proofs.Common.{◌≡◌, ◌<◌, ◌≤◌, ◌+◌, ◌^◌, ◌∙◌, ◌↔◌, sym, ap, refl, subst, inl, inr, ℕ, zero, suc, Bool, true, false, if◌then◌else◌, List, [], ◌∷◌, ◌++◌, append_assoc, append-nil, length, length-append, map, Option, Some, None, arith}
 use Rattle.std.proofs.lemmas.Bool.{cases_eq}
 use Rattle.target_file.specs.declared.table.Rule.TheVariants.{WriteFile}
 use Rattle.target_file.specs.declared.place.Place.{Place}
 use Rattle.target_file.specs.declared.place.Place.TheVariants as at
 use Rattle.target_file.specs.Tokens.{Token, Mode, Between, Comment, InWord, InText, Escape, Scan, start}
 use Rattle.target_file.specs.Calls.{Call}
-use Rattle.target_file.specs.Files.{IsWritten, IsDead, IsShortestDead, IsFaultLine, IsBad, line_feeds}
+use Rattle.target_file.specs.Files.{IsWritten, IsDead, IsShortestDead, IsFaultLine, IsBad}
 use Rattle.target_file.specs.Targets.{Located, located, IsFile}
 use Rattle.target_file.specs.Machine.{State, Runs, first}
-use Rattle.target_file.specs.Code.{Takes, IsOpen, IsEnd}
-use Rattle.target_file.specs.Contents.{Contents, Holds, Fails, ends_at, emptied, take_byte, on_step, contents_from, contents}
+use Rattle.target_file.specs.Code.{IsOpen, IsEnd}
+use Rattle.target_file.specs.Contents.{Contents, Holds, Fails, ends_at, take_byte, on_step, contents_from, contents}
 use Rattle.target_file.proofs.Runs.{one_run}
 use Rattle.target_file.proofs.Complete.{accepted}
 use Rattle.target_file.proofs.Prefixes.{blank}
@@ -67,6 +67,7 @@ answers_from (b ∷ bs) p s m h l =
     (λ t e g. answers_from bs (p ++ b ∷ []) t e g (subst (λ (x : List ℕ). length x < 2 ^ 64) (sym (append_assoc p (b ∷ []) bs)) l))
 
 pub contents_answer : (text : List ℕ) → length text < 2 ^ 64 → Answers text (contents text)
+unfolding contents
 contents_answer text l = answers_from text [] start (first WriteFile) held_first l
 
 -- a text has one list of calls

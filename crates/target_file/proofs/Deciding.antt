@@ -1,5 +1,5 @@
 -- The machine as a function and as a relation.
-use Rattle.std.proofs.Common.{◌≡◌, ◌≤◌, ◌⊎◌, ◌∙◌, sym, ap, refl, subst, inl, inr, ℕ, Bool, true, false, not, if◌then◌else◌, ◌&&◌, ◌||◌, nat_eq, nat_le, List, [], ◌∷◌, length, Option, Some, None, arith}
+use Rattle.std.proofs.Common.{◌≡◌, ◌⊎◌, ◌∙◌, sym, refl, subst, inl, inr, ℕ, Bool, true, false, not, if◌then◌else◌, ◌&&◌, ◌||◌, nat_eq, List, [], ◌∷◌, Option, Some, None}
 use Rattle.std.specs.Option.{option_map, option_and_then}
 use Rattle.std.specs.List.{list_any, list_all, AllByRecursion}
 use Rattle.std.specs.Str.{bytes_eq}
@@ -14,7 +14,7 @@ use Rattle.target_file.specs.Tokens.{Token, Word, Text, Mark, Scan, next}
 use Rattle.target_file.specs.Table.{rule_of, attribute_of, form_of, needed}
 use Rattle.target_file.specs.Calls.{Value, One, Many, Argument, Call}
 use Rattle.target_file.specs.Files.{Has, Belongs, attributes, names}
-use Rattle.target_file.specs.Machine.{State, StepAt, Steps, Runs, Closes, Names, Gives, HasForm, IsFresh, IsWhole, set_place, give, closed}
+use Rattle.target_file.specs.Machine.{State, StepAt, Steps, Runs, Closes, Names, HasForm, IsFresh, IsWhole, set_place, give, closed}
 use Rattle.target_file.specs.Code.{Takes, Refuses}
 use Rattle.target_file.specs.Contents.{fits, has_form, same_attribute, is_given, is_whole, is_new, where_so, close_at, name_at, step_at, run, emptied, take_byte}
 use Rattle.target_file.proofs.Runs.{one_step}
@@ -89,8 +89,8 @@ name_only s w (Some a) h =
     (both_say (has_form (form_of s.rule a)) (not (is_given a s.given)) (HasForm (form_of s.rule a)) (Has (attributes s.given) a → ⊥) (form_says (form_of s.rule a)) (not_says (is_given a s.given) (Has (attributes s.given) a) (given_says a s.given)))
     (λ p. (a, record { attribute_is = h; belongs = p.0; once = p.1; state_is = refl }))
     (λ e q.
-        let i : Some q.0 ≡ Some a = sym q.1.attribute_is ∙ h in let k : q.0 ≡ a = cc in
-        (subst (λ (x : Attribute). HasForm (form_of s.rule x)) k q.1.belongs, subst (λ (x : Attribute). Has (attributes s.given) x → ⊥) k q.1.once))
+    let i : Some q.0 ≡ Some a = sym q.1.attribute_is ∙ h in let k : q.0 ≡ a = cc in
+    (subst (λ (x : Attribute). HasForm (form_of s.rule x)) k q.1.belongs, subst (λ (x : Attribute). Has (attributes s.given) x → ⊥) k q.1.once))
 
 -- a comma, or another mark
 or_only : (b : Bool) {P : Type 0} (Q R : State → Type 0) (d : State) (o : Option State) → Says b P → (P → Q d) → (P → (e : State) → R e → ⊥) → ((e : State) → Q e → P) → Only R o →

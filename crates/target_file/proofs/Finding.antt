@@ -1,5 +1,5 @@
 -- A target of a file, by its number.
-use Rattle.std.proofs.Common.{◌≡◌, ◌<◌, ◌≤◌, ◌+◌, ◌-◌, ◌∙◌, sym, ap, refl, ℕ, zero, suc, List, [], ◌∷◌, ◌++◌, Option, Some, None, length, map, get_or, append_assoc, append-nil, arith}
+use Rattle.std.proofs.Common.{◌≡◌, ◌<◌, ◌+◌, ◌-◌, ◌∙◌, sym, ap, refl, ℕ, zero, suc, List, [], ◌∷◌, ◌++◌, Some, length, map, get_or, append_assoc, append-nil, arith}
 use Rattle.std.specs.Arc.{arc_value}
 use Rattle.target_file.specs.declared.file.Located.{Located}
 use Rattle.target_file.specs.Targets as targets

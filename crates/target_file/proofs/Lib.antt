@@ -16,5 +16,6 @@ pub mod Finding
 pub mod Saying
 pub mod Deciding
 pub mod Answering
+pub mod Order
 pub mod Rows
 pub mod Reached

@@ -1,9 +1,9 @@
 -- What calls mean, as the code finds it out.
-use Rattle.std.proofs.Common.{◌≡◌, ◌<◌, ◌≤◌, ◌+◌, ◌∙◌, sym, ap, refl, subst, inl, inr, ℕ, Bool, true, false, List, [], ◌∷◌, ◌++◌, Option, Some, None, if◌then◌else◌, ◌||◌, ◌&&◌, ◌-◌, length, map, get_or, suc, arith, append_assoc, append-nil}
-use Rattle.std.specs.Option.{option_or, unwrap_or, option_map}
+use Rattle.std.proofs.Common.{◌≡◌, ◌<◌, ◌≤◌, ◌+◌, ◌∙◌, sym, ap, refl, subst, inl, inr, ℕ, Bool, true, false, List, [], ◌∷◌, ◌++◌, Option, Some, None, if◌then◌else◌, ◌||◌, ◌&&◌, ◌-◌, length, map, get_or, suc, arith, append_assoc}
+use Rattle.std.specs.Option.{option_or, unwrap_or}
 use Rattle.std.specs.List.{AllByRecursion, list_any}
 use Rattle.std.specs.Str.{bytes_eq}
-use Rattle.std.specs.Cmp.Lexicographic.{pointwise, nat_list_eq_equiv}
+use Rattle.std.specs.Cmp.Lexicographic.{pointwise}
 use Rattle.buck_label.specs.Paths.{IsPath}
 use Rattle.target_file.specs.declared.table.Rule.{Rule}
 use Rattle.target_file.specs.declared.table.Rule.TheVariants.{WriteFile}
@@ -14,7 +14,7 @@ use Rattle.target_file.specs.declared.call.Argument as code
 use Rattle.target_file.specs.Seen.{value_of, arguments_of}
 use Rattle.target_file.specs.Calls.{Value, One, Many, Argument, Call}
 use Rattle.target_file.specs.Files.{Has, AreDistinct, Belongs, IsFine, attributes, name_in, names_in}
-use Rattle.target_file.specs.Targets.{Target, Located, HasPaths, text_for, given, target_of, located, target_named}
+use Rattle.target_file.specs.Targets.{Located, HasPaths, text_for, given, target_of, located, target_named}
 use Rattle.target_file.specs.Names.{is_named, number_from}
 use Rattle.target_file.specs.Lent.{number_at}
 use Rattle.target_file.proofs.Fresh.{bool_cases}
@@ -197,3 +197,11 @@ ended a all first rest found h e f =
 -- a loop that locates calls one by one
 pub one_more : {Y : Type 0} (done : List Y) (y : Y) (rest all : List Y) → done ++ y ∷ rest ≡ all → (done ++ y ∷ []) ++ rest ≡ all
 one_more done y rest all h = append_assoc done (y ∷ []) rest ∙ h
+
+-- the one name of a call
+name_by : (ns : List (List ℕ)) (o : Option (List ℕ)) → SameName ns o → IsGiven Name o → ns ≡ unwrap_or o [] ∷ []
+name_by [] o h k = absurd (subst (IsGiven Name) h k)
+name_by (n ∷ ns) o h k = ap (λ (m : List (List ℕ)). n ∷ m) h.0 ∙ ap (λ (x : Option (List ℕ)). unwrap_or x [] ∷ []) (sym h.1)
+
+pub call_name : (c : Call) → IsFine c → names_in c.arguments ≡ (target_of c.arguments).name ∷ []
+call_name c f = name_by (names_in c.arguments) (given Name c.arguments) (same_names c.arguments f.once) (has_given c.rule Name c.arguments f.each (needed_name c f))

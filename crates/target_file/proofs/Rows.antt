@@ -1,21 +1,22 @@
 -- Rows of the definition.
-use Rattle.std.proofs.Common.{◌≡◌, ◌⊎◌, refl, inl, inr, ℕ, List, [], ◌∷◌, ◌++◌, codes, Some, arith}
+use Rattle.std.proofs.Common.{refl, inl, inr, List, [], ◌∷◌, ◌++◌, codes, arith, lit<}
 use Rattle.target_file.specs.declared.table.Rule.TheVariants.{WriteFile}
 use Rattle.target_file.specs.declared.table.Attribute.TheVariants.{Name, Content}
 use Rattle.buck_label.specs.Paths.{IsPath}
-use Rattle.target_file.specs.Tokens.{Token, Word, Text, Mark, tokens, scan, start}
-use Rattle.target_file.specs.Calls.{One, Call, AreCalls}
-use Rattle.target_file.specs.Files.{IsWritten, IsDead}
-use Rattle.target_file.specs.Machine.{State, Steps, Runs, first}
+use Rattle.target_file.specs.Tokens.{Token, Word, Text, Mark}
+use Rattle.target_file.specs.Calls.{One, Call}
+use Rattle.target_file.specs.Files.{IsWritten, IsDead, IsBad}
+use Rattle.target_file.specs.Targets.{IsFile}
+use Rattle.target_file.specs.Rows.{w_text, w_file}
+use Rattle.target_file.specs.Contents.{contents}
+use Rattle.target_file.proofs.Answering.{bad_by}
+use Rattle.target_file.specs.Machine.{State, Runs, first}
 use Rattle.target_file.proofs.Fresh.{segment_path}
 use Rattle.target_file.proofs.Faults.{dead_byte, dead_token, stuck}
 
--- the empty file, and a comment with no end
-empty_file : IsWritten [] []
-empty_file = record { made_of = []; tokens_are = refl; calls_are = refl; each = tt; once = tt }
-
-comment_file : IsWritten (codes "# x") []
-comment_file = record { made_of = []; tokens_are = refl; calls_are = refl; each = tt; once = tt }
+-- the empty file
+pub empty_file : IsFile [] []
+empty_file = record { calls = []; written = record { made_of = []; tokens_are = refl; calls_are = refl; each = tt; once = tt }; means = refl }
 
 w_path : IsPath (codes "w")
 w_path = segment_path (codes "w") (record { some = λ e. cc; each = (refl, tt); no_dot = λ e. cc; no_dots = λ e. cc }) (omega arith)
@@ -24,8 +25,8 @@ w_call : Call
 w_call = record { line = 1; rule = WriteFile; arguments = record { attribute = Name; value = One (codes "w") } ∷ record { attribute = Content; value = One (codes "a") } ∷ [] }
 
 -- write_file(name='w',content='a')
-w_file : IsWritten (codes "write_file(name='w',content='a')") (record { line = 1; rule = WriteFile; arguments = record { attribute = Name; value = One (codes "w") } ∷ record { attribute = Content; value = One (codes "a") } ∷ [] } ∷ [])
-w_file =
+w_written : IsWritten (codes "write_file(name='w',content='a')") (record { line = 1; rule = WriteFile; arguments = record { attribute = Name; value = One (codes "w") } ∷ record { attribute = Content; value = One (codes "a") } ∷ [] } ∷ [])
+w_written =
     let name : List Token = Word 1 (codes "name") ∷ Mark 61 ∷ Text (codes "w") ∷ [] in
     let content : List Token = Word 1 (codes "content") ∷ Mark 61 ∷ Text (codes "a") ∷ [] in
     let inner : List Token = name ++ Mark 44 ∷ content in
@@ -55,12 +56,23 @@ w_file =
       once = ((λ h. h), tt);
     }
 
+pub one_target : IsFile w_text w_file
+one_target = record { calls = _; written = w_written; means = refl }
+
 -- no file begins with a tilde, nor with cxx_library(
-tilde_dead : IsDead (codes "~")
+pub tilde_dead : IsDead (codes "~")
 tilde_dead = dead_byte (codes "~") refl
 
 no_rule : (e : State) → Runs (first WriteFile) (Word 1 (codes "cxx_library") ∷ Mark 40 ∷ []) e → ⊥
 no_rule e h = let k = h.1.1 in cc
 
-cxx_dead : IsDead (codes "cxx_library(")
+pub cxx_dead : IsDead (codes "cxx_library(")
 cxx_dead = dead_token WriteFile (codes "cxx_library(") (record { tokens = Word 1 (codes "cxx_library") ∷ Mark 40 ∷ []; mode = _; line = 1 }) refl (stuck WriteFile [] (Word 1 (codes "cxx_library") ∷ Mark 40 ∷ []) (first WriteFile) refl no_rule)
+
+pub cxx_bad : IsBad (codes "cxx_library(") 1
+unfolding contents
+cxx_bad = (bad_by (codes "cxx_library(") 1 (lit< tt)).0 refl
+
+pub unclosed_bad : IsBad (codes "write_file(name = 'w") 1
+unfolding contents
+unclosed_bad = (bad_by (codes "write_file(name = 'w") 1 (lit< tt)).0 refl

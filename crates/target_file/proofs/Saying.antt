@@ -1,12 +1,10 @@
 -- What a test says, and whether a text is a path.
-use Rattle.std.proofs.Common.{◌≡◌, ◌≢◌, ◌≤◌, ◌∙◌, sym, ap, refl, subst, inl, inr, ℕ, Bool, true, false, not, ◌&&◌, ◌||◌, nat_eq, nat_le, List, [], ◌∷◌, ◌++◌, length}
+use Rattle.std.proofs.Common.{◌≡◌, ◌≢◌, ◌≤◌, ◌∙◌, sym, ap, refl, subst, inl, inr, ℕ, Bool, true, false, not, ◌&&◌, nat_eq, nat_le, List, [], ◌∷◌, ◌++◌, length}
 use Rattle.std.specs.List.{list_all, AllByRecursion}
 use Rattle.std.specs.Str.{bytes_eq}
 use Rattle.std.specs.Cmp.{unsigned_Decides}
 use Rattle.std.specs.Cmp.Lexicographic.{bytes_decides}
 use Rattle.buck_label.specs.Paths.{IsPath, IsPathText, IsSegment, IsSegmentByte, is_segment_byte, joined}
-use Rattle.target_file.specs.declared.table.Attribute.{Attribute}
-use Rattle.target_file.specs.Files.{Has}
 use Rattle.target_file.specs.Contents.{is_path, is_segment, parts, longer_first}
 use Rattle.std.proofs.lemmas.Bool.{eqb-true, leb-true, le-leb}
 use Rattle.target_file.proofs.Fresh.{bool_cases}

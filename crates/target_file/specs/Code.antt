@@ -1,14 +1,9 @@
 -- What the reader's code is seen as.
-use Rattle.std.specs.Prelude.{◌≡◌, ℕ, Bool, true, false, List, [], ◌⊎◌, map, Some, None, Result, Ok, Err}
-use Rattle.std.specs.declared.vec.Vec.{Vec}
+use Rattle.std.specs.Prelude.{◌≡◌, ℕ, Bool, true, false, List, [], ◌⊎◌, map, Some, None}
 use Rattle.target_file.specs.declared.progress.Progress.{Progress}
 use Rattle.target_file.specs.declared.mode.Mode.{Mode}
 use Rattle.target_file.specs.declared.mode.Mode.TheVariants as mode
 use Rattle.target_file.specs.declared.place.Place.TheVariants as place
-use Rattle.target_file.specs.declared.fault.FileFault.{FileFault}
-use Rattle.target_file.specs.declared.fault.FileFault.TheVariants as fault
-use Rattle.target_file.specs.Files.{IsWritten, IsBad}
-use Rattle.target_file.specs.Calls as calls
 use Rattle.target_file.specs.Tokens as tokens
 use Rattle.target_file.specs.Seen.{texts_of, arguments_of, call_of}
 use Rattle.target_file.specs.Machine.{State, Steps, Runs}

@@ -1,10 +1,9 @@
 -- The contents of a text as a function of its bytes: the machine, with each of its tests decided.
-use Rattle.std.specs.Prelude.{◌&&◌, ℕ, Bool, true, false, not, if◌then◌else◌, nat_eq, nat_le, List, [], ◌∷◌, ◌++◌, length, map, Option, Some, None}
+use Rattle.std.specs.Prelude.{◌&&◌, ℕ, Bool, true, false, not, if◌then◌else◌, nat_eq, nat_le, List, [], ◌∷◌, length, map, Option, Some, None}
 use Rattle.std.specs.Option.{option_map, option_and_then}
 use Rattle.std.specs.List.{list_any, list_all}
 use Rattle.std.specs.Str.{bytes_eq}
 use Rattle.buck_label.specs.Paths.{is_segment_byte}
-use Rattle.target_file.specs.declared.table.Rule.{Rule}
 use Rattle.target_file.specs.declared.table.Rule.TheVariants.{WriteFile}
 use Rattle.target_file.specs.declared.table.Attribute.{Attribute}
 use Rattle.target_file.specs.declared.table.Attribute.TheVariants.{Name, Out, Content}
@@ -116,5 +115,6 @@ abbrev pub contents_from : Scan → State → List ℕ → Contents
 contents_from s m [] = if ends_at s.mode m.place then Holds (map located m.calls) else Fails s.line
 contents_from s m (b ∷ bs) = on_step (Fails s.line) (λ p. contents_from p.0 p.1 bs) (take_byte s b m)
 
-abbrev pub contents : List ℕ → Contents
+-- the contents of a text
+unfoldable pub contents : List ℕ → Contents
 contents text = contents_from start (first WriteFile) text

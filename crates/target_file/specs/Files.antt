@@ -4,7 +4,7 @@ use Rattle.std.specs.List.{AllByRecursion}
 use Rattle.buck_label.specs.Paths.{IsPath}
 use Rattle.target_file.specs.Tokens.{Token, tokens}
 use Rattle.target_file.specs.Table.{form_of, needed}
-use Rattle.target_file.specs.Calls.{Value, One, Many, Argument, Call, AreCalls}
+use Rattle.target_file.specs.Calls.{Value, One, Argument, Call, AreCalls}
 use Rattle.target_file.specs.declared.table.Attribute.{Attribute}
 use Rattle.target_file.specs.declared.table.Attribute.TheVariants.{Name}
 use Rattle.target_file.specs.declared.table.Form.{Form}

@@ -4,6 +4,7 @@ pub mod Calls
 pub mod Files
 pub mod Targets
 pub mod Laws
+pub mod Meaning
 pub mod Names
 pub mod Seen
 pub mod Lent
@@ -11,3 +12,4 @@ pub mod Machine
 pub mod Code
 pub mod Contents
 pub mod Reading
+pub mod Rows

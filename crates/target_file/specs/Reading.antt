@@ -2,7 +2,7 @@
 use Rattle.std.specs.Prelude.{◌≡◌, ℕ, List, Result, Ok, Err}
 use Rattle.target_file.specs.Files.{IsBad}
 use Rattle.target_file.specs.Targets.{Located, IsFile}
-use Rattle.target_file.specs.Contents.{Contents, Holds, Fails, contents}
+use Rattle.target_file.specs.Contents.{Contents, Holds, Fails}
 use Rattle.target_file.specs.declared.fault.FileFault.{FileFault}
 use Rattle.target_file.specs.declared.fault.FileFault.TheVariants.{Bad, NoMemory}
 

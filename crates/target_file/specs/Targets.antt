@@ -52,6 +52,9 @@ pub record IsFile (text : List ℕ) (file : List Located) : Type 0 where
 abbrev pub HasPaths : Target → Type 0
 HasPaths t = IsPath t.name × IsPath t.out
 
+abbrev pub names_of : List Located → List (List ℕ)
+names_of file = map (λ l. l.target.name) file
+
 -- the first target of this name
 abbrev pub target_named : List ℕ → List Located → Option Target
 target_named q [] = None

@@ -56,9 +56,8 @@ pub fn is_list(form: Option<Form>) -> bool
 }
 
 /// Whether the string may stand in the attribute's list: no attribute takes one yet.
-pub fn may_hold(rule: Rule, attribute: Attribute, text: &[u8]) -> bool
-    ensures { (result ≡ true) ↔ HasItem (form_of rule attribute) text.now }
+pub fn may_hold(rule: Rule, attribute: Attribute, _text: &[u8]) -> bool
+    ensures { (result ≡ true) ↔ HasItem (form_of rule attribute) _text.now }
 {
-    let _ = text;
     is_list(form_of(rule, attribute))
 }

@@ -1,7 +1,11 @@
 //! Laws of the grammar.
 ghost use Rattle.std.specs.Prelude.{◌≡◌, ◌<◌, ◌^◌, ◌↔◌, ℕ, List, [], length, codes};
-ghost use Rattle.target_file.specs.Files.{IsDead, IsBad};
-ghost use Rattle.target_file.specs.Targets.{Located, IsFile};
+ghost use Rattle.target_file.specs.Calls.{Argument};
+ghost use Rattle.target_file.specs.Files.{Has, AreDistinct, IsDead, IsBad, attributes};
+ghost use Rattle.target_file.specs.Targets.{Located, IsFile, names_of, target_of};
+ghost use Rattle.target_file.specs.Meaning.{AreSame, with_default};
+ghost use Rattle.target_file.specs.Rows.{w_text, w_file};
+ghost use Rattle.target_file.specs.declared.table.Attribute.TheVariants.{Out};
 ghost use Rattle.target_file.specs.Contents.{Holds, Fails, contents};
 
 /// The contents of a text, which are one value, are those of the grammar: a text is a file, and then one list
@@ -9,4 +13,22 @@ ghost use Rattle.target_file.specs.Contents.{Holds, Fails, contents};
 pub fn contents_by_grammar()
     ensures file { (text : List ℕ) (file : List Located) → length text < 2 ^ 64 → (contents text ≡ Holds file) ↔ IsFile text file }
     ensures bad { (text : List ℕ) (line : ℕ) → length text < 2 ^ 64 → (contents text ≡ Fails line) ↔ IsBad text line }
+{}
+
+/// What does not count in a call: the order of its attributes, and whether the default of `out` is written. And
+/// no two targets of a file have the same name.
+pub fn calls_by_meaning()
+    ensures order { (xs ys : List Argument) → AreSame xs ys → target_of xs ≡ target_of ys }
+    ensures default { (xs : List Argument) → (Has (attributes xs) Out → ⊥) → target_of (with_default xs) ≡ target_of xs }
+    ensures names { (text : List ℕ) (file : List Located) → IsFile text file → AreDistinct (names_of file) }
+{}
+
+/// Worked texts: the empty file, one target with the default of `out`, and prefixes with which no file begins.
+pub fn worked_texts()
+    ensures empty { IsFile [] [] }
+    ensures one { IsFile w_text w_file }
+    ensures byte { IsDead (codes "~") }
+    ensures word { IsDead (codes "cxx_library(") }
+    ensures line { IsBad (codes "cxx_library(") 1 }
+    ensures unclosed { IsBad (codes "write_file(name = 'w") 1 }
 {}

@@ -11,13 +11,16 @@ mod mode;
 mod names;
 mod place;
 mod progress;
-mod reading;
 mod reader;
+mod reading;
 mod table;
 mod target;
 
 pub use fault::FileFault;
 pub use file::{File, Located};
-pub use laws::contents_by_grammar;
+pub use laws::{calls_by_meaning, contents_by_grammar, worked_texts};
 pub use reading::read;
 pub use target::Target;
+
+#[cfg(test)]
+mod tests;

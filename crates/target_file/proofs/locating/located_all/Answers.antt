@@ -1,11 +1,9 @@
-use Rattle.std.proofs.Common.{◌≡◌, ◌∙◌, ◌∷◌, ◌++◌, [], List, ap, sym, subst, length, map, arith}
+use Rattle.std.proofs.Common.{◌≡◌, ◌∙◌, ◌∷◌, [], List, ap, sym, subst, length, map, arith}
 use Rattle.std.specs.List.{AllByRecursion}
 use Rattle.std.specs.Vec.Iter.{into_iter_items}
 use Rattle.target_file.specs.declared.call.Call.{Call}
 use Rattle.target_file.specs.Files.{IsFine}
 use Rattle.target_file.specs.Seen.{call_of}
-use Rattle.target_file.specs.Targets.{located}
-use Rattle.target_file.specs.Lent.{located_of, all_of}
 use Rattle.target_file.proofs.Meaning.{nothing_left}
 use Rattle.target_file.proofs.Finding.{pushed, all_done}
 use Rattle.target_file.proofs.locating.located_all.Goals as goal

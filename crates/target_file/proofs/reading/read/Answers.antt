@@ -1,11 +1,9 @@
 use Rattle.std.proofs.Common.{◌≡◌, ◌≤◌, ◌+◌, sym, subst, List, ℕ, [], take, drop, length, Bool, suc, get_or, arith}
 use Rattle.std.proofs.lemmas.List.{length-take-le}
 use Rattle.target_file.specs.Tokens.{Scan, start}
-use Rattle.target_file.specs.Calls as calls
-use Rattle.target_file.specs.Files.{IsWritten}
 use Rattle.target_file.specs.Machine.{State}
 use Rattle.target_file.specs.Code.{scan_of, state_of, Took, Takes, Refuses}
-use Rattle.target_file.proofs.Held.{whole_file, cut_at, take_more, take_whole, Held, held_first, held_more, held_bad, held_line, held_end_bad, held_file}
+use Rattle.target_file.proofs.Held.{whole_file, cut_at, take_more, take_whole, Held, held_first, held_more, held_bad, held_line, held_end_bad}
 use Rattle.target_file.proofs.Answering.{file_answer, bad_answer}
 use Rattle.target_file.proofs.reading.read.Goals as goal
 

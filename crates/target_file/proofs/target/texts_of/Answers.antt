@@ -1,10 +1,6 @@
-use Rattle.std.proofs.Common.{◌≡◌, ◌∙◌, ◌∷◌, [], List, ap, sym, length, arith, Option, ℕ}
-use Rattle.std.specs.Option.{option_or}
+use Rattle.std.proofs.Common.{◌≡◌, ◌∙◌, ◌∷◌, [], ap, sym, length, arith}
 use Rattle.std.specs.Vec.Iter.{into_iter_items}
-use Rattle.target_file.specs.declared.call.Argument.{Argument}
 use Rattle.target_file.specs.declared.table.Attribute.TheVariants.{Name, Out, Content}
-use Rattle.target_file.specs.Seen.{arguments_of, shown}
-use Rattle.target_file.specs.Targets.{given}
 use Rattle.target_file.proofs.Meaning.{taken, ended, nothing_left}
 use Rattle.target_file.proofs.target.texts_of.Goals as goal
 

@@ -1,6 +1,5 @@
-use Rattle.std.proofs.Common.{◌≡◌, ◌∙◌, ap}
+use Rattle.std.proofs.Common.{◌∙◌, ap}
 use Rattle.target_file.specs.Targets.{same_located, same_file}
-use Rattle.target_file.specs.Targets as targets
 use Rattle.target_file.specs.Lent.{located_of, all_of}
 use Rattle.target_file.proofs.Meaning.{seen_alike}
 use Rattle.target_file.proofs.file.FilePartialEq.eq.Goals as goal

@@ -1,5 +1,5 @@
 use Rattle.std.proofs.Common.{map, refl}
-use Rattle.target_file.specs.Seen.{call_of, texts_of}
+use Rattle.target_file.specs.Seen.{call_of}
 use Rattle.target_file.proofs.Numbers.{list_kept}
 use Rattle.target_file.proofs.progress.Progress.close_list.Goals as goal
 

@@ -1,4 +1,4 @@
-use Rattle.std.proofs.Common.{◌≡◌, ◌∙◌, sym, ℕ, Some, None, true, false, map, length}
+use Rattle.std.proofs.Common.{◌≡◌, ◌∙◌, sym, Some, None, map, length}
 use Rattle.target_file.specs.Names.{number_from}
 use Rattle.target_file.specs.Seen.{call_of, arguments_of}
 use Rattle.target_file.proofs.Numbers.{used_by, unused_by}

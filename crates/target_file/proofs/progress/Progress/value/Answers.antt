@@ -1,10 +1,10 @@
-use Rattle.std.proofs.Common.{◌≡◌, ◌∙◌, ◌++◌, ◌∷◌, [], ap, sym, subst, List, ℕ, Some, if◌then◌else◌, map, length}
+use Rattle.std.proofs.Common.{◌≡◌, ◌∙◌, ◌++◌, ◌∷◌, [], ap, subst, List, ℕ, Some, if◌then◌else◌, map, length}
 use Rattle.target_file.specs.declared.call.Argument.{Argument}
 use Rattle.target_file.specs.declared.call.Value.TheVariants as value
 use Rattle.target_file.specs.Calls.{One}
 use Rattle.target_file.specs.Machine.{IsFresh}
-use Rattle.target_file.specs.Names.{number_of, number_from, gives_name}
-use Rattle.target_file.specs.Seen.{call_of, arguments_of}
+use Rattle.target_file.specs.Names.{number_of, gives_name}
+use Rattle.target_file.specs.Seen.{call_of}
 use Rattle.target_file.proofs.Numbers.{noted}
 use Rattle.target_file.proofs.progress.Progress.value.Goals as goal
 

@@ -1,0 +1,172 @@
+//! Texts with their targets, and texts that are none.
+
+use crate::fault::FileFault;
+use crate::file::File;
+use crate::reading::read;
+use std::alloc::Global;
+use std::process::Abort;
+
+/// How many targets the text has; 99 where it is no file.
+fn count(alloc: Global, text: &[u8]) -> usize {
+    match read(alloc, text) {
+        Ok(file) => file.targets().len(),
+        Err(_) => 99,
+    }
+}
+
+/// The line that is named; 0 where the text is a file.
+fn line_of(alloc: Global, text: &[u8]) -> u64 {
+    match read(alloc, text) {
+        Err(FileFault::Bad { line }) => line,
+        _ => 0,
+    }
+}
+
+fn file_of(rt: &impl Abort, alloc: Global, text: &[u8]) -> File {
+    match read(alloc, text) {
+        Ok(file) => file,
+        Err(_) => panic!(rt; "no file"),
+    }
+}
+
+fn shared<T: Send + Sync>(_value: &T) {}
+
+const FILES: [(&[u8], usize); 10] = [
+    (b"", 0),
+    (b"# only a comment", 0),
+    (b" \t\r\n#\n", 0),
+    (b"write_file(name = \"w\", content = \"a\")\n", 1),
+    (b"write_file(name='w',content='a',)", 1),
+    (
+        b"write_file(content=\"\",out=\"o\",name=\"a/b\")write_file(name=\"c\",content='\"')",
+        2,
+    ),
+    (
+        b"write_file(\r\n\tname = \"w\", # the name\r\n\tcontent = \"x\"\r\n)\r\n",
+        1,
+    ),
+    (b"write_file\n(\nname\n=\n\"w\"\n,\ncontent\n=\n\"\"\n)", 1),
+    (
+        b"write_file(name = \"w\", content = \"\\\\ \\\" \\' \\n \\t \\r\")",
+        1,
+    ),
+    (
+        b"write_file(name = \"w\", content = \"a\")#c\n#d\n\nwrite_file(name = \"v\", content = \"a\")",
+        2,
+    ),
+];
+
+const FAULTS: [(&[u8], u64); 30] = [
+    // an attribute is missing: told at the parenthesis, or at the end
+    (b"write_file(name = \"w\")\n", 1),
+    (b"write_file(\n", 2),
+    (b"write_file(\n)", 2),
+    (b"write_file(name = \"w", 1),
+    (b"write_f", 1),
+    (b"\nwrite_file", 2),
+    (b"write_file(name = \"w\", # c\n", 2),
+    // a string ends on its line
+    (b"write_file(name = \"w\n\", content = \"a\")", 1),
+    (b"write_file(name = \"w\", content = \"a\rb\")", 1),
+    (b"write_file(name = \"w\", content = \"a\\q\")", 1),
+    (b"write_file(name = 'w\", content = \"a\")\n", 1),
+    // unknown words, and stumps
+    (b"\ncxx_library(", 2),
+    (b"write_fil\ne(", 1),
+    (
+        b"write_file(name = \"w\",\nvisibility = [\"x\"], content = \"\")",
+        2,
+    ),
+    (b"write_file(name = \"w\", content = \"a\")\nx", 2),
+    // commas and brackets
+    (b"write_file(\n,)", 2),
+    (b"write_file(name = \"w\", content = \"a\",\n,)", 2),
+    (b"write_file(name = \"w\" content = \"a\")", 1),
+    (b"write_file(name =\n[\"w\"], content = \"a\")", 2),
+    (b"write_file(name = \"w\", content = \"a\")\n)", 2),
+    // an attribute or a name twice
+    (
+        b"write_file(name = \"w\",\nname = \"v\", content = \"a\")",
+        2,
+    ),
+    (
+        b"write_file(name = \"w\", content = \"a\")\nwrite_file(name = \"w\", content = \"b\")\n",
+        2,
+    ),
+    (
+        b"write_file(name='w',content='')\nwrite_file(name='v',content='')\nwrite_file(\nname='w',content='')",
+        4,
+    ),
+    // a name is a path
+    (b"write_file(\n#x\nname = \"a//b\"", 3),
+    (b"write_file(name = \"..\", content = \"\")", 1),
+    (b"write_file(name = \"w\",\nout = \"\", content = \"\")", 2),
+    // other bytes
+    (b"\x0c", 1),
+    (b"\n\0", 2),
+    (b"\xef\xbb\xbf", 1),
+    (b"\n\n,", 3),
+];
+
+#[test]
+fn files_are_read(rt: HostRuntime) {
+    for (text, targets) in FILES {
+        assert!(rt; count(rt.alloc(), text) == targets);
+    }
+}
+
+#[test]
+fn faults_are_told_on_their_line(rt: HostRuntime) {
+    for (text, line) in FAULTS {
+        assert!(rt; line_of(rt.alloc(), text) == line);
+    }
+}
+
+fn has(rt: &impl Abort, file: &File, name: &[u8], out: &[u8], content: &[u8]) -> bool {
+    match file.target(name) {
+        Some(target) => {
+            target.name() == name && target.out() == out && target.content() == content
+        }
+        None => panic!(rt; "no such target"),
+    }
+}
+
+#[test]
+fn targets_are_found_by_name(rt: HostRuntime) {
+    let text =
+        b"write_file(name = \"u\", content = \"a\\n\")\n\nwrite_file(content = 'b', out = \"o/p\", name = \"w\")";
+    let file = file_of(&rt, rt.alloc(), text);
+    assert!(rt; has(&rt, &file, b"u", b"u", b"a\n"));
+    assert!(rt; has(&rt, &file, b"w", b"o/p", b"b"));
+    assert!(rt; file.target(b"v").is_none());
+    assert!(rt; file.target(b"").is_none());
+    let targets = file.targets();
+    assert!(rt; targets.len() == 2);
+    assert!(rt; targets[0].line == 1);
+    assert!(rt; targets[1].line == 3);
+    shared(&file);
+}
+
+fn same_target(rt: &impl Abort, alloc: Global, x: &[u8], y: &[u8]) -> bool {
+    let x = file_of(rt, alloc, x);
+    let y = file_of(rt, alloc, y);
+    match (x.target(b"w"), y.target(b"w")) {
+        (Some(x), Some(y)) => **x == **y,
+        _ => false,
+    }
+}
+
+#[test]
+fn calls_are_equal_by_what_they_mean(rt: HostRuntime) {
+    let alloc = rt.alloc();
+    let plain = b"write_file(name = \"w\", content = \"a\")";
+    let other = b"write_file(content = 'a', out = \"w\", name = 'w',)";
+    let below = b"\nwrite_file(name = \"w\", content = \"a\")";
+    let changed = b"write_file(name = \"w\", content = \"b\")";
+    assert!(rt; same_target(&rt, alloc, plain, other));
+    assert!(rt; same_target(&rt, alloc, plain, below));
+    assert!(rt; !same_target(&rt, alloc, plain, changed));
+    assert!(rt; file_of(&rt, alloc, plain) == file_of(&rt, alloc, other));
+    assert!(rt; file_of(&rt, alloc, plain) != file_of(&rt, alloc, below));
+    assert!(rt; file_of(&rt, alloc, plain) != file_of(&rt, alloc, changed));
+}
