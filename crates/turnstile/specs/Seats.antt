@@ -32,6 +32,10 @@ module _ {E : Type 0} where
   abbrev pub IsAway : SeatView E → Type 0
   IsAway s = s.away ≡ true
 
+  -- the seat is of that turnstile, and outside a turn
+  abbrev pub IsSeatOf : TableId → SeatView E → Type 0
+  IsSeatOf turnstile s = (s.turnstile ≡ turnstile) × IsAway s
+
   -- how many numbers it may give away
   abbrev pub spare : SeatView E → ℕ
   spare s = s.spare_end - s.spare_start

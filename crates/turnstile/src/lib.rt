@@ -13,8 +13,8 @@ mod tale;
 mod turn;
 mod turns;
 mod view;
-//#[cfg(test)]
-//mod tests;
+#[cfg(test)]
+mod tests;
 
 pub use no_memory::NoMemory;
 pub use seat::Seat;
