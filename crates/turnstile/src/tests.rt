@@ -6,7 +6,7 @@ use crate::{NoMemory, Seat, Tale, Turnstile};
 use std::alloc::{AllocError, Global};
 use std::sync::Wait;
 use std::test::Fail;
-use std::thread::join;
+use std::thread::{Threads, join};
 
 #[derive(Clone, Copy, Debug, PartialEq, Eq)]
 struct Entry {
@@ -109,4 +109,82 @@ fn start(
             Err(AllocError)
         }
     }
+}
+
+const TURNS: u64 = 10_000;
+
+// So many turns, each with an entry.
+fn add_all<R: Wait>(
+    rt: &R,
+    turnstile: &Turnstile<Ledger>,
+    mut seat: Seat<Entry>,
+) -> (Seat<Entry>, Result<(), AllocError>)
+    requires { IsSeatOf turnstile.now seat × IsWriter seat }
+    ensures { IsSeatOf turnstile.entry.now result.0 }
+{
+    for turn in 0..TURNS {
+        if let Err(error) = add(rt, turnstile, &mut seat, turn) {
+            return (seat, Err(error));
+        }
+    }
+    (seat, Ok(()))
+}
+
+// Two seats, each in a thread of its own.
+fn add_all_twice<R: Wait + Threads + Sync>(
+    rt: &R,
+    turnstile: &Turnstile<Ledger>,
+    seats: (Seat<Entry>, Seat<Entry>),
+) -> (Seat<Entry>, Result<(), AllocError>)
+    requires first { IsSeatOf turnstile.now seats.0 × IsWriter seats.0 }
+    requires second { IsSeatOf turnstile.now seats.1 × IsWriter seats.1 }
+    ensures { IsSeatOf turnstile.entry.now result.0 }
+{
+    let (mut one, two) = seats;
+    let ((mut one, first), (two, second)) = join(
+        rt,
+        move || -> (Seat<Entry>, Result<(), AllocError>)
+            requires { IsSeatOf turnstile.now one × IsWriter one }
+            ensures { IsSeatOf turnstile.entry.now result.0 }
+        { add_all(rt, turnstile, one) },
+        move || -> (Seat<Entry>, Result<(), AllocError>)
+            requires { IsSeatOf turnstile.now two × IsWriter two }
+            ensures { IsSeatOf turnstile.entry.now result.0 }
+        { add_all(rt, turnstile, two) },
+    );
+    turnstile.join(&mut one, two);
+    (one, first.and(second))
+}
+
+#[test]
+fn four_threads_leave_each_event_once(rt: HostRuntime) -> Result<(), Fail> {
+    let (turnstile, mut zero) = start(rt.alloc(), 4, 40_000)?;
+    let one = turnstile.split(&mut zero)?;
+    let two = turnstile.split(&mut zero)?;
+    let three = turnstile.split(&mut zero)?;
+    let (shared, threads) = (&turnstile, &rt);
+    let ((mut zero, first), (other, second)) = join(
+        &rt,
+        move || -> (Seat<Entry>, Result<(), AllocError>)
+            requires { (IsSeatOf shared.now zero × IsWriter zero) × (IsSeatOf shared.now one × IsWriter one) }
+            ensures { IsSeatOf shared.entry.now result.0 }
+        { add_all_twice(threads, shared, (zero, one)) },
+        move || -> (Seat<Entry>, Result<(), AllocError>)
+            requires { (IsSeatOf shared.now two × IsWriter two) × (IsSeatOf shared.now three × IsWriter three) }
+            ensures { IsSeatOf shared.entry.now result.0 }
+        { add_all_twice(threads, shared, (two, three)) },
+    );
+    first?;
+    second?;
+    turnstile.join(&mut zero, other);
+    let ledger = turnstile.end(&rt, zero);
+    let mut next = [0u64; 4];
+    for entry in ledger.entries.iter() {
+        let by = entry.by.map_or(4, |by| by) as usize;
+        assert!(rt; by < 4, "{by}");
+        assert_eq!(rt; entry.turn, next[by]);
+        next[by] = next[by].wrapping_add(1);
+    }
+    assert_eq!(rt; next, [TURNS; 4]);
+    Ok(())
 }
