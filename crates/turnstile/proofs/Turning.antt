@@ -75,6 +75,10 @@ module _ {S E : Type 0} (list : S → List E) (by : E → Option ℕ) (version :
   has_raised slots k m m' m'' xs counts n is told =
       subst (λ (q : Seated S E). raised version (step slots 2 k 0 none) q n m'') is told
 
+  -- the state was taken out for good
+  pub has_emptied : (m m' m'' : Seated S E) (x : S) (taken : Taken list by version m m' x) → ((t : ℕ) → m'.0.stage ≡ Serves t → m'' ≡ (record (m'.0) { stage = Empties t }, [])) → m''.0.stage ≡ Empties taken.0
+  has_emptied m m' m'' x taken told = ap (λ (q : Seated S E). q.0.stage) (told taken.0 (ap (λ (q : Seated S E). q.0.stage) taken.1))
+
   pub slot_is_empty : (writers id : ℕ) (v : View E) (t : ℕ) (ws : List ℕ) (xs : List (Option S)) (found : Option S) → v.stage ≡ Empties t → Final (Seen (Turns list by version writers) id v) ws xs → get_elem? xs 0 ≡ some found → found ≡ None
   slot_is_empty writers id v t ws xs found is last here =
       let home = nothing_left list by version writers last.0 last.1.0 id v t last.1.1 is in

@@ -18,7 +18,7 @@ mod tests;
 
 pub use no_memory::NoMemory;
 pub use seat::Seat;
-pub use table::{InTurns, Stile, Turnstile};
+pub use table::{InTurns, Turnstile};
 pub use tale::Tale;
 pub use turn::Turn;
 pub use view::{Note, Stage, View};

@@ -5,7 +5,7 @@ ghost use Rattle.turnstile.specs.Seats.{first_seat, IsAway, EachNote, NotedIn};
 
 use crate::no_memory::NoMemory;
 use crate::seat::{Numbers, Seat};
-use crate::table::{InTurns, RawSeat, Stile, Turnstile};
+use crate::table::{InTurns, RawSeat, Turnstile};
 use crate::tale::Tale;
 use crate::view::View;
 use atomic_table::{Refused, Table};
@@ -55,7 +55,7 @@ impl<S: Tale> Turnstile<S> {
             &writers,
         );
         match made {
-            Ok((table, raw)) => Ok((Stile { table }, Seat::settle(raw, FIRST, (0, 0, 0)))),
+            Ok((table, raw)) => Ok((Turnstile { table }, Seat::settle(raw, FIRST, (0, 0, 0)))),
             Err(Refused { slots }) => Err((NoMemory, only(slots))),
         }
     }
@@ -73,7 +73,7 @@ impl<S: Tale> Turnstile<S> {
         let mut seat = seat;
         let (mut raw, _numbers, _left) = seat.lift();
         let state = self.take_out(rt, &mut raw);
-        let Stile { table } = self;
+        let Turnstile { table } = self;
         let mut closed = table.close_with(raw);
         let none = closed.take(0);
         let None = none else { unreachable!() };

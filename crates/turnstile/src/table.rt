@@ -16,13 +16,13 @@ impl<S: Tale> TableRule<Option<S>, View<S::Event>, u64> for InTurns {
     ghost first = { first_view };
 }
 
-/// A turnstile, generic in its rule. Callers name it `Turnstile`. Contracts see it as the identity of its table.
+/// Turns on a state `S`. It may be shared by threads, each with a seat of its own. Contracts see it as the identity of its table.
 #[derive(Drop)]
-pub struct Stile<S, V, Q: TableRule<S, V, u64>> {
-    pub(crate) table: Table<S, V, u64, Q, Global>,
+pub struct Turnstile<S: Tale> {
+    pub(crate) table: Table<Option<S>, View<S::Event>, u64, InTurns, Global>,
 }
 
-impl<S, V, Q: TableRule<S, V, u64>> Model for Stile<S, V, Q> {
+impl<S: Tale> Model for Turnstile<S> {
     ghost use Rattle.std.specs.Prelude.{◌≡◌};
     ghost use Rattle.atomic_table.specs.Seated.{TableId, table_id_coded};
 
@@ -34,9 +34,6 @@ impl<S, V, Q: TableRule<S, V, u64>> Model for Stile<S, V, Q> {
 
     ghost invariant = { λ t. (t.table.shared.table_id.words ≡ 3) × (t.table.shared.table_id.slots ≡ 1) };
 }
-
-/// Turns on a state `S`. It may be shared by threads, each with a seat of its own.
-pub type Turnstile<S> = Stile<Option<S>, View<<S as Tale>::Event>, InTurns>;
 
 // A seat of the table, as it steps.
 pub(crate) type RawSeat<S> = Seat<Option<S>, View<<S as Tale>::Event>>;

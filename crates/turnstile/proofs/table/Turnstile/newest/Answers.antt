@@ -1,6 +1,6 @@
 use Rattle.std.proofs.Common.{rules}
 use Rattle.turnstile.proofs.Keeps.{checks}
-use Rattle.turnstile.proofs.calls.Turnstile+S.newest.Goals as goal
+use Rattle.turnstile.proofs.table.Turnstile.newest.Goals as goal
 
 pub load-version-requires : goal.load-version-requires
 load-version-requires g c =

@@ -2,7 +2,7 @@ use Rattle.std.proofs.Common.{rules, ◌≡◌, List, [], ◌∷◌, Some, Optio
 use Rattle.atomic_table.specs.Table.{opening}
 use Rattle.turnstile.specs.Rule.{Turns, first_view}
 use Rattle.turnstile.proofs.Keeps.{begins}
-use Rattle.turnstile.proofs.make.Turnstile+S.new.Goals as goal
+use Rattle.turnstile.proofs.table.Turnstile.new.Goals as goal
 
 pub new-made-requires : goal.new-made-requires
 new-made-requires g c =

@@ -1,6 +1,6 @@
 use Rattle.std.proofs.Common.{rules}
 use Rattle.turnstile.proofs.Turning.{leaves_as, has_left, raises_as, has_raised}
-use Rattle.turnstile.proofs.turns.Turnstile+S.hand_back.Goals as goal
+use Rattle.turnstile.proofs.table.Turnstile.hand_back.Goals as goal
 
 pub fetch_add-requires : goal.fetch_add-requires
 fetch_add-requires g c = (search rules, search rules, leaves_as g.S.Tale.list g.S.Tale.by g.S.Tale.version _ g.met.S.Tale.rises g.S.Tale.counts _ _ c.args.seat.now.me _ c.args.state c.requires.turn c.requires.grows c.exchange-none.ensures.3)

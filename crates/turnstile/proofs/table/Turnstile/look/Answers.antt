@@ -1,7 +1,7 @@
 use Rattle.std.proofs.Common.{rules, ap, ◌∙◌}
 use Rattle.turnstile.proofs.Keeps.{looks}
 use Rattle.turnstile.proofs.Turning.{finds, misses, has_one, takes_out}
-use Rattle.turnstile.proofs.turns.Turnstile+S.look.Goals as goal
+use Rattle.turnstile.proofs.table.Turnstile.look.Goals as goal
 
 pub load-served-requires : goal.load-served-requires
 load-served-requires g c = (search rules, search rules, looks g.S.Tale.list g.S.Tale.by g.S.Tale.version _ _ _ _ c.requires.waits.0 c.requires.waits.1)

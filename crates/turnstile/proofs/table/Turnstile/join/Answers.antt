@@ -1,6 +1,6 @@
 use Rattle.std.proofs.Common.{rules}
 use Rattle.turnstile.proofs.Keeps.{joins}
-use Rattle.turnstile.proofs.calls.Turnstile+S.join.Goals as goal
+use Rattle.turnstile.proofs.table.Turnstile.join.Goals as goal
 
 pub join_seat-requires : goal.join_seat-requires
 join_seat-requires g c =

@@ -1,7 +1,7 @@
 use Rattle.std.proofs.Common.{rules, ◌≡◌, ℕ, ◌-◌, ◌<◌, ap, sym, subst, arith}
 use Rattle.turnstile.specs.Seats.{spare}
 use Rattle.turnstile.proofs.Keeps.{splits}
-use Rattle.turnstile.proofs.calls.Turnstile+S.split.Goals as goal
+use Rattle.turnstile.proofs.table.Turnstile.split.Goals as goal
 
 pub split_seat-new-requires : goal.split_seat-new-requires
 split_seat-new-requires g c =
