@@ -1,6 +1,6 @@
 -- What a longer list says of each number.
-use Rattle.std.proofs.Common.{◌≡◌, ◌≢◌, ℕ, ◌+◌, ◌<◌, ◌≤◌, Bool, true, false, cond, eqb, if◌then◌else◌, List, [], ◌∷◌, ◌++◌, Option, Some, None, refl, sym, ap, ◌∙◌, subst, append_assoc, append-nil, ne_eqb, length, length-append, arith, drop, get_or}
-use Rattle.turnstile.specs.Events.{StartsWith, has_number, events_by, IsBelow, AllBelow, IsOwn, AllOwn, Grows}
+use Rattle.std.proofs.Common.{◌≡◌, ◌≢◌, ℕ, ◌≤◌, Bool, true, false, if◌then◌else◌, List, [], ◌∷◌, ◌++◌, Option, Some, None, refl, sym, ap, ◌∙◌, append_assoc, append-nil, ne_eqb, length, length-append, arith, drop, get_or}
+use Rattle.turnstile.specs.Events.{StartsWith, has_number, events_by, IsBelow, AllBelow, IsOwn, AllOwn}
 use Rattle.turnstile.specs.Seats.{EachNote}
 use Rattle.turnstile.specs.Rule.{Misses, OnceEach}
 use Rattle.turnstile.specs.declared.view.Note.{Note}
@@ -36,8 +36,8 @@ module _ {E : Type 0} (by : E → Option ℕ) where
   pub whole : (xs : List E) → StartsWith xs xs
   whole xs = ([], sym (append-nil xs))
 
-  pub longer : (xs ys es seen : List E) → ys ≡ xs ++ es → StartsWith xs seen → StartsWith ys seen
-  longer xs ys es seen is pre = (pre.0 ++ es, is ∙ (ap (λ (l : List E). l ++ es) pre.1 ∙ append_assoc seen pre.0 es))
+  pub still_begins : (xs ys es seen : List E) → ys ≡ xs ++ es → StartsWith xs seen → StartsWith ys seen
+  still_begins xs ys es seen is pre = (pre.0 ++ es, is ∙ (ap (λ (l : List E). l ++ es) pre.1 ∙ append_assoc seen pre.0 es))
 
   pub each_map : (P Q : Note E → Type 0) → ((x : Note E) → P x → Q x) → (xs : List (Note E)) → EachNote P xs → EachNote Q xs
   each_map P Q f [] a = tt

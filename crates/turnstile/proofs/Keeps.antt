@@ -1,22 +1,22 @@
 -- Each step keeps the rule.
-use Rattle.std.proofs.Common.{◌≡◌, ◌≢◌, ◌⊎◌, ℕ, zero, suc, ◌+◌, ◌-◌, ◌%◌, ◌^◌, ◌<◌, ◌≤◌, max, Bool, true, false, cond, eqb, leb, List, [], ◌∷◌, ◌++◌, length, get_or, set, Option, Some, None, if◌then◌else◌, refl, sym, ap, ◌∙◌, subst, subst₂, inl, inr, ⊎_elim, arith, eq-eqb, ne_eqb, true≢false, append-nil, le_refl, le_trans, le_of_lt, lt_of_not-le, le-leb, zero-le}
+use Rattle.std.proofs.Common.{◌≡◌, ◌≢◌, ℕ, zero, suc, ◌+◌, ◌-◌, ◌%◌, ◌^◌, ◌<◌, ◌≤◌, max, Bool, true, false, cond, eqb, leb, List, [], ◌∷◌, ◌++◌, length, get_or, set, Option, Some, None, refl, sym, ap, ◌∙◌, subst, subst₂, inl, inr, ⊎_elim, arith, eq-eqb, ne_eqb, true≢false, append-nil, le_refl, le_trans, le_of_lt, lt_of_not-le, le-leb, zero-le}
 use Rattle.std.proofs.Math.Nat.{mod-add-mod}
 use mathlib.Core.Logic.{dite}
 use mathlib.Core.Option as core
 use native.Mathlib.Decide.{ℕ_discrete, dec_le}
 use lib.ListN.{get_elem?}
-use Rattle.atomic_table.specs.Table.{State, Me, Step, step, stepped, keeps, takes, gives, put_back, rest, Allows, Splits, Joins, opening}
-use Rattle.atomic_table.proofs.Lists.{at_set, at_snoc, at_longer, set_here, set_else, set_again, one_turn}
+use Rattle.atomic_table.specs.Table.{State, step, keeps, takes, gives, put_back, rest, Allows, Splits, Joins, opening}
+use Rattle.atomic_table.proofs.Lists.{at_set, at_longer, set_here, set_else, set_again, one_turn}
 use Rattle.turnstile.specs.declared.view.View.{View}
 use Rattle.turnstile.specs.declared.view.Note.{Note}
 use Rattle.turnstile.specs.declared.view.Stage.{Stage}
 use Rattle.turnstile.specs.declared.view.Stage.TheVariants.{Away, Waits, Serves, Raises, Empties, Spent}
 use Rattle.turnstile.specs.Events.{StartsWith, events_by, AllBelow, AllOwn, Grows, longer}
-use Rattle.turnstile.specs.Seats.{EachNote, NotedIn}
+use Rattle.turnstile.specs.Seats.{NotedIn}
 use Rattle.turnstile.specs.Rule.{HasTicket, World, Knows, Stands, IsNoted, Sits, Fits, slot_of, Turns, parent_view, child_view, joined_view, view_note, spent_view, first_view}
-use Rattle.turnstile.specs.Steps.{Ticket, Seated, waiting, serving, back, Found, Agrees, drawn, LookedFor, looked, left, raised, checked, emptied, in_hand}
+use Rattle.turnstile.specs.Steps.{Seated, waiting, serving, back, Agrees, drawn, LookedFor, looked, left, raised, checked, emptied, in_hand}
 use Rattle.turnstile.proofs.Holes.{few}
-use Rattle.turnstile.proofs.Events.{events_by-append, none_of, below-append, whole, longer as grown, each_map, each_both, between, nested, none_before, once_joined}
+use Rattle.turnstile.proofs.Events.{events_by-append, none_of, below-append, whole, still_begins as grown, each_map, each_both, between, nested, none_before, once_joined}
 use Rattle.turnstile.proofs.Seats.{inside, one_view, seats_set, snoc_here}
 
 -- what `owner` is once the ticket t is given to id

@@ -1,15 +1,15 @@
 -- What the steps come to in a turn.
-use Rattle.std.proofs.Common.{◌≡◌, ◌≢◌, ℕ, ◌+◌, ◌%◌, ◌^◌, ◌≤◌, max, Bool, true, true≢false, List, [], ◌∷◌, ◌++◌, Option, Some, None, MatchOption, refl, sym, ap, ◌∙◌, subst}
+use Rattle.std.proofs.Common.{◌≡◌, ◌≢◌, ℕ, ◌+◌, ◌%◌, ◌^◌, ◌≤◌, max, true, true≢false, List, [], ◌∷◌, ◌++◌, Option, Some, None, MatchOption, refl, sym, ap, ◌∙◌, subst}
 use mathlib.Core.Option as core
 use mathlib.Core.Option.{none, some, some-injective}
 use lib.ListN.{get_elem?}
-use Rattle.atomic_table.specs.Table.{Me, Step, step, rest, Allows, Final, Seen}
+use Rattle.atomic_table.specs.Table.{step, rest, Allows, Final, Seen}
 use Rattle.turnstile.specs.declared.view.View.{View}
 use Rattle.turnstile.specs.declared.view.Stage.{Stage}
 use Rattle.turnstile.specs.declared.view.Stage.TheVariants.{Away, Waits, Serves, Raises, Empties, Spent}
-use Rattle.turnstile.specs.Events.{StartsWith, events_by, AllBelow, Grows}
+use Rattle.turnstile.specs.Events.{Grows}
 use Rattle.turnstile.specs.Rule.{Turns}
-use Rattle.turnstile.specs.Steps.{Ticket, Seated, serving, back, Found, Agrees, LookedFor, looked, left, raised, in_hand, Waiting, Taken, is_serving, IsTurn, Left}
+use Rattle.turnstile.specs.Steps.{Seated, serving, back, Found, Agrees, LookedFor, left, raised, in_hand, Waiting, Taken, is_serving, IsTurn, Left}
 use Rattle.turnstile.proofs.Keeps.{leaves, raises, nothing_left}
 
 module _ {S E : Type 0} (list : S → List E) (by : E → Option ℕ) (version : List E → ℕ) where

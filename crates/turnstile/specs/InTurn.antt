@@ -1,5 +1,4 @@
 -- A turn, as its holder sees it.
-use Rattle.std.specs.Prelude.{ℕ}
 use Rattle.turnstile.specs.declared.turn.Turn.{Turn}
 use Rattle.turnstile.specs.Seats.{SeatView, view_of}
 

@@ -1,11 +1,11 @@
 -- What a seat sees, and what the calls do to it.
-use Rattle.std.specs.Prelude.{◌≡◌, ℕ, ◌-◌, ◌^◌, ◌<◌, ◌≤◌, List, [], ◌∷◌, ◌++◌, Bool, true, false, Option}
+use Rattle.std.specs.Prelude.{◌≡◌, ℕ, ◌-◌, ◌^◌, ◌<◌, ◌≤◌, List, [], ◌∷◌, Bool, true, false, Option}
 use Rattle.atomic_table.specs.Seated.{TableId}
 use Rattle.turnstile.specs.declared.view.Note.{Note}
 use Rattle.turnstile.specs.declared.view.Stage.{Stage}
-use Rattle.turnstile.specs.declared.view.Stage.TheVariants.{Away, Waits, Serves, Raises, Empties, Spent}
+use Rattle.turnstile.specs.declared.view.Stage.TheVariants.{Away, Spent}
 use Rattle.turnstile.specs.declared.view.View.{View}
-use Rattle.turnstile.specs.Events.{StartsWith, events_by, AllBelow, Grows}
+use Rattle.turnstile.specs.Events.{StartsWith, events_by}
 
 -- A seat as its holder sees it: which turnstile it is of, and whether it is away, that is outside a turn.
 -- It has a number, and spare numbers from `spare_start` up to `spare_end`, which is not one of them. `seen` is a beginning of the turnstile's list, and `mine` its events there. `ended` notes the seats that were joined to it. The shown version is `floor` or more. `left` is the tally of the state as this seat last gave it back, and `turns` counts its turns. `writers` is the turnstile's.

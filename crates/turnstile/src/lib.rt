@@ -10,11 +10,11 @@ mod seat;
 mod served;
 mod table;
 mod tale;
+#[cfg(test)]
+mod tests;
 mod turn;
 mod turns;
 mod view;
-#[cfg(test)]
-mod tests;
 
 pub use no_memory::NoMemory;
 pub use seat::Seat;

@@ -60,7 +60,7 @@ impl<S: Tale> Turnstile<S> {
         }
     }
 
-    /// Waits for a turn of this seat, and hands the state out for good. Where a seat is waiting behind it, that one waits for ever, so the other seats are to be outside their turns. It takes no memory.
+    /// Waits for a turn of this seat, and hands the state out as `enter` would lend it. Where the turn of another seat was never left, it waits for ever. It takes no memory.
     pub fn end<R: Wait>(self, rt: &R, seat: Seat<S::Event>) -> S
         requires own { seat.turnstile ≡ self }
         requires away { IsAway seat }

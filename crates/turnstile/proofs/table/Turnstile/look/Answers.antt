@@ -1,6 +1,6 @@
-use Rattle.std.proofs.Common.{rules, ap, ◌∙◌}
+use Rattle.std.proofs.Common.{rules}
 use Rattle.turnstile.proofs.Keeps.{looks}
-use Rattle.turnstile.proofs.Turning.{finds, misses, has_one, takes_out}
+use Rattle.turnstile.proofs.Turning.{finds, has_one, takes_out}
 use Rattle.turnstile.proofs.table.Turnstile.look.Goals as goal
 
 pub load-served-requires : goal.load-served-requires

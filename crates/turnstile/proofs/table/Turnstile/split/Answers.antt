@@ -1,4 +1,4 @@
-use Rattle.std.proofs.Common.{rules, ◌≡◌, ℕ, ◌-◌, ◌<◌, ap, sym, subst, arith}
+use Rattle.std.proofs.Common.{rules, ℕ, ◌-◌, ◌<◌, ap, sym, subst, arith}
 use Rattle.turnstile.specs.Seats.{spare}
 use Rattle.turnstile.proofs.Keeps.{splits}
 use Rattle.turnstile.proofs.table.Turnstile.split.Goals as goal
