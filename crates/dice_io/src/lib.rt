@@ -16,3 +16,5 @@ pub use memory::{MemorySink, MemorySource};
 pub use process::{RealSink, RealSource};
 pub use sure::{SureSink, SureSource};
 
+#[cfg(test)]
+mod tests;
