@@ -1,1 +1,47 @@
+-- What the words of `dice` name.
+use Rattle.std.proofs.Common.{cond, ◌≡◌, ◌&&◌, ◌∙◌, Bool, true, false, List, [], ◌∷◌, Option, Some, None, is_some, option_map, codes, refl, sym, ap, if◌then◌else◌, Result, IfOk, Ok, Err, MatchResult}
+use Rattle.clap.specs.Words.{App, FailsBy, Row, Text, built, is_simple, subcommand_of, takes}
+use Rattle.clap.specs.Walk.{nothing_held, walk, answers_to}
+use Rattle.clap.specs.Simple.{argument_words, Shape, built_leaf, entered, inherited, label_of, names_of, rows_at}
+use Rattle.clap.specs.Faults.{fault_of, is_simple_and_free}
+use Rattle.clap.specs.Takes.{built_takes}
+use Rattle.clap.specs.declared.error.Error.{Error}
+use Rattle.clap.proofs.OnLiterals.{clap_on_literals}
+use Rattle.dice_words.specs.Accepted.{dice, run, IsAccepted}
+use Rattle.dice_words.proofs.Accepting.{built_clean, built_has, AllSound, IsSound}
 
+pub simple : is_simple dice ≡ true
+unfolding clap_on_literals
+simple = refl
+
+pub simple_and_free : is_simple_and_free dice ≡ true
+unfolding clap_on_literals
+simple_and_free = refl
+
+top_sound : IsSound (built dice).top
+unfolding clap_on_literals
+top_sound = (refl, refl)
+
+subs_sound : AllSound (built dice).subs
+unfolding clap_on_literals
+subs_sound = ((refl, refl), tt)
+
+abbrev run_built : Shape
+run_built = built_leaf (inherited (built dice).top run.top)
+
+pub no_fault : (words : List Text) → fault_of dice words ≡ [] → IsAccepted words
+no_fault words e = built_clean (built dice) nothing_held (argument_words dice words) top_sound subs_sound e
+
+one_named : (met : Bool) (s : Shape) (words : List Text) → s.name ≡ codes "run" → is_some (option_map (λ t. rows_at t words) (cond met (Some s) None)) ≡ true
+    → option_map (λ p. p.0) (option_map (λ t. rows_at t words) (cond met (Some s) None)) ≡ Some (codes "run")
+one_named true s words e h = ap Some e
+one_named false s words e h = cc
+
+named : (stop : Option (Text × List Text)) → is_some (entered (built dice) stop) ≡ true → option_map (λ p. p.0) (entered (built dice) stop) ≡ Some (codes "run")
+named None h = cc
+named (Some p) h = one_named (answers_to p.0 (label_of run_built)) run_built p.1 refl h
+
+pub accepted_run : (words : List Text) → IsAccepted words → option_map (λ p. p.0) (subcommand_of dice words) ≡ Some (codes "run")
+accepted_run words e =
+    let a = built dice in
+    named (walk a.top.rules (names_of a) nothing_held (argument_words dice words)).stopped (built_has a nothing_held (argument_words dice words) refl e)

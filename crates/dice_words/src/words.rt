@@ -34,6 +34,22 @@ impl From<AllocError> for WordsFail {
     }
 }
 
+impl From<clap::Error> for WordsFail {
+    ghost use Rattle.std.specs.Prelude.{◌≡◌, ◌↔◌};
+    ghost use Rattle.clap.specs.Words.{kind_of};
+    ghost use Rattle.clap.specs.declared.error.ErrorKind.TheVariants as kind;
+    ghost use Rattle.dice_words.specs.declared.words.WordsFail.TheVariants as fail;
+
+    ghost from_gives = { λ error e. (e ≡ fail.NoMemory) ↔ (kind_of error ≡ kind.OutOfMemory) };
+
+    fn from(error: clap::Error) -> WordsFail {
+        match error.kind() {
+            ErrorKind::OutOfMemory => WordsFail::NoMemory,
+            _ => WordsFail::Refused,
+        }
+    }
+}
+
 // The command line of the program: `dice`, of which a subcommand is required.
 fn command_line<'a>(alloc: Global) -> Result<clap::Command<'a>, AllocError>
     ensures { IfOk result (λ c. app_of c ≡ dice) }
@@ -55,11 +71,7 @@ pub fn read_words<'a>(alloc: Global, words: &'a [&'a str]) -> Result<Command, Wo
     ensures named { IfOk result (λ c. Asks (map (λ w. w.now) words.now) c) }
     ensures refused { IsErrOf result WordsFail.Refused → IsAccepted (map (λ w. w.now) words.now) → ⊥ }
 {
-    let matches = match command_line(alloc)?.try_get_matches_from(words) {
-        Ok(matches) => matches,
-        Err(error) if error.kind() == ErrorKind::OutOfMemory => return Err(WordsFail::NoMemory),
-        Err(_) => return Err(WordsFail::Refused),
-    };
+    let matches = command_line(alloc)?.try_get_matches_from(words)?;
     match matches.subcommand_matches("run") {
         Some(_) => Ok(Command::Run),
         None => Err(WordsFail::Refused),
