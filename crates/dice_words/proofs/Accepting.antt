@@ -292,10 +292,12 @@ level_clean s names h words has below sound e =
     let filling = defaults_fault (settled s.rules end).rows s.rules in
     let checking = check_fault s (finished s.rules end) has in
     let e1 = then_none walking (or_else below (or_else settling (or_else filling checking))) e in
-    let e2 = then_none below (or_else settling (or_else filling checking)) e1 in
-    (and_all (walk_passes s names (walk_from h) words) _ (walk_clean s names (walk_from h) words (first_none walking _ e))
-    (and_all (settle_passes s.rules s.args_override_self end) _ (settle_clean s.rules s.args_override_self end (first_none settling _ e2))
-    (and_all (list_all default_passes s.rules) _ sound.1 (valid_clean s (finished s.rules end) has sound.0 (then_none filling checking (then_none settling _ e2))))), first_none below _ e1)
+    let e2 = then_none below (or_else settling (or_else filling checking)) e1 in (
+      and_all (walk_passes s names (walk_from h) words) _ (walk_clean s names (walk_from h) words (first_none walking _ e))
+          (and_all (settle_passes s.rules s.args_override_self end) _ (settle_clean s.rules s.args_override_self end (first_none settling _ e2))
+          (and_all (list_all default_passes s.rules) _ sound.1 (valid_clean s (finished s.rules end) has sound.0 (then_none filling checking (then_none settling _ e2))))),
+      first_none below _ e1,
+    )
 
 found_clean : (subs : List Shape) (o : Option Shape) (words : List Text) → ((s : Shape) → o ≡ Some s → IsSound s) → option_map_or (λ s. level_fault s [] nothing_held words false []) o [] ≡ []
     → option_map_or (λ s. level_passes s [] nothing_held words false) o true ≡ true

@@ -4,3 +4,6 @@
 mod words;
 
 pub use words::{Command, WordsFail, read_words};
+
+#[cfg(test)]
+mod tests;

@@ -54,8 +54,9 @@ impl From<clap::Error> for WordsFail {
 fn command_line<'a>(alloc: Global) -> Result<clap::Command<'a>, AllocError>
     ensures { IfOk result (λ c. app_of c ≡ dice) }
 {
-    let run = clap::Command::new(alloc, "run")
-        .about("Reads a script from standard input and writes what it asks for");
+    let run = clap::Command::new(alloc, "run").about(
+        "Reads a script from standard input and writes what it asks for",
+    );
     clap::Command::new(alloc, "dice")
         .about("Builds targets incrementally")
         .subcommand_required(true)
@@ -66,7 +67,7 @@ fn command_line<'a>(alloc: Global) -> Result<clap::Command<'a>, AllocError>
 /// Reads the words, of which the first is the program's name.
 ///
 /// `Refused` comes exactly where `clap` refuses the words for another cause than memory.
-pub fn read_words<'a>(alloc: Global, words: &'a [&'a str]) -> Result<Command, WordsFail>
+pub fn read_words(alloc: Global, words: &[&str]) -> Result<Command, WordsFail>
     ensures accepted { IfOk result (λ c. IsAccepted (map (λ w. w.now) words.now)) }
     ensures named { IfOk result (λ c. Asks (map (λ w. w.now) words.now) c) }
     ensures refused { IsErrOf result WordsFail.Refused → IsAccepted (map (λ w. w.now) words.now) → ⊥ }
