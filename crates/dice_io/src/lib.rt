@@ -1,0 +1,20 @@
+//! Where the bytes of a run come from and go to: the traits of a source and a sink, those in memory and those of the process,
+//! and the two loops that read a whole input and write a whole output.
+#![tactic(auto)]
+
+mod copying;
+mod edge;
+mod gate;
+mod memory;
+mod process;
+mod sure;
+
+pub use copying::{read_all, write_all};
+pub use edge::{Failed, NoMemory, ReadFail, Sink, Source};
+pub use gate::{Gate, Open};
+pub use memory::{MemorySink, MemorySource};
+pub use process::{RealSink, RealSource};
+pub use sure::{SureSink, SureSource};
+
+#[cfg(test)]
+mod tests;

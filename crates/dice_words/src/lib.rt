@@ -1,0 +1,9 @@
+//! The words of the command line.
+#![tactic(auto)]
+
+mod words;
+
+pub use words::{Command, WordsFail, read_words};
+
+#[cfg(test)]
+mod tests;
