@@ -15,7 +15,7 @@ use Rattle.action_digest.specs.Buck.{buck}
 use Rattle.action_digest.specs.Same.{key_equal, value_equal}
 use Rattle.script.specs.Plan.{Change, bytes_in, file_after, newest, is_file, differs}
 use Rattle.dice_run.specs.Output.{pair_of_change, pairs_of_changes, log_of}
-use Rattle.dice_run.specs.Driving.{paths_of, differs_from}
+use Rattle.dice_run.specs.Driving.{paths_of, AreDistinctSources, differs_from}
 
 -- ---- lists
 
@@ -31,20 +31,20 @@ filter_map f g h e (x ∷ xs) = by_test (f (g x)) (h x) (e x) (filter_map f g h 
 
 has_filtered : {A B : Type 0} (g : A → B) (h : A → Bool) (xs : List A) (y : B) → Has (map g (filter h xs)) y → Has (map g xs) y
 has_filtered g h [] y p = p
-has_filtered g h (x ∷ xs) y p = by_test (h x) p
+has_filtered g h (x ∷ xs) y p = by_test (λ q. has_filtered g h xs y q) (h x) p
   where
-    by_test : (b : Bool) → Has (map g (cond b (x ∷ filter h xs) (filter h xs))) y → Has (map g (x ∷ xs)) y
-    by_test true (inl e) = inl e
-    by_test true (inr q) = inr (has_filtered g h xs y q)
-    by_test false q = inr (has_filtered g h xs y q)
+    by_test : (Has (map g (filter h xs)) y → Has (map g xs) y) → (b : Bool) → Has (map g (cond b (x ∷ filter h xs) (filter h xs))) y → Has (map g (x ∷ xs)) y
+    by_test again true (inl e) = inl e
+    by_test again true (inr q) = inr (again q)
+    by_test again false q = inr (again q)
 
 distinct_filtered : {A B : Type 0} (g : A → B) (h : A → Bool) (xs : List A) → AreDistinct (map g xs) → AreDistinct (map g (filter h xs))
 distinct_filtered g h [] d = tt
-distinct_filtered g h (x ∷ xs) d = by_test (h x)
+distinct_filtered g h (x ∷ xs) d = by_test (distinct_filtered g h xs d.1) (h x)
   where
-    by_test : (b : Bool) → AreDistinct (map g (cond b (x ∷ filter h xs) (filter h xs)))
-    by_test true = ((λ p. d.0 (has_filtered g h xs (g x) p)), distinct_filtered g h xs d.1)
-    by_test false = distinct_filtered g h xs d.1
+    by_test : AreDistinct (map g (filter h xs)) → (b : Bool) → AreDistinct (map g (cond b (x ∷ filter h xs) (filter h xs)))
+    by_test rest true = ((λ p. d.0 (has_filtered g h xs (g x) p)), rest)
+    by_test rest false = rest
 
 -- ---- the newest file of a path
 
@@ -92,7 +92,7 @@ sources_only : (cs : List Change) → AllByRecursion (λ (p : Key × Value). buc
 sources_only [] = tt
 sources_only (c ∷ cs) = (refl, sources_only cs)
 
-path_in : Key → List ℕ
+abbrev path_in : Key → List ℕ
 path_in (key.Source p) = p
 path_in k = []
 
@@ -105,5 +105,21 @@ distinct_keys : (cs : List Change) → AreDistinct (paths_of cs) → AreDistinct
 distinct_keys [] d = tt
 distinct_keys (c ∷ cs) d = ((λ h. d.0 (has_path cs c.path h)), distinct_keys cs d.1)
 
-pub is_commit : (h : Change → Bool) (cs : List Change) → AreDistinct (paths_of cs) → 0 < length (pairs_of_changes (filter h cs)) → IsCommit buck (pairs_of_changes (filter h cs))
-is_commit h cs d some = record { some = some; injected = sources_only (filter h cs); distinct = distinct_keys (filter h cs) (distinct_filtered (λ (c : Change). c.path) h cs d) }
+pub distinct_sources : (g : List (Key × Value)) (cs : List Change) → g ≡ pairs_of_changes cs → AreDistinct (paths_of cs) → AreDistinctSources g
+distinct_sources g cs e d = subst AreDistinctSources (sym e) (record { sources = sources_only cs; distinct = distinct_keys cs d })
+
+all_filtered : {X : Type 0} (P : X → Type 0) (h : X → Bool) (xs : List X) → AllByRecursion P xs → AllByRecursion P (filter h xs)
+all_filtered P h [] a = tt
+all_filtered P h (x ∷ xs) a = by_test (all_filtered P h xs a.1) (h x)
+  where
+    by_test : AllByRecursion P (filter h xs) → (b : Bool) → AllByRecursion P (cond b (x ∷ filter h xs) (filter h xs))
+    by_test rest true = (a.0, rest)
+    by_test rest false = rest
+
+-- distinct sources of which some are left are a commit
+pub commit_of : (g ps : List (Key × Value)) (h : Key × Value → Bool) → AreDistinctSources g → ps ≡ filter h g → 0 < length ps → IsCommit buck ps
+commit_of g ps h d e some = record {
+  some = some;
+  injected = subst (AllByRecursion (λ (p : Key × Value). buck.kind p.0 ≡ Injected)) (sym e) (all_filtered _ h g d.sources);
+  distinct = subst (λ (x : List (Key × Value)). AreDistinct (keys_of x)) (sym e) (distinct_filtered (λ (p : Key × Value). p.0) h g d.distinct);
+}

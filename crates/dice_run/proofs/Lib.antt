@@ -1,2 +1,3 @@
 pub mod Changing
 pub mod Lines
+pub mod Inputs

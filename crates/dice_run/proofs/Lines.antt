@@ -1,5 +1,5 @@
 -- One line of a script more.
-use Rattle.std.proofs.Common.{◌≡◌, ◌≤◌, ◌⊎◌, inl, inr, ℕ, Bool, true, false, cond, nat_eq, List, [], ◌∷◌, ◌++◌, length, map, filter, decimal, codes, Option, Some, None, refl, sym, ap, ◌∙◌, subst, arith, append-nil, append_assoc, length-append}
+use Rattle.std.proofs.Common.{◌≡◌, ◌≤◌, ◌<◌, ◌+◌, zero, suc, drop, get_or, drop-cons, add-one, ◌⊎◌, inl, inr, ℕ, Bool, true, false, cond, nat_eq, List, [], ◌∷◌, ◌++◌, length, map, filter, decimal, codes, Option, Some, None, refl, sym, ap, ◌∙◌, subst, arith, append-nil, append_assoc, length-append}
 use Rattle.std.proofs.lemmas.List.{length-map}
 use Rattle.std.specs.Option.{unwrap_or}
 use Rattle.std.specs.Map.{lookup}
@@ -22,9 +22,9 @@ use Rattle.script.specs.declared.line.Line.TheVariants.{Put, Commit, Open, Ask, 
 use Rattle.script.specs.declared.line.Request.{Request}
 use Rattle.script.specs.Faults.{Past, after, nothing}
 use Rattle.script.specs.Order.{Fits, InOrder}
-use Rattle.script.specs.Plan.{Plan, Change, Wish, Digest, Text, no_plan, planned, plan_from, plan_of, version_of, wanted, differs, committed, with_commit}
+use Rattle.script.specs.Plan.{Plan, Change, Wish, Digest, Text, no_plan, planned, plan_from, plan_of, version_of, wanted, requested, differs, committed, with_commit}
 use Rattle.dice_run.specs.Output.{line, log_of, pair_of_change, pairs_of_changes, key_of, value_lines, IsAnswered, IsPrinted, IsOutputFrom, IsOutput}
-use Rattle.dice_run.specs.Driving.{paths_of, Matches, Drove, Answered, differs_from}
+use Rattle.dice_run.specs.Driving.{paths_of, Matches, Drove, Answered, IsReady, differs_from, with_pairs}
 use Rattle.dice_run.specs.declared.driver.Driver.{Driver}
 use Rattle.dice_run.proofs.Changing.{differing_same}
 
@@ -104,18 +104,19 @@ log_of_more : (xs ys : List (List Change)) → log_of (xs ++ ys) ≡ log_of xs +
 log_of_more xs ys = map-append pairs_of_changes xs ys
 
 log_length : (log : List (List Change)) → length (log_of log) ≡ length log
-log_length log = length-map pairs_of_changes log
+log_length log = length-map log pairs_of_changes
 
 -- ---- commit
 
-committed_log : (log : List (List Change)) (cs : List Change) (C : List (List (Key × Value))) (changes : List (Key × Value)) → C ≡ log_of log → changes ≡ pairs_of_changes cs → 0 < length changes → C ++ changes ∷ [] ≡ log_of (with_commit log cs)
-committed_log log [] C changes e f some = absurd (let z : length changes ≡ 0 = ap length f in omega arith)
-committed_log log (c ∷ cs) C changes e f some =
-    ap (λ (x : List (List (Key × Value))). x ++ changes ∷ []) e ∙ (ap (λ (x : List (Key × Value)). log_of log ++ x ∷ []) f ∙ sym (log_of_more log ((c ∷ cs) ∷ [])))
+with_same : (log : List (List Change)) (cs : List Change) → with_pairs (log_of log) (pairs_of_changes cs) ≡ log_of (with_commit log cs)
+with_same log [] = refl
+with_same log (c ∷ cs) = sym (log_of_more log ((c ∷ cs) ∷ []))
 
-nothing_committed : (log : List (List Change)) (cs : List Change) (C : List (List (Key × Value))) (changes : List (Key × Value)) → C ≡ log_of log → changes ≡ pairs_of_changes cs → length changes ≡ 0 → C ≡ log_of (with_commit log cs)
-nothing_committed log [] C changes e f none = e
-nothing_committed log (c ∷ cs) C changes e f none = absurd (let z : length changes ≡ length (pairs_of_changes (c ∷ cs)) = ap length f in let y : length (pairs_of_changes (c ∷ cs)) ≡ length (pairs_of_changes cs) + 1 = omega arith in omega arith)
+pub committed_same : (d : Driver) (p : Plan) (past : Past) → Matches d p past → with_pairs d.commits (filter (differs_from d.commits) (pairs_of d.gathered.items)) ≡ log_of (committed p.log p.gathered)
+committed_same d p past m =
+    ap (λ (C : List (List (Key × Value))). with_pairs C (filter (differs_from C) (pairs_of d.gathered.items))) m.commits
+    ∙ (ap (λ (g : List (Key × Value)). with_pairs (log_of p.log) (filter (differs_from (log_of p.log)) g)) m.gathered
+    ∙ (ap (with_pairs (log_of p.log)) (differing_same p.log p.gathered) ∙ with_same p.log (filter (differs p.log) p.gathered)))
 
 pub commit_drove : (d e : Driver) (p : Plan) (past : Past) → Matches d p past
     → e.commits ≡ log_of (committed p.log p.gathered) → e.gathered.items ≡ [] → e.versions ≡ d.versions → e.out.items ≡ d.out.items ++ (codes "commit " ++ decimal (length e.commits) ++ 10 ∷ [])
@@ -182,8 +183,8 @@ answered d e p past r w m a more =
     let stable = value_stable key_equal buck (log_of p.log) more a.version within (key_of w) a.value has in
     record { value = a.value; has = subst (λ n. HasValue key_equal buck (log_of p.log ++ more) n (key_of w) a.value) v stable; text_is = ap (λ n. answer_text r n a.value) v }
 
-request_stands : (d e : Driver) (p : Plan) (past : Past) (r : Request) (k : Key) → Matches d p past → Answered d e r k → Matches e p past
-request_stands d e p past r k m a = record {
+request_stands : (d e : Driver) (p : Plan) (past : Past) (r : Request) (w : Wish) (k : Key) → Matches d p past → Answered d e r k → Matches e (requested p (wanted p r w)) (after past (Ask r))
+request_stands d e p past r w k m a = record {
   commits = a.commits ∙ m.commits;
   gathered = ap (λ g. pairs_of g.items) a.gathered ∙ m.gathered;
   versions = λ t. ap (λ v. get (pointwise nat_eq) v t) a.versions ∙ m.versions t;
@@ -197,7 +198,7 @@ ask_drove d e p past r m a = record {
   text = answer_text r a.version a.value;
   out = a.out;
   printed = λ more. answered d e p past r (Digest r.label) m a more;
-  stands = request_stands d e p past r (key.Digest r.label) m a;
+  stands = request_stands d e p past r (Digest r.label) (key.Digest r.label) m a;
 }
 
 pub action_drove : (d e : Driver) (p : Plan) (past : Past) (r : Request) → Matches d p past → Answered d e r (key.Action r.label) → Drove d e p past (Action r)
@@ -205,7 +206,7 @@ action_drove d e p past r m a = record {
   text = answer_text r a.version a.value;
   out = a.out;
   printed = λ more. answered d e p past r (Text r.label) m a more;
-  stands = request_stands d e p past r (key.Action r.label) m a;
+  stands = request_stands d e p past r (Text r.label) (key.Action r.label) m a;
 }
 
 -- ---- the whole script
@@ -243,5 +244,17 @@ going_more lines rest l d e g w =
       goes_on = λ more h. subst (IsOutput lines) (sym (append_assoc d.out.items w.text more) ∙ ap (λ (x : List ℕ). x ++ more) (sym w.out)) (g.goes_on (w.text ++ more) (w.text, more, refl, printed, h));
     }
 
+pub going_ready : (lines rest : List Line) (l : Line) (d : Driver) → Going lines (l ∷ rest) d → IsReady d l
+going_ready lines rest l d g = record { plan = g.plan; past = g.past; stands = g.stands; fits = g.order.0 }
+
 pub going_end : (lines : List Line) (d : Driver) → Going lines [] d → IsOutput lines d.out.items
 going_end lines d g = subst (IsOutput lines) (append-nil d.out.items) (g.goes_on [] refl)
+
+pub drop_item : {X : Type 0} (xs : List X) (k : ℕ) (x : X) → k < length xs → x ≡ get_or xs k x → drop k xs ≡ x ∷ drop (k + 1) xs
+drop_item xs k x h e = drop-cons xs k x h ∙ ap (λ (y : _). y ∷ drop (suc k) xs) (sym e) ∙ ap (λ (n : ℕ). x ∷ drop n xs) (sym (add-one k))
+
+pub drop_whole : {X : Type 0} (xs : List X) (k : ℕ) → length xs ≤ k → drop k xs ≡ []
+drop_whole [] zero h = refl
+drop_whole [] (suc k) h = refl
+drop_whole (x ∷ xs) zero h = absurd (let e : length (x ∷ xs) ≡ suc (length xs) = refl in omega arith)
+drop_whole (x ∷ xs) (suc k) h = drop_whole xs k (let e : length (x ∷ xs) ≡ suc (length xs) = refl in omega arith)

@@ -1,12 +1,15 @@
 -- Where the driver of a script stands.
 use Rattle.std.specs.Prelude.{◌≡◌, ◌≤◌, ℕ, Bool, true, false, not, decimal, nat_eq, List, [], ◌∷◌, ◌++◌, map, length, unwrap_or, Option}
-use Rattle.std.specs.Map.{lookup}
+use Rattle.std.specs.Map.{lookup, keys_of}
+use Rattle.std.specs.List.{AllByRecursion}
+use Rattle.dice_key.specs.declared.universe.Kind.TheVariants.{Injected}
 use Rattle.std.specs.Str.{bytes_eq}
 use Rattle.std.specs.HashMap.{get}
 use Rattle.std.specs.Cmp.Lexicographic.{pointwise}
 use Rattle.dice_model.specs.Log.{pairs_of, input, Has, AreDistinct}
 use Rattle.script.specs.declared.line.Line.{Line}
 use Rattle.script.specs.Faults.{Past, after}
+use Rattle.script.specs.Order.{Fits}
 use Rattle.script.specs.Plan.{Plan, Change, planned, version_of}
 use Rattle.dice_model.specs.Eval.{HasValue}
 use Rattle.action_digest.specs.declared.key.Key.{Key}
@@ -50,3 +53,20 @@ pub record Answered (d e : Driver) (r : Request) (k : Key) : Type 0 where
   pub commits : e.commits ≡ d.commits
   pub gathered : e.gathered ≡ d.gathered
   pub versions : e.versions ≡ d.versions
+
+-- these are pairs of distinct sources
+pub record AreDistinctSources (ps : List (Key × Value)) : Type 0 where
+  pub sources : AllByRecursion (λ (p : Key × Value). buck.kind p.0 ≡ Injected) ps
+  pub distinct : AreDistinct (keys_of ps)
+
+-- a log with one commit more, if it has any pairs
+abbrev pub with_pairs : List (List (Key × Value)) → List (Key × Value) → List (List (Key × Value))
+with_pairs C [] = C
+with_pairs C (q ∷ qs) = C ++ (q ∷ qs) ∷ []
+
+-- the driver stands for a plan, and the line fits what came before it
+pub record IsReady (d : Driver) (l : Line) : Type 0 where
+  pub plan : Plan
+  pub past : Past
+  pub stands : Matches d plan past
+  pub fits : Fits past l

@@ -1,13 +1,20 @@
 //! The driver of a script.
-ghost use Rattle.std.specs.Prelude.{◌≡◌, IfOk, OnOk, filter};
+ghost use Rattle.std.specs.Prelude.{◌≡◌, ◌<◌, ◌++◌, ◌∷◌, [], ℕ, List, Some, IfOk, OnOk, filter, length, codes, decimal, nat_eq, if◌then◌else◌};
+ghost use Rattle.std.specs.HashMap.{get};
+ghost use Rattle.std.specs.Cmp.Lexicographic.{pointwise};
+ghost use Rattle.action_digest.specs.declared.key.Key.TheVariants as key;
+ghost use Rattle.action_digest.specs.declared.value.Value.TheVariants as value;
 ghost use Rattle.std.specs.Arc.{arc_value};
-ghost use Rattle.dice_model.specs.Log.{pairs_of};
+ghost use Rattle.dice_model.specs.Log.{pairs_of, IsCommit};
+ghost use Rattle.action_digest.specs.Buck.{buck};
+ghost use Rattle.action_digest.specs.Same.{key_equal};
+ghost use Rattle.dice_model.specs.Eval.{HasValue};
+ghost use Rattle.std.specs.Option.{unwrap_or};
 ghost use Rattle.script.specs.Faults.{Past};
 ghost use Rattle.script.specs.Order.{Fits};
 ghost use Rattle.script.specs.Plan.{Plan};
-ghost use Rattle.script.specs.declared.line.Line.TheVariants.{Put, Commit, Open, Ask, Action};
-ghost use Rattle.dice_run.specs.Output.{IsOutput};
-ghost use Rattle.dice_run.specs.Driving.{Matches, Drove, Answered, differs_from};
+ghost use Rattle.dice_run.specs.Output.{line, value_lines, IsOutput};
+ghost use Rattle.dice_run.specs.Driving.{Matches, Drove, Answered, AreDistinctSources, IsReady, differs_from, with_pairs};
 
 use crate::append;
 use crate::request::value_lines;
@@ -64,19 +71,24 @@ impl Driver {
 
     /// Carries out a line.
     fn line(&mut self, line: &Line) -> Result<(), NoMemory>
+        requires { IsReady self.old line.now }
         ensures { OnOk result ((p : Plan) (past : Past) → Matches self.old p past → Fits past line.now → Drove self.old self.new p past line.now) }
     {
         match line {
-            Line::Put(path, bytes) => self.put(path, bytes),
-            Line::Commit => self.commit(),
-            Line::Open(name) => self.open(name),
-            Line::Ask(request) => self.ask(request),
-            Line::Action(request) => self.action(request),
+            Line::Put(path, bytes) => self.put(path, bytes)?,
+            Line::Commit => self.commit()?,
+            Line::Open(name) => self.open(name)?,
+            Line::Ask(request) => self.ask(request)?,
+            Line::Action(request) => self.action(request)?,
         }
+        Ok(())
     }
 
     fn put(&mut self, path: &Path, bytes: &Text) -> Result<(), NoMemory>
-        ensures { OnOk result ((p : Plan) (past : Past) → Matches self.old p past → Fits past (Put path.now bytes.now) → Drove self.old self.new p past (Put path.now bytes.now)) }
+        ensures commits { OnOk result (self.new.commits ≡ self.old.commits) }
+        ensures gathered { OnOk result (pairs_of self.new.gathered.items ≡ pairs_of self.old.gathered.items ++ (key.Source path.now, value.Source (Some bytes.now)) ∷ []) }
+        ensures versions { OnOk result (self.new.versions ≡ self.old.versions) }
+        ensures out { OnOk result (self.new.out.items ≡ self.old.out.items) }
     {
         let key = Arc::new(self.alloc, Key::Source(path.try_clone()?))?;
         let value = Arc::new(self.alloc, Value::Source(Some(bytes.try_clone()?)))?;
@@ -85,20 +97,25 @@ impl Driver {
     }
 
     fn commit(&mut self) -> Result<(), NoMemory>
-        ensures { OnOk result ((p : Plan) (past : Past) → Matches self.old p past → Fits past Commit → Drove self.old self.new p past Commit) }
+        requires { AreDistinctSources (pairs_of self.old.gathered.items) }
+        ensures commits { OnOk result (self.new.commits ≡ with_pairs self.old.commits (filter (differs_from self.old.commits) (pairs_of self.old.gathered.items))) }
+        ensures gathered { OnOk result (self.new.gathered.items ≡ []) }
+        ensures versions { OnOk result (self.new.versions ≡ self.old.versions) }
+        ensures out { OnOk result (self.new.out.items ≡ self.old.out.items ++ line (codes "commit " ++ decimal (length self.new.commits))) }
     {
         let gathered = mem::replace(&mut self.gathered, Vec::new(self.alloc));
         let changes = differing(self.alloc, &self.universe, &self.commits, gathered)?;
-        if !changes.is_empty() {
-            self.commits.push(changes)?;
-        }
+        push_some(&mut self.commits, changes)?;
         append::bytes(&mut self.out, b"commit ")?;
         append::number(&mut self.out, self.commits.len() as u64)?;
         append::bytes(&mut self.out, b"\n")
     }
 
     fn open(&mut self, name: &Name) -> Result<(), NoMemory>
-        ensures { OnOk result ((p : Plan) (past : Past) → Matches self.old p past → Fits past (Open name.now) → Drove self.old self.new p past (Open name.now)) }
+        ensures commits { OnOk result (self.new.commits ≡ self.old.commits) }
+        ensures gathered { OnOk result (self.new.gathered ≡ self.old.gathered) }
+        ensures versions { OnOk result ((q : List ℕ) → get (pointwise nat_eq) self.new.versions q ≡ (if pointwise nat_eq name.now q then Some (length self.old.commits) else get (pointwise nat_eq) self.old.versions q)) }
+        ensures out { OnOk result (self.new.out.items ≡ self.old.out.items ++ line (codes "open " ++ name.now ++ 32 ∷ decimal (length self.old.commits))) }
     {
         let version = self.commits.len() as u64;
         self.versions.insert(name.as_text().try_clone()?, version)?;
@@ -110,45 +127,72 @@ impl Driver {
     }
 
     fn ask(&mut self, request: &Request) -> Result<(), NoMemory>
-        ensures { OnOk result ((p : Plan) (past : Past) → Matches self.old p past → Fits past (Ask request.now) → Drove self.old self.new p past (Ask request.now)) }
+        ensures { OnOk result (Answered self.old self.new request.now (key.Digest request.now.label)) }
     {
         let key = Arc::new(self.alloc, Key::Digest(request.label.try_clone()?))?;
         self.answer(request, &key)
     }
 
     fn action(&mut self, request: &Request) -> Result<(), NoMemory>
-        ensures { OnOk result ((p : Plan) (past : Past) → Matches self.old p past → Fits past (Action request.now) → Drove self.old self.new p past (Action request.now)) }
+        ensures { OnOk result (Answered self.old self.new request.now (key.Action request.now.label)) }
     {
         let key = Arc::new(self.alloc, Key::Action(request.label.try_clone()?))?;
         self.answer(request, &key)
     }
 
-    /// Appends the answer to a request: the value of its key at the version of its transaction.
-    fn answer(&mut self, request: &Request, key: &Arc<Key>) -> Result<(), NoMemory>
-        ensures { OnOk result (Answered self.old self.new request.now (arc_value key.now)) }
+    /// The version of an open transaction.
+    fn version_of(&self, transaction: &Text) -> u64
+        ensures { result ≡ unwrap_or (get (pointwise nat_eq) self.now.versions transaction.now) 0 }
     {
-        let version = match self.versions.get(request.transaction.as_text()) {
+        match self.versions.get(transaction) {
             Some(version) => *version,
             None => 0,
-        };
+        }
+    }
+
+    /// The value of a key, by evaluation from nothing.
+    fn value(&self, key: &Arc<Key>, version: u64) -> Result<Arc<Value>, NoMemory>
+        ensures { IfOk result (λ x. HasValue key_equal buck self.now.commits version (arc_value key.now) (arc_value x)) }
+    {
         every_key_has_a_value();
-        let Some(value) = plain(
+        match plain(
             self.alloc,
             &self.universe,
             &self.commits,
             version,
             key,
             DEPTH,
-        )?
-        else {
-            unreachable!()
-        };
-        append::bytes(&mut self.out, request.name.as_bytes())?;
-        append::bytes(&mut self.out, b" ")?;
-        append::number(&mut self.out, version)?;
-        append::bytes(&mut self.out, b" ")?;
-        value_lines(&mut self.out, &value)
+        )? {
+            Some(value) => Ok(value),
+            None => unreachable!(),
+        }
     }
+
+    /// Appends the answer to a request: the value of its key at the version of its transaction.
+    fn answer(&mut self, request: &Request, key: &Arc<Key>) -> Result<(), NoMemory>
+        ensures { OnOk result (Answered self.old self.new request.now (arc_value key.now)) }
+    {
+        let version = self.version_of(request.transaction.as_text());
+        let value = self.value(key, version)?;
+        append_answer(&mut self.out, request.name.as_bytes(), version, &value)?;
+        Ok(())
+    }
+}
+
+/// Appends a request's name, its version and how its value is answered.
+fn append_answer(
+    out: &mut Vec<u8>,
+    name: &[u8],
+    version: u64,
+    value: &Value,
+) -> Result<(), NoMemory>
+    ensures { OnOk result (out.new.items ≡ out.old.items ++ (name.now ++ 32 ∷ decimal version ++ 32 ∷ value_lines value.now)) }
+{
+    append::bytes(out, name)?;
+    append::bytes(out, b" ")?;
+    append::number(out, version)?;
+    append::bytes(out, b" ")?;
+    value_lines(out, value)
 }
 
 /// The changes whose value is not the newest one.
@@ -169,4 +213,15 @@ fn differing(
         }
     }
     Ok(changes)
+}
+
+/// Adds a commit of these changes, if there are any.
+fn push_some(commits: &mut Commits<Buck>, changes: Vec<Change>) -> Result<(), NoMemory>
+    requires { 0 < length (pairs_of changes.items) → IsCommit buck (pairs_of changes.items) }
+    ensures { OnOk result (commits.new ≡ with_pairs commits.old (pairs_of changes.items)) }
+{
+    if changes.is_empty() {
+        return Ok(());
+    }
+    commits.push(changes)
 }

@@ -7,10 +7,9 @@ mod request;
 mod run_of;
 mod status;
 
-pub use dice_io::{Gate, MemorySink, MemorySource, Open, RealSink, RealSource, Sink, Source, SureSink, SureSource};
+pub use dice_io::{
+    Gate, MemorySink, MemorySource, Open, RealSink, RealSource, Sink, Source, SureSink, SureSource,
+};
 pub use driver::drive;
 pub use run_of::run;
 pub use status::Status;
-
-#[cfg(test)]
-mod tests;

@@ -1,6 +1,6 @@
 //! A run, from the words of the command line to a status.
-ghost use Rattle.std.specs.Prelude.{◌≡◌, ◌≢◌, ◌⊎◌, List, [], ℕ, Some, map};
-ghost use Rattle.dice_io.specs.Streams.{Rose, Gained, GainedPart, Unchanged};
+ghost use Rattle.std.specs.Prelude.{◌≡◌, ◌⊎◌, List, [], ℕ, Some, IfOk, map};
+ghost use Rattle.dice_io.specs.Streams.{Rose, Unread, Gained, GainedPart, Unchanged};
 ghost use Rattle.dice_words.specs.Accepted.{IsAccepted};
 ghost use Rattle.script.specs.declared.line.Line.{Line};
 ghost use Rattle.script.specs.Scripts.{IsScript};
@@ -14,7 +14,8 @@ use dice_key::NoMemory;
 use dice_words::{Command, WordsFail, read_words};
 use script::{Script, ScriptRefusal};
 use std::alloc::Global;
-use std::sync::{Threads, Wait};
+use std::sync::Wait;
+use std::thread::Threads;
 
 /// How many bytes are read at most: one more than a script may have.
 const MOST: usize = 4_194_305;
@@ -58,5 +59,31 @@ pub fn run<R: Threads + Wait, S: Source, K: Sink, G: Gate>(
     match write_all(sink, &out) {
         Ok(()) => status,
         Err(_) => Status::WriteFailed,
+    }
+}
+
+/// What is written for an input, and with which status: the output of a script, or the first fault of what is none.
+fn answer(alloc: Global, bytes: &[u8]) -> Result<(Status, Vec<u8>), NoMemory>
+    ensures done { IfOk result (λ a. a.0 ≡ Status.Done → Answers bytes.now a.1.items) }
+    ensures refused { IfOk result (λ a. a.0 ≡ Status.ScriptRefused → Refuses bytes.now a.1.items) }
+    ensures either { IfOk result (λ a. (a.0 ≡ Status.Done) ⊎ (a.0 ≡ Status.ScriptRefused)) }
+{
+    match script::read(alloc, bytes) {
+        Ok(script) => Ok((Status::Done, drive(alloc, &script)?)),
+        Err(ScriptRefusal::TooLong) => {
+            let mut out = Vec::new(alloc);
+            append::bytes(&mut out, b"script too long\n")?;
+            Ok((Status::ScriptRefused, out))
+        }
+        Err(ScriptRefusal::Fault { line, word }) => {
+            let mut out = Vec::new(alloc);
+            append::bytes(&mut out, b"line ")?;
+            append::number(&mut out, line as u64)?;
+            append::bytes(&mut out, b": ")?;
+            append::bytes(&mut out, word.text().as_bytes())?;
+            append::bytes(&mut out, b"\n")?;
+            Ok((Status::ScriptRefused, out))
+        }
+        Err(ScriptRefusal::NoMemory) => Err(NoMemory),
     }
 }
