@@ -1,12 +1,11 @@
 -- What the words of `dice` name.
-use Rattle.std.proofs.Common.{Result, Ok, Err, IsErrAnd, ◌↔◌, cond, ◌≡◌, ◌&&◌, ◌∙◌, Bool, true, false, List, [], ◌∷◌, Option, Some, None, is_some, option_map, codes, refl, sym, ap, if◌then◌else◌}
+use Rattle.std.proofs.Common.{Result, Ok, Err, IsErrAnd, ◌↔◌, cond, ◌≡◌, ◌∙◌, Bool, true, false, List, [], Option, Some, None, is_some, option_map, codes, refl, sym, ap}
 use Rattle.std.specs.Prelude.{Box}
 use Rattle.std.specs.Box.{box_value}
 use Rattle.clap.specs.Words.{App, HasMatchesOf, Text, built, is_simple, subcommand_name_of, subcommand_of, takes}
 use Rattle.clap.specs.Walk.{nothing_held, walk, answers_to}
 use Rattle.clap.specs.Simple.{argument_words, Shape, built_leaf, entered, inherited, label_of, names_of, rows_at, subcommand_rows}
 use Rattle.clap.specs.Faults.{fault_of, is_simple_and_free}
-use Rattle.clap.specs.Takes.{built_takes}
 use Rattle.clap.specs.declared.ArgMatches.{ArgMatches}
 use Rattle.clap.specs.declared.parser.matches.ArgMatches.TheViews.{out-ArgMatches, out-SubCommand}
 use Rattle.clap.specs.declared.parser.matches.SubCommand.{SubCommand}

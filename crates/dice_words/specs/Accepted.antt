@@ -1,6 +1,6 @@
 -- The command line of `dice` in the terms of `clap`: the command, the words that it takes, and which command they name.
-use Rattle.std.specs.Prelude.{◌≡◌, Bool, true, List, Some, codes, option_map}
-use Rattle.clap.specs.Words.{App, Shape, Text, new_app, subcommand_of, takes, with_subcommand}
+use Rattle.std.specs.Prelude.{◌≡◌, true, List, Some, codes, option_map}
+use Rattle.clap.specs.Words.{App, Text, new_app, subcommand_of, takes, with_subcommand}
 use Rattle.dice_words.specs.declared.words.Command.{Command}
 use Rattle.dice_words.specs.declared.words.Command.TheVariants.{Run}
 

@@ -1,23 +1,26 @@
 use crate::{Command, WordsFail, read_words};
 
+fn is_refused(rt: &HostRuntime, words: &[&str]) -> bool {
+    read_words(rt.alloc(), words) == Err(WordsFail::Refused)
+}
+
 #[test]
 fn takes_run_alone(rt: HostRuntime) {
-    let refused = [
-        ["dice"].as_slice(),
-        ["dice", "ran"].as_slice(),
-        ["dice", "run", "x"].as_slice(),
-        ["dice", "run", "run"].as_slice(),
-        ["dice", "--help"].as_slice(),
-        ["dice", "help"].as_slice(),
-        ["dice", "--version"].as_slice(),
-        ["dice", "run", "--help"].as_slice(),
-        ["dice", "bulk", "0"].as_slice(),
-        ["dice", "run", "--workers", "65"].as_slice(),
-        [].as_slice(),
-    ];
-    for words in refused {
-        assert!(rt; read_words(rt.alloc(), words) == Err(WordsFail::Refused));
-    }
     assert!(rt; read_words(rt.alloc(), &["dice", "run"]) == Ok(Command::Run));
     assert!(rt; read_words(rt.alloc(), &["dice", "run", "--"]) == Ok(Command::Run));
+    assert!(rt; is_refused(&rt, &[]));
+    assert!(rt; is_refused(&rt, &["dice"]));
+    assert!(rt; is_refused(&rt, &["dice", "ran"]));
+    assert!(rt; is_refused(&rt, &["dice", "bulk", "0"]));
+    assert!(rt; is_refused(&rt, &["dice", "run", "x"]));
+    assert!(rt; is_refused(&rt, &["dice", "run", "run"]));
+    assert!(rt; is_refused(&rt, &["dice", "run", "--workers", "65"]));
+}
+
+#[test]
+fn refuses_calls_for_help(rt: HostRuntime) {
+    assert!(rt; is_refused(&rt, &["dice", "help"]));
+    assert!(rt; is_refused(&rt, &["dice", "--help"]));
+    assert!(rt; is_refused(&rt, &["dice", "--version"]));
+    assert!(rt; is_refused(&rt, &["dice", "run", "--help"]));
 }
