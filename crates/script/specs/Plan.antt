@@ -1,5 +1,6 @@
 -- What a script asks for: the log of its commits, each transaction's version, and each request's key and version.
-use Rattle.std.specs.Prelude.{ℕ, Bool, true, false, if◌then◌else◌, List, [], ◌∷◌, ◌++◌, length, unwrap_or, Option, Some, None}
+use Rattle.std.specs.Prelude.{ℕ, Bool, true, false, if◌then◌else◌, not, List, [], ◌∷◌, ◌++◌, length, filter, unwrap_or, Option, Some, None}
+use Rattle.std.specs.Option.{option_or}
 use Rattle.std.specs.Map.{lookup}
 use Rattle.std.specs.Str.{bytes_eq}
 use Rattle.script.specs.declared.line.Line.{Line}
@@ -22,8 +23,8 @@ pub record Planned : Type 0 where
   pub wish : Wish
   pub version : ℕ
 
--- the commits that make a version, in order; what was gathered since the last `commit`;
--- each transaction with its version; the requests in order of asking
+-- the commits that make a version, in order; what was put since the last `commit`; each transaction with its version, the
+-- newest first; the requests in order of asking
 pub record Plan : Type 0 where
   pub log : List (List Change)
   pub gathered : List Change
@@ -33,44 +34,53 @@ pub record Plan : Type 0 where
 abbrev pub no_plan : Plan
 no_plan = record { log = []; gathered = []; opened = []; requests = [] }
 
--- a path's bytes after these changes, from what it had before them
-abbrev pub changed_by : List ℕ → List Change → Option (List ℕ) → Option (List ℕ)
-changed_by path [] file = file
-changed_by path (c ∷ cs) file = changed_by path cs (if bytes_eq c.path path then Some c.bytes else file)
+-- the bytes that a commit gives a path; in one commit a path stands once
+abbrev pub bytes_in : List ℕ → List Change → Option (List ℕ)
+bytes_in path [] = None
+bytes_in path (c ∷ cs) = if bytes_eq path c.path then Some c.bytes else bytes_in path cs
 
--- a path's file after a whole log; nothing where it has none
-abbrev pub file_after : List ℕ → List (List Change) → Option (List ℕ) → Option (List ℕ)
-file_after path [] file = file
-file_after path (c ∷ cs) file = file_after path cs (changed_by path c file)
+-- a path's file after a whole log, from the file before it; nothing where it has none
+abbrev pub file_after : List ℕ → Option (List ℕ) → List (List Change) → Option (List ℕ)
+file_after path file [] = file
+file_after path file (c ∷ cs) = file_after path (option_or (bytes_in path c) file) cs
 
 abbrev pub newest : List ℕ → List (List Change) → Option (List ℕ)
-newest path log = file_after path log None
+newest path log = file_after path None log
 
 abbrev pub is_file : Option (List ℕ) → List ℕ → Bool
 is_file None bytes = false
 is_file (Some file) bytes = bytes_eq file bytes
 
--- some change gives a path other bytes than it has
-abbrev pub differs : List (List Change) → List Change → Bool
-differs log [] = false
-differs log (c ∷ cs) = if is_file (newest c.path log) c.bytes then differs log cs else true
+-- the change gives its path other bytes than it has
+abbrev pub differs : List (List Change) → Change → Bool
+differs log c = not (is_file (newest c.path log) c.bytes)
 
--- a commit in which nothing differs adds nothing
+-- a commit with these changes; without any there is none
+abbrev pub with_commit : List (List Change) → List Change → List (List Change)
+with_commit log [] = log
+with_commit log (c ∷ cs) = log ++ (c ∷ cs) ∷ []
+
+-- of what was put, what differs makes a version
 abbrev pub committed : List (List Change) → List Change → List (List Change)
-committed log changes = if differs log changes then log ++ changes ∷ [] else log
+committed log changes = with_commit log (filter (differs log) changes)
 
 abbrev pub version_of : List ℕ → List (List ℕ × ℕ) → ℕ
 version_of t opened = unwrap_or (lookup (bytes_eq t) opened) 0
 
-abbrev pub request : Plan → Request → Wish → Plan
-request p r wish = record p { requests = p.requests ++ record { name = r.name; transaction = r.transaction; wish = wish; version = version_of r.transaction p.opened } ∷ [] }
+-- a request, at the version of its transaction
+abbrev pub wanted : Plan → Request → Wish → Planned
+wanted p r wish = record { name = r.name; transaction = r.transaction; wish = wish; version = version_of r.transaction p.opened }
 
+abbrev pub requested : Plan → Planned → Plan
+requested p r = record p { requests = p.requests ++ r ∷ [] }
+
+-- one line more
 abbrev pub planned : Plan → Line → Plan
 planned p (Put path bytes) = record p { gathered = p.gathered ++ record { path = path; bytes = bytes } ∷ [] }
 planned p Commit = record p { log = committed p.log p.gathered; gathered = [] }
-planned p (Open t) = record p { opened = p.opened ++ (t, length p.log) ∷ [] }
-planned p (Ask r) = request p r (Digest r.label)
-planned p (Action r) = request p r (Text r.label)
+planned p (Open t) = record p { opened = (t, length p.log) ∷ p.opened }
+planned p (Ask r) = requested p (wanted p r (Digest r.label))
+planned p (Action r) = requested p (wanted p r (Text r.label))
 
 abbrev pub plan_from : Plan → List Line → Plan
 plan_from p [] = p
