@@ -1,5 +1,5 @@
 -- Each key has a value, which a depth of five finds.
-use Rattle.std.proofs.Common.{◌≡◌, ℕ, List, Option, Some, None, refl}
+use Rattle.std.proofs.Common.{◌≡◌, ℕ, List, Some, refl}
 use Rattle.dice_model.specs.Log.{input}
 use Rattle.dice_model.specs.Eval.{eval}
 use Rattle.buck_label.specs.Labels.{package_of, target_file_of}

@@ -1,9 +1,9 @@
 -- The laws of the universe.
-use Rattle.std.specs.Prelude.{◌≡◌, ◌≤◌, ℕ, false, List, [], ◌∷◌, length, Some, None, refl}
+use Rattle.std.specs.Prelude.{◌≡◌, ◌≤◌, ℕ, List, [], ◌∷◌, length, Some, refl}
 use Rattle.std.proofs.Common.{arith, sym, ◌∙◌}
-use Rattle.dice_key.specs.Meaning.{Answered, Step, Asks, Ends}
+use Rattle.dice_key.specs.Meaning.{Answered, Asks, Ends}
 use Rattle.dice_key.specs.Lawful.{IsLawful}
-use Rattle.dice_key.specs.declared.universe.Kind.TheVariants.{Injected, Computed, Projection}
+use Rattle.dice_key.specs.declared.universe.Kind.TheVariants.{Projection}
 use Rattle.action_digest.specs.declared.key.Key.{Key}
 use Rattle.action_digest.specs.declared.key.Key.TheVariants as key
 use Rattle.action_digest.specs.declared.value.Value.{Value}

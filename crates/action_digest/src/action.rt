@@ -29,6 +29,6 @@ pub(crate) fn action_text(alloc: Global, target: &Target) -> Result<Text, NoMemo
     text.extend_from_slice(target.out())?;
     text.push(b'\n')?;
     text.extend_from_slice(digest.as_bytes())?;
-    text.push(b'\n')?;
+    text.extend_from_slice(b"\n")?;
     Ok(Text::new(alloc, text)?)
 }

@@ -1,5 +1,5 @@
 -- What was read, and the whole input.
-use Rattle.std.proofs.Common.{◌≡◌, ◌≤◌, ◌<◌, ◌+◌, ◌⊎◌, inl, inr, ℕ, List, [], ◌++◌, length, sym, ap, ◌∙◌, subst, arith, append-nil, length-append}
+use Rattle.std.proofs.Common.{◌≡◌, ◌≤◌, ◌⊎◌, inl, inr, ℕ, List, [], ◌++◌, length, sym, ap, ◌∙◌, subst, arith, append-nil, length-append}
 use Rattle.script.specs.Scripts.{IsScript, IsFirstFault}
 use Rattle.dice_run.specs.Run.{Answers, Refuses, too_long, faulty}
 

@@ -1,5 +1,5 @@
 -- One line of a script more.
-use Rattle.std.proofs.Common.{◌≡◌, ◌≤◌, ◌<◌, ◌+◌, zero, suc, drop, get_or, drop-cons, add-one, ◌⊎◌, inl, inr, ℕ, Bool, true, false, cond, nat_eq, List, [], ◌∷◌, ◌++◌, length, map, filter, decimal, codes, Option, Some, None, refl, sym, ap, ◌∙◌, subst, arith, append-nil, append_assoc, length-append}
+use Rattle.std.proofs.Common.{◌≡◌, ◌≤◌, ◌<◌, ◌+◌, zero, suc, drop, get_or, drop-cons, add-one, ◌⊎◌, inl, inr, ℕ, Bool, true, false, cond, nat_eq, List, [], ◌∷◌, ◌++◌, length, filter, decimal, codes, Option, Some, refl, sym, ap, ◌∙◌, subst, arith, append-nil, append_assoc, length-append}
 use Rattle.std.proofs.lemmas.List.{length-map}
 use Rattle.std.specs.Option.{unwrap_or}
 use Rattle.std.specs.Map.{lookup}
@@ -21,7 +21,7 @@ use Rattle.script.specs.declared.line.Line.{Line}
 use Rattle.script.specs.declared.line.Line.TheVariants.{Put, Commit, Open, Ask, Action}
 use Rattle.script.specs.declared.line.Request.{Request}
 use Rattle.script.specs.Faults.{Past, after, nothing}
-use Rattle.script.specs.Order.{Fits, InOrder}
+use Rattle.script.specs.Order.{InOrder}
 use Rattle.script.specs.Plan.{Plan, Change, Wish, Digest, Text, no_plan, planned, plan_from, plan_of, version_of, wanted, requested, differs, committed, with_commit}
 use Rattle.dice_run.specs.Output.{line, log_of, pair_of_change, pairs_of_changes, key_of, value_lines, IsAnswered, IsPrinted, IsOutputFrom, IsOutput}
 use Rattle.dice_run.specs.Driving.{paths_of, Matches, Drove, Answered, IsReady, differs_from, with_pairs}

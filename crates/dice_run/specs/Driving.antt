@@ -1,5 +1,5 @@
 -- Where the driver of a script stands.
-use Rattle.std.specs.Prelude.{◌≡◌, ◌≤◌, ℕ, Bool, true, false, not, decimal, nat_eq, List, [], ◌∷◌, ◌++◌, map, length, unwrap_or, Option}
+use Rattle.std.specs.Prelude.{◌≡◌, ◌≤◌, ℕ, Bool, false, not, decimal, nat_eq, List, [], ◌∷◌, ◌++◌, map, length, unwrap_or}
 use Rattle.std.specs.Map.{lookup, keys_of}
 use Rattle.std.specs.List.{AllByRecursion}
 use Rattle.dice_key.specs.declared.universe.Kind.TheVariants.{Injected}

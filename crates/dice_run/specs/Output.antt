@@ -1,5 +1,5 @@
 -- The output that stands for a script.
-use Rattle.std.specs.Prelude.{◌≡◌, ℕ, List, [], ◌∷◌, ◌++◌, codes, map, length, decimal, Result, Ok, Err, Some, None}
+use Rattle.std.specs.Prelude.{◌≡◌, ℕ, List, [], ◌∷◌, ◌++◌, codes, map, length, decimal, Result, Ok, Err, Some}
 use Rattle.hex.specs.Hex.{encode_lower}
 use Rattle.buck_label.specs.Labels.{printed_package}
 use Rattle.dice_model.specs.Eval.{HasValue}

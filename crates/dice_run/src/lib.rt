@@ -13,3 +13,6 @@ pub use dice_io::{
 pub use driver::drive;
 pub use run_of::run;
 pub use status::Status;
+
+#[cfg(test)]
+mod tests;

@@ -1,4 +1,4 @@
-use Rattle.std.proofs.Common.{◌≡◌, ◌≤◌, ◌+◌, ◌∙◌, refl, sym, ap, subst, List, [], ◌∷◌, length, drop, arith, rules}
+use Rattle.std.proofs.Common.{◌≡◌, ◌+◌, sym, ap, subst, List, [], ◌∷◌, drop, arith, rules}
 use Rattle.std.specs.Map.{lookup}
 use Rattle.std.specs.Prelude.{nat_eq}
 use Rattle.std.specs.Cmp.Lexicographic.{pointwise}

@@ -1,4 +1,4 @@
-use Rattle.std.proofs.Common.{◌≡◌, ◌∙◌, ◌++◌, sym, ap, subst, List, ℕ, codes, decimal, Err, rules}
+use Rattle.std.proofs.Common.{◌≡◌, ◌++◌, sym, subst, codes, decimal, Err, rules}
 use Rattle.script.specs.Words.{text_of}
 use Rattle.script.specs.Reading.{IsRead}
 use Rattle.script.specs.declared.fault.ScriptRefusal.{ScriptRefusal}

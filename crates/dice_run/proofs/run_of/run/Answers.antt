@@ -1,4 +1,4 @@
-use Rattle.std.proofs.Common.{◌≡◌, ◌∙◌, ◌⊎◌, inl, inr, refl, sym, ap, subst, List, ℕ}
+use Rattle.std.proofs.Common.{inl, inr, refl, subst, List, ℕ}
 use Rattle.dice_io.specs.Streams.{Gained, GainedPart}
 use Rattle.dice_run.specs.Run.{Answers, Refuses, IsWritten}
 use Rattle.dice_run.proofs.Inputs.{answers_all, refuses_all}

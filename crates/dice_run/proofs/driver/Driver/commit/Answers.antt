@@ -1,4 +1,4 @@
-use Rattle.std.proofs.Common.{◌∙◌, ap, rules, filter}
+use Rattle.std.proofs.Common.{rules}
 use Rattle.dice_model.specs.Log.{pairs_of}
 use Rattle.dice_run.specs.Driving.{differs_from}
 use Rattle.dice_run.proofs.Changing.{commit_of}

@@ -1,10 +1,8 @@
-use Rattle.std.proofs.Common.{◌≡◌, ◌∙◌, refl, sym, subst}
-use Rattle.script.specs.Faults.{Past}
+use Rattle.std.proofs.Common.{◌∙◌, refl, sym, subst}
 use Rattle.script.specs.Order.{Fits}
-use Rattle.script.specs.Plan.{Plan}
 use Rattle.script.specs.declared.line.Line.{Line}
 use Rattle.dice_model.specs.Log.{pairs_of}
-use Rattle.dice_run.specs.Driving.{Drove, Matches}
+use Rattle.dice_run.specs.Driving.{Drove}
 use Rattle.dice_run.proofs.Changing.{distinct_sources}
 use Rattle.dice_run.proofs.Lines.{put_drove, commit_drove, committed_same, open_drove, ask_drove, action_drove}
 use Rattle.dice_run.proofs.driver.Driver.line.Goals as goal

@@ -1,0 +1,84 @@
+//! Scripts with their outputs and statuses.
+use crate::{MemorySink, MemorySource, Open, run};
+use dice_io::NoMemory;
+use std::alloc::Global;
+use std::sync::Wait;
+use std::test::Fail;
+use std::thread::Threads;
+
+/// How a run of `dice run` on this script ends: its status, and what the sink holds. Source and sink move 10 bytes a call.
+fn outcome<R: Threads + Wait>(
+    rt: &R,
+    alloc: Global,
+    script: &[u8],
+    read_fails: &[u64],
+    write_fails: &[u64],
+) -> Result<(u8, Vec<u8>), NoMemory> {
+    let words = ["dice", "run"];
+    let bytes = Vec::from_slice(alloc, script)?;
+    let mut source = MemorySource::new(bytes, 10, Vec::from_slice(alloc, read_fails)?);
+    let mut sink = MemorySink::new(alloc, 10, Vec::from_slice(alloc, write_fails)?, 1_000)?;
+    let status = run(rt, alloc, &words, &mut source, &mut sink, &Open);
+    Ok((status.code(), Vec::from_slice(alloc, sink.bytes())?))
+}
+
+const FIRST: &[u8] =
+    b"put a/BUCK 55\nwrite_file(name = \"w\", out = \"w.txt\", content = \"abc\")\n\ncommit\nopen t\naction t r //a:w\n";
+
+const FIRST_OUT: &[u8] =
+    b"commit 1\nopen t 1\nr 1 action 82\nwrite_file\nw.txt\nba7816bf8f01cfea414140de5dae2223b00361a396177a9cb410ff61f20015ad\n";
+
+#[test]
+fn a_program_with_memory_answers_it(rt: HostRuntime) -> Result<(), Fail> {
+    let (status, out) = outcome(&rt, rt.alloc(), FIRST, &[], &[])?;
+    assert!(rt; status == 0 && out.as_slice() == FIRST_OUT);
+    Ok(())
+}
+
+#[test]
+fn scripts_and_their_outputs(rt: HostRuntime) -> Result<(), Fail> {
+    let rows: [(&[u8], u8, &[u8]); 8] = [
+        (b"", 0, b""),
+        (
+            b"open t\nask t r //a:w\n",
+            0,
+            b"open t 0\nr 0 fault no-package //a\n",
+        ),
+        (
+            b"put a/BUCK 23\nwrite_file(name = \"w\")\n\ncommit\nopen t\nask t r //a:w\n",
+            0,
+            b"commit 1\nopen t 1\nr 1 fault bad-file a/BUCK 1\n",
+        ),
+        (
+            b"put a/BUCK 12\nwrite_file(\n\ncommit\nopen t\nask t r //a:w\n",
+            0,
+            b"commit 1\nopen t 1\nr 1 fault bad-file a/BUCK 2\n",
+        ),
+        (
+            b"put a/BUCK 0\n\ncommit\nopen t\nput a/BUCK 0\n\ncommit\nask t r //a\n",
+            0,
+            b"commit 1\nopen t 1\ncommit 1\nr 1 fault no-target //a:a\n",
+        ),
+        (
+            b"put a/BUCK 55\nwrite_file(name = \"w\", out = \"w.txt\", content = \"abc\")\n\ncommit\nopen t\nask t q //a:w\n",
+            0,
+            b"commit 1\nopen t 1\nq 1 72801cd249fb51131b7bbb93151ac0d3277ce1ef6febdf4fdc9f980dbb59266d\n",
+        ),
+        (b"put a/x 5\nabc", 5, b"line 1: count\n"),
+        (b"open t\nwait r\n", 5, b"line 2: word\n"),
+    ];
+    for row in &rows {
+        let (status, out) = outcome(&rt, rt.alloc(), row.0, &[], &[])?;
+        assert!(rt; status == row.1 && out.as_slice() == row.2);
+    }
+    Ok(())
+}
+
+#[test]
+fn failing_reads_and_writes(rt: HostRuntime) -> Result<(), Fail> {
+    let (status, out) = outcome(&rt, rt.alloc(), FIRST, &[1], &[])?;
+    assert!(rt; status == 3 && out.is_empty());
+    let (status, out) = outcome(&rt, rt.alloc(), FIRST, &[], &[1])?;
+    assert!(rt; status == 4 && out.as_slice() == b"commit 1\no".as_slice());
+    Ok(())
+}
