@@ -1,0 +1,10 @@
+//! What a run asked: it is recorded as a trace, and a trace is checked again at another version.
+#![tactic(auto)]
+
+mod check;
+mod recorder;
+mod trace;
+
+pub use check::{Check, Next, copied_keys};
+pub use recorder::Recorder;
+pub use trace::Trace;
