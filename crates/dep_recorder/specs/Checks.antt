@@ -98,4 +98,4 @@ changed_at i ks xs ys = heads (drop i ks) (drop i xs) (drop i ys)
 -- the first change of the first of these batches is at place i
 abbrev pub HasChange : {K V : Type 0} → (V → V → Bool) → List (Answered K V) → List V → ℕ → Type 0
 HasChange eq [] ys i = ⊥
-HasChange eq (b ∷ bs) ys i = (i < length b.keys) × (length ys ≡ length b.keys) × (first_change eq b.keys b.values ys ≡ changed_at i b.keys b.values ys)
+HasChange eq (b ∷ bs) ys i = (i < length b.keys) × (length b.values ≡ length b.keys) × (length ys ≡ length b.keys) × (first_change eq b.keys b.values ys ≡ changed_at i b.keys b.values ys)

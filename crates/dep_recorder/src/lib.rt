@@ -2,9 +2,11 @@
 #![tactic(auto)]
 
 mod check;
+mod laws;
 mod recorder;
 mod trace;
 
 pub use check::{Check, Next, copied_keys};
+pub use laws::{checks_are_exact, recordings_go_with_runs};
 pub use recorder::Recorder;
 pub use trace::Trace;

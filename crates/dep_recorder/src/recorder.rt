@@ -1,9 +1,7 @@
 //! Recording what a run asks.
 ghost use Rattle.std.specs.Prelude.{◌≡◌, ◌≢◌, ◌++◌, ◌∷◌, [], ℕ, List, length, Some, None, OnOk, OnErr};
-ghost use Rattle.std.specs.List.{AllZip};
-ghost use Rattle.dice_key.specs.Meaning.{Asks, Ends};
+ghost use Rattle.dice_key.specs.Meaning.{Ends};
 ghost use Rattle.dice_key.specs.declared.universe.Kind.TheVariants.{Injected};
-ghost use Rattle.dice_model.specs.Eval.{HasValue};
 ghost use Rattle.dice_model.specs.Asks.{Goes, IsTrace};
 ghost use Rattle.dep_recorder.specs.Recordings.{IsWaitingFor, with_answers};
 
@@ -44,7 +42,6 @@ impl<U: Universe> Recorder<U> {
         ensures ok { OnOk result (self.new ≡ record { answered = self.old.answered; asked = Some batch }) }
         ensures err { OnErr result (self.new ≡ self.old) }
     {
-        self.trace.reserve(batch.len())?;
         self.asked = Some(batch);
         Ok(())
     }
@@ -56,7 +53,7 @@ impl<U: Universe> Recorder<U> {
         ensures err { OnErr result (self.new ≡ self.old) }
     {
         if let Some(batch) = &self.asked {
-            self.trace.push(batch.keys(), answers.values())?;
+            self.trace.push(batch, &answers)?;
         }
         self.asked = None;
         Ok(())
@@ -70,9 +67,12 @@ impl<U: Universe> Recorder<U> {
     }
 
     /// The batches with their answers, in order, when each batch is answered.
+    ///
+    /// Of a recorder that went with a run at a version, to its end, this is the run's trace there.
     pub fn finish(self) -> Trace<U>
         requires { self.asked ≡ None }
-        ensures { result ≡ self.answered }
+        ensures all { result ≡ self.answered }
+        ensures trace { (C : List (List (U.Key × U.Value))) (v : ℕ) (k : U.Key) (x : U.Value) → U.meaning.kind k ≢ Injected → Goes U.Key.eq U.meaning C v k [] self.answered → U.meaning.next k self.answered v ≡ Ends x → IsTrace U.Key.eq U.meaning C v k result x }
     {
         self.trace
     }

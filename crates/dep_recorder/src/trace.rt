@@ -1,9 +1,9 @@
 //! Traces: batches with their answers.
-ghost use Rattle.std.specs.Prelude.{◌≡◌, ◌<◌, ◌≤◌, ◌+◌, ◌-◌, ◌++◌, ◌∷◌, [], length, map, take, drop, OnOk, OnErr};
+ghost use Rattle.std.specs.Prelude.{◌≡◌, ◌<◌, ◌≤◌, ◌+◌, ◌-◌, ◌^◌, ◌++◌, ◌∷◌, [], length, map, take, drop, OnOk, OnErr};
 ghost use Rattle.std.specs.Arc.{arc_value};
 ghost use Rattle.dep_recorder.specs.Recordings.{keys_in, values_in, answered_in, begins, RiseTo};
 
-use dice_key::{NoMemory, Universe};
+use dice_key::{Answers, Batch, NoMemory, Universe};
 use std::alloc::Global;
 use std::marker::Model;
 use std::sync::Arc;
@@ -52,32 +52,24 @@ impl<U: Universe> Trace<U> {
         requires { at < length self.now }
         ensures batch { drop at self.now ≡ answered_in result.now ∷ drop (at + 1) self.now }
         ensures some { 0 < length result.now }
+        ensures room { at + 1 < 2 ^ 64 }
     {
         part(&self.pairs, &self.ends, at)
-    }
-
-    /// Makes room for a batch of n keys.
-    pub(crate) fn reserve(&mut self, n: usize) -> Result<(), NoMemory>
-        ensures { self.new ≡ self.old }
-    {
-        self.pairs.reserve(n)?;
-        self.ends.reserve(1)?;
-        Ok(())
     }
 
     /// Adds a batch with its answers. At an error the trace is as before.
     pub(crate) fn push(
         &mut self,
-        keys: &[Arc<U::Key>],
-        values: &[Arc<U::Value>],
+        batch: &Batch<U::Key>,
+        answers: &Answers<U::Value>,
     ) -> Result<(), NoMemory>
-        requires some { 0 < length keys.now }
-        requires counted { length keys.now ≡ length values.now }
-        ensures ok { OnOk result (self.new ≡ self.old ++ record { keys = map arc_value keys.now; values = map arc_value values.now } ∷ []) }
+        requires { length answers.now ≡ length batch.now }
+        ensures ok { OnOk result (self.new ≡ self.old ++ record { keys = batch.now; values = answers.now } ∷ []) }
         ensures err { OnErr result (self.new ≡ self.old) }
     {
+        self.pairs.reserve(batch.len())?;
         self.ends.reserve(1)?;
-        extend(&mut self.pairs, keys, values)?;
+        extend(&mut self.pairs, batch.keys(), answers.values())?;
         self.ends.push(self.pairs.len()).unwrap();
         Ok(())
     }
