@@ -2,7 +2,7 @@
 use Rattle.std.proofs.Common.{◌≡◌, ◌≤◌, inl, inr, ◌⊎◌, ℕ, zero, suc, Bool, true, false, not, ◌&&◌, ◌||◌, refl, ap, arith, List, [], ◌∷◌, length}
 use Rattle.std.specs.Prelude.{take}
 use Rattle.dice_key.specs.Meaning.{Answered}
-use Rattle.dice_model.specs.Asks.{Has}
+use Rattle.dice_model.specs.Log.{Has}
 use Rattle.versioned_graph.specs.Entries.{all_of_batch, all_of}
 
 pub and_both : (a b : Bool) → (a && b) ≡ true → (a ≡ true) × (b ≡ true)

@@ -1,53 +1,14 @@
 -- `finish` keeps what is kept.
-use Rattle.std.proofs.Common.{◌≡◌, ◌≢◌, ◌≤◌, ◌<◌, inl, inr, ℕ, suc, Bool, true, false, not, ◌&&◌, ◌||◌, cond, eqb, leb, List, [], ◌∷◌, ◌++◌, length, Option, Some, None, refl, sym, ap, ◌∙◌, subst, arith, eqb-true, append_assoc, append-nil}
-use Rattle.std.specs.Prelude.{take}
-use Rattle.std.specs.List.{AllZip}
-use Rattle.std.specs.declared.eq.Ordering.{Ordering}
-use Rattle.dice_key.specs.Meaning.{Meaning, Answered, Asks, Ends}
+use Rattle.std.proofs.Common.{◌≡◌, ◌≤◌, inl, inr, ℕ, Bool, true, false, not, ◌&&◌, ◌||◌, cond, nat_eq, nat_le, List, length, Option, Some, None, refl, sym, ap, ◌∙◌, subst, arith, eqb-true}
+use Rattle.dice_key.specs.Meaning.{Meaning, Answered}
 use Rattle.dice_key.specs.Lawful.{IsLawful, AreSame}
-use Rattle.dice_key.specs.declared.universe.Kind.{Kind}
-use Rattle.dice_key.specs.declared.universe.Kind.TheVariants.{Injected, Computed, Projection}
-use Rattle.dice_model.specs.Log.{last_value_of}
 use Rattle.dice_model.specs.Eval.{HasValue}
-use Rattle.dice_model.specs.Asks.{Has, Goes, AsksFor, Reaches, here, through}
-use Rattle.dice_model.proofs.EvalLaws.{one_value}
+use Rattle.dice_model.specs.Asks.{IsTrace}
 use Rattle.dice_model.proofs.Traces.{trace_value}
-use Rattle.dice_model.proofs.Alike.{same_answers}
-use Rattle.versioned_graph.specs.Entries.{Kept, if_injected, all_of, known_by, known, marked, joined, written}
-use Rattle.versioned_graph.specs.Sound.{IsOpenAt, IsTrace, IsTrue, IsTailed, IsRecorded, Holds}
-use Rattle.versioned_graph.proofs.Bools.{and_both, or_either, or_left, or_right, not_true, take_beyond, all_map, HasKey, all_at}
-use Rattle.versioned_graph.proofs.Marks.{marked_true, trace_true}
-
--- an answer to each key, and only one
-zip_same : {K V : Type 0} (R : K → V → Type 0) → ((k : K) (x y : V) → R k x → R k y → x ≡ y) → (ks : List K) (xs ys : List V) → AllZip R ks xs → AllZip R ks ys → xs ≡ ys
-zip_same R u [] [] [] p q = refl
-zip_same R u [] [] (y ∷ ys) p q = absurd q
-zip_same R u [] (x ∷ xs) ys p q = absurd p
-zip_same R u (k ∷ ks) [] ys p q = absurd p
-zip_same R u (k ∷ ks) (x ∷ xs) [] p q = absurd q
-zip_same R u (k ∷ ks) (x ∷ xs) (y ∷ ys) p q = let a = u k x y p.0 q.0 in let b = zip_same R u ks xs ys p.1 q.1 in cc
-
-module _ {K V : Type 0} (eq : K → K → Bool) (m : Meaning K V) (C : List (List (K × V))) (v : ℕ) where
-  -- what is asked stands in the trace
-  asked_from : (k j : K) (x : V) (keys : List K) (before rest went : List (Answered K V)) → Goes eq m C v k before rest → m.next k (before ++ rest) v ≡ Ends x → Goes eq m C v k before went → m.next k (before ++ went) v ≡ Asks keys → Has keys j → HasKey rest j
-  asked_from k j x keys before [] [] g e h a i = let z : Ends x ≡ Asks keys = sym e ∙ a in cc
-  asked_from k j x keys before [] (c ∷ cs) g e h a i = let z : Ends x ≡ Asks c.keys = sym (rw append-nil at e) ∙ h.0 in cc
-  asked_from k j x keys before (b ∷ bs) [] g e h a i =
-      let z : Asks b.keys ≡ Asks keys = sym g.0 ∙ (rw append-nil at a) in
-      let s : b.keys ≡ keys = cc in
-      inl (subst (λ ks. Has ks j) (sym s) i)
-  asked_from k j x keys before (b ∷ bs) (c ∷ cs) g e h a i =
-      let z : Asks b.keys ≡ Asks c.keys = sym g.0 ∙ h.0 in
-      let s : b.keys ≡ c.keys = cc in
-      let t : b.values ≡ c.values = zip_same (HasValue eq m C v) (one_value eq m C v) b.keys b.values c.values g.1 (rw (sym s) at h.1) in
-      let u : c ≡ b = ap (λ ks. record { keys = ks; values = c.values }) (sym s) ∙ ap (λ xs. record { keys = b.keys; values = xs }) (sym t) in
-      inr (asked_from k j x keys (before ++ b ∷ []) bs cs g.2
-      (subst (λ A. m.next k A v ≡ Ends x) (sym (append_assoc before (b ∷ []) bs)) e)
-      (subst (λ d. Goes eq m C v k (before ++ d ∷ []) cs) u h.2)
-      (subst (λ A. m.next k A v ≡ Asks keys) (sym (append_assoc before (b ∷ []) cs)) (subst (λ d. m.next k (before ++ d ∷ cs) v ≡ Asks keys) u a)) i)
-
-  pub asked_in_trace : (k j : K) (x : V) (A : List (Answered K V)) → Goes eq m C v k [] A → m.next k A v ≡ Ends x → AsksFor eq m C v k j → HasKey A j
-  asked_in_trace k j x A g e a = asked_from k j x a.keys [] A a.before g e a.goes a.asks a.among
+use Rattle.versioned_graph.specs.Entries.{Kept, all_of, known, marked, joined, written}
+use Rattle.versioned_graph.specs.Sound.{IsTrue, Holds}
+use Rattle.versioned_graph.proofs.Bools.{and_both, or_either, or_left, or_right, not_true}
+use Rattle.versioned_graph.proofs.Marks.{marked_true}
 
 module _ {K V : Type 0} (eq : K → K → Bool) (m : Meaning K V) (law : IsLawful m) (veq : V → V → Bool) (same : AreSame veq) (C : List (List (K × V))) where
   -- the entry that is written is true, where the new one and the one that was there are
@@ -82,16 +43,16 @@ module _ {K V : Type 0} (eq : K → K → Bool) (m : Meaning K V) (law : IsLawfu
       by_version true = q
       by_version false = p e refl
 
-      by_first : (b : Bool) → (veq e.value n.value && not (m.is_transient e.value)) ≡ b → IsTrue eq m C k (cond b (joined m veq e n) (cond (leb e.version n.version) n e))
-      by_first true h = joined_true k e n (leb e.version n.version) (same e.value n.value (and_both (veq e.value n.value) _ h).0) (not_true (m.is_transient e.value) (and_both (veq e.value n.value) _ h).1) (p e refl) q
-      by_first false h = by_version (leb e.version n.version)
+      by_first : (b : Bool) → (veq e.value n.value && not (m.is_transient e.value)) ≡ b → IsTrue eq m C k (cond b (joined m veq e n) (cond (nat_le e.version n.version) n e))
+      by_first true h = joined_true k e n (nat_le e.version n.version) (same e.value n.value (and_both (veq e.value n.value) _ h).0) (not_true (m.is_transient e.value) (and_both (veq e.value n.value) _ h).1) (p e refl) q
+      by_first false h = by_version (nat_le e.version n.version)
 
   module _ (at : ℕ → K → V) (holds : Holds eq m C at) (es : K → Option (Kept K V)) (true_ones : (k : K) (e : Kept K V) → es k ≡ Some e → IsTrue eq m C k e) where
     -- the new entry is true, however M was cut
     pub new_true : (k : K) (v : ℕ) (x : V) (A : List (Answered K V)) (r : ℕ → Bool) → v ≤ length C → IsTrace eq m C v k A x → ((w : ℕ) → r w ≡ true → marked m veq at es v x A w ≡ true) → r v ≡ true → IsTrue eq m C k (record { value = x; trace = A; ranges = r; version = v })
     new_true k v x A r h t f own = record {
       own = own;
-      single = λ tr w i. elim (or_either (eqb w v) _ (f w i)) as (λ _. w ≡ v) [ inl p ↦ eqb-true w v p | inr q ↦ absurd (let z = not_true (m.is_transient x) (and_both (not (m.is_transient x)) (all_of (known m veq at es v w) A) q).0 in let y : true ≡ false = sym tr ∙ z in cc) ];
+      single = λ tr w i. elim (or_either (nat_eq w v) _ (f w i)) as (λ _. w ≡ v) [ inl p ↦ eqb-true w v p | inr q ↦ absurd (let z = not_true (m.is_transient x) (and_both (not (m.is_transient x)) (all_of (known m veq at es v w) A) q).0 in let y : true ≡ false = sym tr ∙ z in cc) ];
       finished = v;
       before = omega arith;
       within = h;
@@ -99,89 +60,3 @@ module _ {K V : Type 0} (eq : K → K → Bool) (m : Meaning K V) (law : IsLawfu
       same = trace_value eq m C v law k A x t.computed t.goes t.ends;
       holds = λ w i l. marked_true eq m law veq same C at holds es true_ones v k x A t w (f w i) l;
     }
-
-    module _ (Edge : K → K → Type 0) (tailed_ones : (k : K) (e : Kept K V) → es k ≡ Some e → IsTailed eq m C (length C) Edge k e) where
-      -- what is known above the newest version is known from the newest on
-      known_tail : (v w u : ℕ) → v ≤ length C → length C < w → length C ≤ u → (d : K) (a : V) → known m veq at es v w d a ≡ true → known m veq at es v u d a ≡ true
-      known_tail v w u hv hw hu d a e = by_kinds (m.kind d) e
-        where
-          by_entry : (o : Option (Kept K V)) → es d ≡ o → known_by m veq o v a w ≡ true → known_by m veq o v a u ≡ true
-          by_entry None p q = absurd (let z = eqb-true w v q in omega arith)
-          by_entry (Some f) p q = by_eq (veq f.value a) q
-            where
-              by_eq : (b : Bool) → cond b (f.ranges w) (eqb w v) ≡ true → cond b (f.ranges u) (eqb u v) ≡ true
-              by_eq true r = (tailed_ones d f p).tail w r hw u hu
-              by_eq false r = absurd (let z = eqb-true w v r in omega arith)
-
-          by_kinds : (kd : Kind) → if_injected kd (veq (at w d) (at v d)) (known_by m veq (es d) v a w) ≡ true → if_injected kd (veq (at u d) (at v d)) (known_by m veq (es d) v a u) ≡ true
-          by_kinds Injected q =
-              let s : take u C ≡ take w C = take_beyond u C hu ∙ sym (take_beyond w C (omega arith)) in
-              let t : at u d ≡ at w d = holds u d ∙ (ap (last_value_of (eq d) (m.absent d)) s ∙ sym (holds w d)) in
-              rw t q
-          by_kinds Computed q = by_entry (es d) refl q
-          by_kinds Projection q = by_entry (es d) refl q
-
-      -- a dependency that is not injected and is known above the newest version has an open entry
-      known_entry : (v w : ℕ) → v ≤ length C → length C < w → (d : K) (a : V) → m.kind d ≢ Injected → known m veq at es v w d a ≡ true → (f : Kept K V) × (es d ≡ Some f) × IsOpenAt (length C) f.ranges
-      known_entry v w hv hw d a c e = by_kinds (m.kind d) refl e
-        where
-          by_entry : (o : Option (Kept K V)) → es d ≡ o → known_by m veq o v a w ≡ true → (f : Kept K V) × (es d ≡ Some f) × IsOpenAt (length C) f.ranges
-          by_entry None p q = absurd (let z = eqb-true w v q in omega arith)
-          by_entry (Some f) p q = by_eq (veq f.value a) q
-            where
-              by_eq : (b : Bool) → cond b (f.ranges w) (eqb w v) ≡ true → (f : Kept K V) × (es d ≡ Some f) × IsOpenAt (length C) f.ranges
-              by_eq true r = (f, p, (tailed_ones d f p).tail w r hw)
-              by_eq false r = absurd (let z = eqb-true w v r in omega arith)
-
-          by_kinds : (kd : Kind) → m.kind d ≡ kd → if_injected kd (veq (at w d) (at v d)) (known_by m veq (es d) v a w) ≡ true → (f : Kept K V) × (es d ≡ Some f) × IsOpenAt (length C) f.ranges
-          by_kinds Injected p q = absurd (c p)
-          by_kinds Computed p q = by_entry (es d) refl q
-          by_kinds Projection p q = by_entry (es d) refl q
-
-      above : (v w : ℕ) (x : V) (A : List (Answered K V)) → v ≤ length C → length C < w → marked m veq at es v x A w ≡ true → (m.is_transient x ≡ false) × (all_of (known m veq at es v w) A ≡ true)
-      above v w x A hv hw e = elim (or_either (eqb w v) _ e) as (λ _. (m.is_transient x ≡ false) × (all_of (known m veq at es v w) A ≡ true)) [
-        | inl p ↦ absurd (let z = eqb-true w v p in omega arith)
-        | inr q ↦ (let b = and_both (not (m.is_transient x)) (all_of (known m veq at es v w) A) q in (not_true (m.is_transient x) b.0, b.1))
-      ]
-
-      -- the new entry's tail, whole, with its edges recorded
-      pub new_tailed : (k : K) (v : ℕ) (x : V) (A : List (Answered K V)) → v ≤ length C → IsTrace eq m C v k A x
-          → (More : K → K → Type 0) → ((i j : K) → Edge i j → More i j) → (IsOpenAt (length C) (marked m veq at es v x A) → (j : K) → HasKey A j → More j k)
-          → IsTailed eq m C (length C) More k (record { value = x; trace = A; ranges = marked m veq at es v x A; version = v })
-      new_tailed k v x A hv t More more adds = record {
-        tail = λ w h l u i. (let b = above v w x A hv l h in
-            or_right (eqb u v) _ (let s : not (m.is_transient x) ≡ true = rw b.0 refl in rw s (all_map (known m veq at es v w) (known m veq at es v u) A (λ d a e. known_tail v w u hv l i d a e) b.1)));
-        recorded = λ o. at_newest o (above v (suc (length C)) x A hv (omega arith) (o (suc (length C)) (omega arith)));
-      }
-        where
-          N : ℕ
-          N = length C
-
-          at_newest : IsOpenAt N (marked m veq at es v x A) → (m.is_transient x ≡ false) × (all_of (known m veq at es v (suc N)) A ≡ true) → (d : K) → Reaches eq m C N k d → m.kind d ≢ Injected → IsRecorded eq m C (length C) More d
-          at_newest o b d r c =
-              let known_now = all_map (known m veq at es v (suc N)) (known m veq at es v N) A (λ d a e. known_tail v (suc N) N hv (omega arith) (omega arith) d a e) b.1 in
-              let now = same_answers eq m law C C v N k A x t.computed t.goes t.ends b.0 (trace_true eq m law veq same C at holds es true_ones v N (omega arith) k [] A t.goes known_now) in
-              by_chain now r c
-            where
-              by_chain : Goes eq m C N k [] A × (m.next k A N ≡ Ends x) × HasValue eq m C N k x → {d : K} → Reaches eq m C N k d → m.kind d ≢ Injected → IsRecorded eq m C (length C) More d
-              by_chain now here c = record {
-                lasts = λ y i. subst (λ z. m.is_transient z ≡ false) (one_value eq m C N k x y now.2 i) b.0;
-                edges = λ j a. adds o j (asked_in_trace eq m C N k j x A now.0 now.1 a);
-              }
-              by_chain now (through {i = i} a q) c = by_kinds (m.kind i) refl q c
-                where
-                  of_entry : m.kind i ≢ Injected → {d : K} → Reaches eq m C N i d → m.kind d ≢ Injected → IsRecorded eq m C (length C) More d
-                  of_entry ci q c =
-                      let y = all_at (known m veq at es v (suc N)) A i b.1 (asked_in_trace eq m C N k i x A now.0 now.1 a) in
-                      let f = known_entry v (suc N) hv (omega arith) i y.0 ci y.1 in
-                      let g = (tailed_ones i f.0 f.1).recorded f.2 _ q c in
-                      record { lasts = g.lasts; edges = λ j s. more j _ (g.edges j s) }
-
-                  of_injected : m.kind i ≡ Injected → {d : K} → Reaches eq m C N i d → m.kind d ≢ Injected → IsRecorded eq m C (length C) More d
-                  of_injected p here c = absurd (c p)
-                  of_injected p (through a q) c = absurd (a.computed p)
-
-                  by_kinds : (kd : Kind) → m.kind i ≡ kd → {d : K} → Reaches eq m C N i d → m.kind d ≢ Injected → IsRecorded eq m C (length C) More d
-                  by_kinds Injected p q c = of_injected p q c
-                  by_kinds Computed p q c = of_entry (λ h. let z : Computed ≡ Injected = sym p ∙ h in cc) q c
-                  by_kinds Projection p q c = of_entry (λ h. let z : Projection ≡ Injected = sym p ∙ h in cc) q c

@@ -8,12 +8,12 @@ use Rattle.dice_key.specs.declared.universe.Kind.{Kind}
 use Rattle.dice_key.specs.declared.universe.Kind.TheVariants.{Injected, Computed, Projection}
 use Rattle.dice_model.specs.Log.{input}
 use Rattle.dice_model.specs.Eval.{HasValue}
-use Rattle.dice_model.specs.Asks.{Goes}
+use Rattle.dice_model.specs.Asks.{AllTrue, Goes, IsTrace}
 use Rattle.dice_model.proofs.EvalLaws.{one_value}
-use Rattle.dice_model.proofs.Traces.{AllTrue, trace_value}
+use Rattle.dice_model.proofs.Traces.{trace_value}
 use Rattle.dice_model.proofs.Alike.{same_answers}
 use Rattle.versioned_graph.specs.Entries.{Kept, if_injected, all_of_batch, all_of, known_by, known, marked}
-use Rattle.versioned_graph.specs.Sound.{IsTrace, IsTrue, Holds}
+use Rattle.versioned_graph.specs.Sound.{IsTrue, Holds}
 use Rattle.versioned_graph.proofs.Bools.{and_both, or_either, not_true, true_or_false}
 
 module _ {K V : Type 0} (eq : K → K → Bool) (m : Meaning K V) (law : IsLawful m) (veq : V → V → Bool) (same : AreSame veq)
@@ -29,7 +29,7 @@ module _ {K V : Type 0} (eq : K → K → Bool) (m : Meaning K V) (law : IsLawfu
       by_entry None p q = subst (λ n. HasValue eq m C n d a) (sym (eqb-true w v q)) i
       by_entry (Some f) p q = elim (true_or_false (veq f.value a)) as (λ _. HasValue eq m C w d a) [
         | inl t ↦ (let r : f.ranges w ≡ true = rw t at q in subst (HasValue eq m C w d) (same f.value a t) ((true_ones d f p).holds w r h))
-        | inr t ↦ (let r : eqb w v ≡ true = rw t at q in subst (λ n. HasValue eq m C n d a) (sym (eqb-true w v r)) i)
+        | inr t ↦ (let r : nat_eq w v ≡ true = rw t at q in subst (λ n. HasValue eq m C n d a) (sym (eqb-true w v r)) i)
       ]
 
       by_kinds : (kd : Kind) → m.kind d ≡ kd → if_injected kd (veq (at w d) (at v d)) (known_by m veq (es d) v a w) ≡ true → HasValue eq m C w d a
@@ -56,7 +56,7 @@ module _ {K V : Type 0} (eq : K → K → Bool) (m : Meaning K V) (law : IsLawfu
 
   -- M is sound: at each version in it, up to the newest, the key has the finished value
   pub marked_true : (v : ℕ) (k : K) (x : V) (A : List (Answered K V)) → IsTrace eq m C v k A x → (w : ℕ) → marked m veq at es v x A w ≡ true → w ≤ length C → HasValue eq m C w k x
-  marked_true v k x A t w e h = elim (or_either (eqb w v) _ e) as (λ _. HasValue eq m C w k x) [
+  marked_true v k x A t w e h = elim (or_either (nat_eq w v) _ e) as (λ _. HasValue eq m C w k x) [
     | inl p ↦ subst (λ n. HasValue eq m C n k x) (sym (eqb-true w v p)) (trace_value eq m C v law k A x t.computed t.goes t.ends)
     | inr q ↦ (let b = and_both (not (m.is_transient x)) (all_of (known m veq at es v w) A) q in
         (same_answers eq m law C C v w k A x t.computed t.goes t.ends (not_true (m.is_transient x) b.0) (trace_true v w h k [] A t.goes b.1)).2)
