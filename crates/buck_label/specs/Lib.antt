@@ -1,0 +1,5 @@
+pub mod Texts
+pub mod Paths
+pub mod Labels
+pub mod Machine
+pub mod Reading

@@ -1,0 +1,282 @@
+//! Labels.
+ghost use Rattle.std.specs.Prelude.{◌≡◌, ◌↔◌, true, ◌<◌, ◌≤◌, ◌+◌, ◌++◌, ◌∷◌, ℕ, List, IfOk, IfSome, IfNone, IsErrOf, OnOk, take, drop, length};
+ghost use Rattle.buck_label.specs.Paths.{IsPath};
+ghost use Rattle.buck_label.specs.Labels.{Name, IsPackage, IsName, IsLabel, IsLabelIn, IsShort, IsLong, printed, printed_package, package_of, target_of, before_colon, last_from, NoColon, IsPair, IsSomeLabel};
+ghost use Rattle.std.specs.Prelude.{◌≢◌};
+ghost use Rattle.std.specs.List.{AllByRecursion};
+ghost use Rattle.buck_label.specs.Reading.{IsRead};
+ghost use Rattle.std.specs.Prelude.{Some, nat_eq, refl};
+ghost use Rattle.std.specs.Ordering.{nat_cmp};
+ghost use Rattle.std.specs.Cmp.Lexicographic.{pointwise, slice_cmp, nat_list_eq_equiv, nat_list_cmp_total, texts_po, texts_ties};
+ghost use Rattle.std.specs.Cmp.{partial_equiv_from_equiv};
+ghost use Rattle.std.specs.Hash as fed;
+ghost use Rattle.buck_label.specs.Texts.{hash_of, hash_of_equal};
+
+use crate::package::{Package, is_package};
+use crate::path::{Refused, is_path};
+use crate::text::Text;
+use std::alloc::{AllocError, Global};
+use std::cmp::Ordering;
+use std::hash::{Hash, Hasher};
+use std::marker::Model;
+
+/// The label of a target. A contract sees it as the text that it prints, `//PACKAGE:NAME`,
+/// and labels are ordered by the bytes of that text.
+///
+/// The text is kept once, with its hash beside it: a clone copies no byte, and comparing unlike
+/// labels for equality mostly looks at the hashes alone.
+#[derive(Drop)]
+pub struct Label {
+    text: Text,
+    colon: usize,
+}
+
+impl Model for Label {
+    ghost use Rattle.std.specs.Prelude.{◌≡◌, ◌+◌, List, ℕ, length};
+    ghost use Rattle.buck_label.specs.Labels.{Name, IsName, printed};
+
+    ghost Value = { List ℕ };
+
+    ghost view = { λ l. l.text };
+
+    ghost invariant = { λ l. (n : Name) × IsName n × (l.text ≡ printed n) × (l.colon ≡ length n.home + 2) };
+}
+
+/// Where the first colon stands; where there is none, the length.
+fn colon(bytes: &[u8]) -> usize
+    ensures at { result ≡ before_colon bytes.now }
+    ensures fits { result ≤ length bytes.now }
+{
+    for i in 0..bytes.len() {
+        if bytes[i] == b':' {
+            return i;
+        }
+    }
+    bytes.len()
+}
+
+/// What stands before and behind the first colon.
+fn split(bytes: &[u8]) -> Option<(&[u8], &[u8])>
+    ensures some { IfSome result (λ r. (bytes.now ≡ r.0.now ++ 58 ∷ r.1.now) × NoColon r.0.now) }
+    ensures none { IfNone result (NoColon bytes.now) }
+{
+    let at = colon(bytes);
+    if at == bytes.len() {
+        return None;
+    }
+    Some((&bytes[..at], &bytes[at + 1..]))
+}
+
+/// What stands behind the last slash, or all of it.
+fn last(bytes: &[u8]) -> &[u8]
+    ensures { result.now ≡ last_from bytes.now bytes.now }
+{
+    let mut start = 0;
+    for i in 0..bytes.len() {
+        if bytes[i] == b'/' {
+            start = i + 1;
+        }
+    }
+    &bytes[start..]
+}
+
+/// The label of a target of a package.
+fn label_of(alloc: Global, home: &[u8], target: &[u8]) -> Result<Label, AllocError>
+    requires { IsName (record { home = home.now; target = target.now }) }
+    ensures { IfOk result (λ l. l ≡ printed (record { home = home.now; target = target.now })) }
+{
+    let mut text = Vec::from_slice(alloc, b"//")?;
+    text.extend_from_slice(home)?;
+    let colon = text.len();
+    text.push(b':')?;
+    text.extend_from_slice(target)?;
+    let text = Text::new(alloc, text)?;
+    Ok(Label { text, colon })
+}
+
+/// //PACKAGE:NAME, by its two parts.
+fn long(alloc: Global, home: &[u8], target: &[u8]) -> Result<Label, Refused>
+    ensures { IsRead (IsPair home.now target.now) result }
+{
+    if !is_package(home) || !is_path(target) {
+        return Err(Refused::Bad);
+    }
+    Ok(label_of(alloc, home, target)?)
+}
+
+/// //PACKAGE alone.
+fn short(alloc: Global, home: &[u8]) -> Result<Label, Refused>
+    ensures { IsRead (IsShort (47 ∷ 47 ∷ home.now)) result }
+{
+    if !is_path(home) {
+        return Err(Refused::Bad);
+    }
+    Ok(label_of(alloc, home, last(home))?)
+}
+
+/// What stands behind two slashes.
+fn absolute(alloc: Global, rest: &[u8]) -> Result<Label, Refused>
+    ensures { IsRead (IsLabel (47 ∷ 47 ∷ rest.now)) result }
+{
+    match split(rest) {
+        Some((home, target)) => long(alloc, home, target),
+        None => short(alloc, rest),
+    }
+}
+
+impl Label {
+    /// Reads an absolute label, `//PACKAGE:NAME` or `//PACKAGE`: `Bad` exactly where the bytes
+    /// are none.
+    pub fn read(alloc: Global, bytes: &[u8]) -> Result<Label, Refused>
+        ensures { IsRead (IsLabel bytes.now) result }
+    {
+        match bytes {
+            [b'/', b'/', rest @ ..] => absolute(alloc, rest),
+            _ => Err(Refused::Bad),
+        }
+    }
+
+    /// Reads a label that stands in the target file of a package: an absolute one, or `:NAME`.
+    pub fn read_in(alloc: Global, bytes: &[u8], home: &Package) -> Result<Label, Refused>
+        ensures { IsRead (IsLabelIn home.now bytes.now) result }
+    {
+        match bytes {
+            [b':', target @ ..] => long(alloc, home.as_bytes(), target),
+            _ => Label::read(alloc, bytes),
+        }
+    }
+
+    /// The label as it prints, `//PACKAGE:NAME`.
+    pub fn as_bytes(&self) -> &[u8]
+        ensures text { result.now ≡ self.now }
+        ensures printed { (n : Name) × IsName n × (self.now ≡ printed n) }
+    {
+        self.text.as_bytes()
+    }
+
+    /// The label as it prints, in bytes of its own.
+    pub fn print(&self, alloc: Global) -> Result<Vec<u8>, AllocError>
+        ensures { IfOk result (λ v. v.items ≡ self.now) }
+    {
+        Vec::from_slice(alloc, self.as_bytes())
+    }
+
+    /// The bytes of the package: none of the root.
+    pub fn package_bytes(&self) -> &[u8]
+        ensures home { result.now ≡ package_of self.now }
+        ensures is_package { IsPackage result.now }
+    {
+        &self.as_bytes()[2..self.colon]
+    }
+
+    /// The package.
+    pub fn package(&self, alloc: Global) -> Result<Package, AllocError>
+        ensures { IfOk result (λ p. p ≡ package_of self.now) }
+    {
+        Package::of(alloc, self.package_bytes())
+    }
+
+    /// The target's name.
+    pub fn name(&self) -> &[u8]
+        ensures name { result.now ≡ target_of self.now }
+        ensures is_path { IsPath result.now }
+    {
+        &self.as_bytes()[self.colon + 1..]
+    }
+
+    /// The same label again; no byte is copied.
+    pub fn try_clone(&self) -> Result<Label, AllocError>
+        ensures { IfOk result (λ l. l ≡ self.now) }
+    {
+        let text = self.text.try_clone()?;
+        let colon = self.colon;
+        Ok(Label { text, colon })
+    }
+}
+
+/// What prints is read as the same label.
+pub fn printed_is_read()
+    ensures long { (n : Name) → IsName n → IsLabel (printed n) n }
+    ensures only { (text : List ℕ) (m n : Name) → IsLabel text m → IsLabel text n → m ≡ n }
+    ensures parts { (n : Name) → IsName n → (package_of (printed n) ≡ n.home) × (target_of (printed n) ≡ n.target) }
+{}
+
+/// Whether this is an absolute label or :NAME, as written.
+pub fn is_label_text(bytes: &[u8]) -> bool
+    ensures { (result ≡ true) ↔ IsSomeLabel bytes.now }
+{
+    match bytes {
+        [b':', target @ ..] => is_local(target),
+        [b'/', b'/', rest @ ..] => is_absolute(rest),
+        _ => false,
+    }
+}
+
+fn is_local(target: &[u8]) -> bool
+    ensures { (result ≡ true) ↔ IsSomeLabel (58 ∷ target.now) }
+{
+    is_path(target)
+}
+
+fn is_absolute(rest: &[u8]) -> bool
+    ensures { (result ≡ true) ↔ ((n : Name) × IsLabel (47 ∷ 47 ∷ rest.now) n) }
+{
+    match split(rest) {
+        Some((home, target)) => is_package(home) && is_path(target),
+        None => is_path(rest),
+    }
+}
+
+/// A label has at most 513 bytes, and none is a parenthesis.
+pub fn labels_are_short()
+    ensures short { (text : List ℕ) → IsSomeLabel text → length text ≤ 513 }
+    ensures no_close { (text : List ℕ) → IsSomeLabel text → AllByRecursion (λ b. b ≢ 41) text }
+{}
+
+impl PartialEq for Label {
+    ghost eq = { pointwise nat_eq };
+
+    ghost laws = { partial_equiv_from_equiv nat_list_eq_equiv };
+
+    fn eq(&self, other: &Label) -> bool {
+        self.text == other.text
+    }
+}
+
+impl Eq for Label {
+    ghost laws = { nat_list_eq_equiv };
+}
+
+impl PartialOrd for Label {
+    ghost partial_cmp = { λ x y. Some (slice_cmp nat_cmp x y) };
+
+    ghost laws = { texts_po };
+
+    fn partial_cmp(&self, other: &Label) -> Option<Ordering> {
+        Some(self.cmp(other))
+    }
+}
+
+impl Ord for Label {
+    ghost cmp = { slice_cmp nat_cmp };
+
+    ghost total = { nat_list_cmp_total };
+
+    ghost matches_partial_cmp = { λ x y. refl };
+
+    ghost matches_eq = { texts_ties };
+
+    fn cmp(&self, other: &Label) -> Ordering {
+        self.text.cmp(&other.text)
+    }
+}
+
+impl Hash for Label {
+    ghost hash_input = { λ t. fed.u64 (hash_of t) };
+
+    ghost respects_eq = { hash_of_equal };
+
+    fn hash<H: Hasher>(&self, state: &mut H) {
+        self.text.hash(state);
+    }
+}

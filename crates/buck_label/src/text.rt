@@ -1,0 +1,116 @@
+//! Texts that are kept once, with their hash beside them.
+ghost use Rattle.std.specs.Prelude.{◌≡◌, IfOk, Some, nat_eq, refl};
+ghost use Rattle.std.specs.Ordering.{nat_cmp};
+ghost use Rattle.std.specs.Hash as fed;
+ghost use Rattle.std.specs.Cmp.Lexicographic.{pointwise, slice_cmp, nat_list_eq_equiv, nat_list_cmp_total, texts_po, texts_ties};
+ghost use Rattle.std.specs.Cmp.{partial_equiv_from_equiv};
+ghost use Rattle.buck_label.specs.Texts.{hash_of, hash_of_equal};
+
+use std::alloc::{AllocError, Global};
+use std::cmp::Ordering;
+use std::hash::{FoldHasher, Hash, Hasher};
+use std::marker::Model;
+use std::sync::Arc;
+
+/// Bytes that are kept once: another owner of them copies none.
+#[derive(Drop)]
+pub(crate) struct Text {
+    shared: Arc<Hashed>,
+}
+
+#[derive(Drop)]
+struct Hashed {
+    hash: u64,
+    bytes: Vec<u8>,
+}
+
+impl Model for Text {
+    ghost use Rattle.std.specs.Prelude.{◌≡◌, List, ℕ};
+    ghost use Rattle.std.specs.Arc.{arc_value};
+    ghost use Rattle.buck_label.specs.Texts.{hash_of};
+
+    ghost Value = { List ℕ };
+
+    ghost view = { λ t. (arc_value t.shared).bytes.items };
+
+    ghost invariant = { λ t. (arc_value t.shared).hash ≡ hash_of (arc_value t.shared).bytes.items };
+}
+
+fn hash_of(bytes: &[u8]) -> u64
+    ensures { result ≡ hash_of bytes.now }
+{
+    let mut hasher = FoldHasher::default();
+    hasher.write(bytes);
+    hasher.finish()
+}
+
+impl Text {
+    pub(crate) fn new(alloc: Global, bytes: Vec<u8>) -> Result<Text, AllocError>
+        ensures { IfOk result (λ t. t ≡ bytes.items) }
+    {
+        let hash = hash_of(&bytes);
+        let shared = Arc::new(alloc, Hashed { hash, bytes })?;
+        Ok(Text { shared })
+    }
+
+    pub(crate) fn as_bytes(&self) -> &[u8]
+        ensures { result.now ≡ self.now }
+    {
+        self.shared.bytes.as_slice()
+    }
+
+    pub(crate) fn try_clone(&self) -> Result<Text, AllocError>
+        ensures { IfOk result (λ t. t ≡ self.now) }
+    {
+        let shared = Arc::try_clone(&self.shared)?;
+        Ok(Text { shared })
+    }
+}
+
+impl PartialEq for Text {
+    ghost eq = { pointwise nat_eq };
+
+    ghost laws = { partial_equiv_from_equiv nat_list_eq_equiv };
+
+    fn eq(&self, other: &Text) -> bool {
+        self.shared.hash == other.shared.hash && self.shared.bytes == other.shared.bytes
+    }
+}
+
+impl Eq for Text {
+    ghost laws = { nat_list_eq_equiv };
+}
+
+impl PartialOrd for Text {
+    ghost partial_cmp = { λ x y. Some (slice_cmp nat_cmp x y) };
+
+    ghost laws = { texts_po };
+
+    fn partial_cmp(&self, other: &Text) -> Option<Ordering> {
+        Some(self.cmp(other))
+    }
+}
+
+impl Ord for Text {
+    ghost cmp = { slice_cmp nat_cmp };
+
+    ghost total = { nat_list_cmp_total };
+
+    ghost matches_partial_cmp = { λ x y. refl };
+
+    ghost matches_eq = { texts_ties };
+
+    fn cmp(&self, other: &Text) -> Ordering {
+        self.as_bytes().cmp(other.as_bytes())
+    }
+}
+
+impl Hash for Text {
+    ghost hash_input = { λ t. fed.u64 (hash_of t) };
+
+    ghost respects_eq = { hash_of_equal };
+
+    fn hash<H: Hasher>(&self, state: &mut H) {
+        self.shared.hash.hash(state);
+    }
+}

@@ -1,0 +1,13 @@
+//! How often each version is open, and how often an epoch of it began.
+//!
+//! An epoch of a version begins where it goes from no open transaction to one, and ends where the
+//! last one closes.
+#![tactic(auto)]
+
+mod memory;
+mod open_versions;
+#[cfg(test)]
+mod tests;
+
+pub use memory::NoMemory;
+pub use open_versions::{Standing, Tracker};

@@ -1,0 +1,6 @@
+pub mod Bools
+pub mod Ends
+pub mod Appends
+pub mod Merges
+pub mod Searches
+pub mod Canonical

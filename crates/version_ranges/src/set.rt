@@ -1,0 +1,138 @@
+//! A set of versions.
+ghost use Rattle.std.specs.Prelude.{◌≡◌, ℕ, ◌<◌, ◌^◌, true, ◌&&◌, ◌||◌, [], ◌==◌, nat_lt, IfOk, OnOk, OnErr};
+ghost use Rattle.std.specs.Option.{ForSome};
+ghost use Rattle.version_ranges.specs.declared.half_open.Range.{Range};
+ghost use Rattle.version_ranges.specs.Members.{contains, is_in, is_open};
+ghost use Rattle.version_ranges.specs.Order.{IsSeparate};
+
+use crate::half_open::Range;
+use crate::memory::NoMemory;
+use crate::merge::{append, intersection_of, union_of};
+use crate::search::{cut, is_among};
+use std::alloc::Global;
+use std::marker::Model;
+
+/// A set of versions: half-open ranges in rising order that do not touch. The last may be open.
+///
+/// Contracts see the list of the ranges, and speak of its members by `contains`.
+#[derive(Drop)]
+pub struct Ranges {
+    pub(crate) ranges: Vec<Range>,
+}
+
+impl Model for Ranges {
+    ghost use Rattle.std.specs.Prelude.{List};
+    ghost use Rattle.version_ranges.specs.declared.half_open.Range.{Range};
+    ghost use Rattle.version_ranges.specs.Order.{IsSeparate};
+
+    ghost Value = { List Range };
+
+    ghost view = { λ a. a.ranges.items };
+
+    ghost invariant = { λ a. IsSeparate a.ranges.items };
+}
+
+impl Ranges {
+    /// No versions. It takes no memory.
+    pub fn new(alloc: Global) -> Ranges
+        ensures { result ≡ [] }
+    {
+        Ranges {
+            ranges: Vec::new(alloc),
+        }
+    }
+
+    /// All versions.
+    pub fn all(alloc: Global) -> Result<Ranges, NoMemory>
+        ensures { IfOk result (λ r. (w : ℕ) → contains r w ≡ true) }
+    {
+        let mut all = Ranges::new(alloc);
+        all.insert(0, None)?;
+        Ok(all)
+    }
+
+    /// One version. The greatest `u64` is held as an open range, since nothing is above it.
+    pub fn one(alloc: Global, version: u64) -> Result<Ranges, NoMemory>
+        ensures versions { IfOk result (λ r. (w : ℕ) → w < 2 ^ 64 → contains r w ≡ (w == version)) }
+        ensures exact { IfOk result (λ r. version < u64.MAX → (w : ℕ) → contains r w ≡ (w == version)) }
+    {
+        let mut one = Ranges::new(alloc);
+        one.insert(version, version.checked_add(1))?;
+        Ok(one)
+    }
+
+    /// A copy.
+    pub fn try_clone(&self) -> Result<Ranges, NoMemory>
+        ensures { IfOk result (λ r. r ≡ self.now) }
+    {
+        let ranges = Vec::from_slice(*self.ranges.allocator(), &self.ranges)?;
+        Ok(Ranges { ranges })
+    }
+
+    /// The ranges, in rising order.
+    pub fn as_slice(&self) -> &[Range]
+        ensures value { result.now ≡ self.now }
+        ensures separate { IsSeparate self.now }
+    {
+        &self.ranges
+    }
+
+    /// Whether the set has the version. The cost is logarithmic in the number of ranges.
+    pub fn contains(&self, version: u64) -> bool
+        ensures { result ≡ contains self.now version }
+    {
+        is_among(&self.ranges, version)
+    }
+
+    /// Whether the last range has no end.
+    pub fn is_open(&self) -> bool
+        ensures { result ≡ is_open self.now }
+    {
+        match self.ranges.as_slice() {
+            [.., last] => last.to.is_none(),
+            [] => false,
+        }
+    }
+
+    /// Adds the versions from `from` on, up to but not with `to`; without a `to` all from `from` on.
+    ///
+    /// The cost is constant where nothing begins after `from`, and else linear in the number of ranges.
+    pub fn insert(&mut self, from: u64, to: Option<u64>) -> Result<(), NoMemory>
+        requires { ForSome to (λ t. from < t) }
+        ensures ok { OnOk result ((w : ℕ) → contains self.new w ≡ (contains self.old w || is_in (record { from = from; to = to }) w)) }
+        ensures err { OnErr result (self.new ≡ self.old) }
+    {
+        let range = Range { from, to };
+        if let Some(last) = self.ranges.last()
+            && from < last.from
+        {
+            let alloc = *self.ranges.allocator();
+            self.ranges = union_of(alloc, &self.ranges, &[range])?;
+            return Ok(());
+        }
+        append(&mut self.ranges, range)
+    }
+
+    /// The versions of either set.
+    pub fn union(&self, other: &Ranges) -> Result<Ranges, NoMemory>
+        ensures { IfOk result (λ r. (w : ℕ) → contains r w ≡ (contains self.now w || contains other.now w)) }
+    {
+        let ranges = union_of(*self.ranges.allocator(), &self.ranges, &other.ranges)?;
+        Ok(Ranges { ranges })
+    }
+
+    /// The versions of both sets.
+    pub fn intersect(&self, other: &Ranges) -> Result<Ranges, NoMemory>
+        ensures { IfOk result (λ r. (w : ℕ) → contains r w ≡ (contains self.now w && contains other.now w)) }
+    {
+        let ranges = intersection_of(*self.ranges.allocator(), &self.ranges, &other.ranges)?;
+        Ok(Ranges { ranges })
+    }
+
+    /// Keeps exactly the versions below `end`. It takes no memory.
+    pub fn close_at(&mut self, end: u64)
+        ensures { (w : ℕ) → contains self.new w ≡ (contains self.old w && nat_lt w end) }
+    {
+        cut(&mut self.ranges, end);
+    }
+}
