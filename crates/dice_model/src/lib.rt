@@ -8,3 +8,6 @@ mod laws;
 pub use commits::Commits;
 pub use evaluator::plain;
 pub use laws::{same_answers_give_the_value, traces_are_settled, values_are_settled};
+
+#[cfg(test)]
+mod tests;

@@ -1,0 +1,4 @@
+pub mod Tiny
+pub mod Laws
+pub mod Same
+pub mod Fronts
