@@ -1,7 +1,6 @@
 -- M is sound.
-use Rattle.std.proofs.Common.{◌≡◌, ◌≤◌, inl, inr, ℕ, Bool, true, not, eqb, List, [], ◌∷◌, ◌++◌, length, Option, Some, None, refl, sym, ◌∙◌, subst, eqb-true}
+use Rattle.std.proofs.Common.{◌≡◌, ◌≤◌, inl, inr, ℕ, Bool, true, not, nat_eq, List, [], ◌∷◌, ◌++◌, length, Option, Some, None, refl, sym, ◌∙◌, subst, eqb-true}
 use Rattle.std.specs.List.{AllZip}
-use Rattle.std.specs.declared.eq.Ordering.{Ordering}
 use Rattle.dice_key.specs.Meaning.{Meaning, Answered}
 use Rattle.dice_key.specs.Lawful.{IsLawful, AreSame}
 use Rattle.dice_key.specs.declared.universe.Kind.{Kind}
