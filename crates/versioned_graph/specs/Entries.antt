@@ -1,6 +1,8 @@
 -- What the graph keeps of a key, and what a finish makes of it.
 use Rattle.std.specs.Prelude.{ℕ, Bool, true, false, cond, not, ◌&&◌, ◌||◌, nat_eq, nat_le, max, List, [], ◌∷◌, Option, Some, None}
 use Rattle.std.specs.Map.{lookup}
+use Rattle.std.specs.Arc.{arc_value}
+use Rattle.std.specs.declared.sync.Arc.{Arc}
 use Rattle.std.specs.Option.{option_map}
 use Rattle.dice_key.specs.Meaning.{Meaning, Answered}
 use Rattle.dice_key.specs.declared.universe.Kind.{Kind}
@@ -24,6 +26,10 @@ pub record Kept (K V : Type 0) : Type 0 where
 
 abbrev pub kept_of : {K V : Type 0} → Stored K V → Kept K V
 kept_of s = record { value = s.value; trace = s.trace; ranges = contains s.ranges; version = s.version }
+
+-- an entry by its key
+abbrev pub named : {K V A : Type 0} → Arc K A × Stored K V → K × Stored K V
+named e = (arc_value e.0, e.1)
 
 -- the entry of a key
 abbrev pub entry_at : {K V : Type 0} → (K → K → Bool) → List (K × Stored K V) → K → Option (Kept K V)

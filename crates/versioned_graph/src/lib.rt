@@ -1,5 +1,10 @@
 //! Values that were computed, each with the versions at which it is known to hold.
 #![tactic(auto)]
 
-/// Nothing yet.
-pub fn nothing() {}
+mod entry;
+mod found;
+mod graph;
+
+pub use found::{Found, Why};
+pub use graph::Graph;
+
