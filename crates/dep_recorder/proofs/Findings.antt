@@ -23,7 +23,7 @@ take_all zero (x ∷ xs) h = absurd (omega arith)
 take_all (suc n) [] h = refl
 take_all (suc n) (x ∷ xs) h = ap (λ zs. x ∷ zs) (take_all n xs (omega arith))
 
-take_one : {X : Type 0} (n : ℕ) (xs : List X) (x : X) (rest : List X) → drop n xs ≡ x ∷ rest → take (n + 1) xs ≡ take n xs ++ x ∷ []
+pub take_one : {X : Type 0} (n : ℕ) (xs : List X) (x : X) (rest : List X) → drop n xs ≡ x ∷ rest → take (n + 1) xs ≡ take n xs ++ x ∷ []
 take_one n xs x rest e = let s : n + 1 ≡ suc n = omega arith in subst (λ k. take k xs ≡ take n xs ++ x ∷ []) (sym s) (one n xs e)
   where
     one : (m : ℕ) (ys : List _) → drop m ys ≡ x ∷ rest → take (suc m) ys ≡ take m ys ++ x ∷ []

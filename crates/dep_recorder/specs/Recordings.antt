@@ -1,5 +1,5 @@
 -- Traces and recordings, without where they lie in memory.
-use Rattle.std.specs.Prelude.{◌≡◌, ◌<◌, ◌-◌, ℕ, List, [], ◌∷◌, ◌++◌, map, take, drop, length, Option, Some, None}
+use Rattle.std.specs.Prelude.{◌≡◌, Bool, true, false, ◌&&◌, ◌<◌, ◌-◌, ℕ, List, [], ◌∷◌, ◌++◌, map, take, drop, length, Option, Some, None}
 use Rattle.std.proofs.Common.{zero, suc}
 use Rattle.std.specs.Arc.{arc_value}
 use Rattle.std.specs.declared.sync.Arc.{Arc}
@@ -14,6 +14,13 @@ values_in ps = map (λ p. arc_value p.1) ps
 
 abbrev pub answered_in : {K V A B : Type 0} → List (Arc K A × Arc V B) → Answered K V
 answered_in ps = record { keys = keys_in ps; values = values_in ps }
+
+-- pairs of equal keys and equal values, in one order
+abbrev pub same_pairs : {K V A B : Type 0} → (K → K → Bool) → (V → V → Bool) → List (Arc K A × Arc V B) → List (Arc K A × Arc V B) → Bool
+same_pairs f g [] [] = true
+same_pairs f g [] (q ∷ qs) = false
+same_pairs f g (p ∷ ps) [] = false
+same_pairs f g (p ∷ ps) (q ∷ qs) = (f (arc_value p.0) (arc_value q.0) && g (arc_value p.1) (arc_value q.1)) && same_pairs f g ps qs
 
 -- keys and values in one row each are parted into batches: the first begins at `start`, each ends where the next begins
 abbrev pub parted : {K V : Type 0} → List K → List V → ℕ → List ℕ → List (Answered K V)

@@ -11,6 +11,7 @@ use std::marker::Model;
 use std::sync::Arc;
 
 /// What a check needs or finds.
+#[derive(Drop)]
 pub enum Next<'a, K, V> {
     /// The answers to the keys of this batch, each beside its answer in the trace.
     Want(&'a [(Arc<K>, Arc<V>)]),

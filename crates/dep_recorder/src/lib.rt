@@ -4,6 +4,9 @@
 mod check;
 mod laws;
 mod recorder;
+mod same;
+#[cfg(test)]
+mod tests;
 mod trace;
 
 pub use check::{Check, Next, copied_keys};

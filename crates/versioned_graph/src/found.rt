@@ -13,6 +13,7 @@ pub enum Why {
 }
 
 /// What a look-up answers. The version beside an entry's value is the greatest at which it was finished or seen.
+#[derive(Drop)]
 pub enum Found<'a, U: Universe> {
     /// The value at the version asked for.
     Match(&'a Arc<U::Value>, u64),
