@@ -1,0 +1,37 @@
+-- A key that is not there gets an empty history with room for a set.
+use Rattle.std.proofs.Common.{◌≡◌, ◌<◌, ◌-◌, ◌∙◌, None, Some, Bool, true, false, Option, IsSome, ap, sym, subst, refl, map, vec_len, vec_capacity, arith, is_some}
+use Rattle.std.specs.Arc.{arc_value}
+use Rattle.std.specs.Map.{lookup}
+use Rattle.injected.specs.History.{sets_of}
+use Rattle.injected.specs.Seen.{named, cell_of, sets_in}
+use Rattle.injected.proofs.Maps.{writes_at, writes_as, cell_is, sets_unknown, some_known}
+use Rattle.injected.proofs.store.make_room.Goals as goal
+
+none_of : {X : Type 0} (o : Option X) → is_some o ≡ false → o ≡ None
+none_of None e = refl
+none_of (Some x) e = cc
+
+some_of : {X : Type 0} (o : Option X) → is_some o ≡ true → IsSome o
+some_of None e = cc
+some_of (Some x) e = refl
+
+pub reserve_more-requires : goal.reserve_more-requires
+reserve_more-requires g c =
+    let eq = g.K.PartialEq.eq in
+    let k = arc_value c.args.key in
+    let found : is_some (lookup (λ y. eq k (arc_value y)) c.args.histories.now.entries) ≡ true = sym c.contains_key.ensures ∙ c.if-contains_key.true in
+    some_known eq k c.args.histories.now.entries (some_of (lookup (λ y. eq k (arc_value y)) c.args.histories.now.entries) found)
+
+pub returns-clause-ok : goal.returns-clause-ok
+returns-clause-ok g c =
+    let eq = g.K.PartialEq.eq in
+    let k = arc_value c.args.key in
+    let es = c.args.histories.now.entries in
+    let fs = c.insert.new.self.entries in
+    let f = c.in_ok-sets.sets in
+    let none : lookup (λ y. eq k (arc_value y)) es ≡ None = none_of (lookup (λ y. eq k (arc_value y)) es) (sym c.contains_key.ensures ∙ c.if-contains_key.false) in
+    let sets : sets_of f.items ≡ sets_in (lookup (eq k) (map named es)) = ap sets_of c.in_ok-sets.ensures.items ∙ sym (sets_unknown eq k es none) in (
+      vec_capacity f - vec_len f,
+      omega (arith, c.in_ok-sets.ensures.capacity, c.in_ok-sets.ensures.len),
+      writes_as eq k (map named es) (map named fs) (cell_of f) _ (cell_is (cell_of f) (vec_capacity f - vec_len f) (sets_in (lookup (eq k) (map named es))) refl sets) (writes_at eq k c.args.key es fs f c.in_ok-insert.ensures.updates.0),
+    )
