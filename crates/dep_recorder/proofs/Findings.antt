@@ -140,8 +140,7 @@ module _ {K V : Type 0} (eq : V → V → Bool) (law : IsEquality eq) where
   change_found n i T b rest ys d x y e h c =
       let g : HasChange eq (b ∷ rest) ys i = subst (λ bs. HasChange eq bs ys i) e h in
       let f : first_change eq b.keys b.values ys ≡ Some (d, x, y) = g.3 ∙ c in
-      let p = change_parts b.keys b.values ys d x y f in
-      (
+      let p = change_parts b.keys b.values ys d x y f in (
         finding_on n T (ys ∷ []) ∙ (ap (λ bs. finding eq bs (ys ∷ [])) e ∙ ap (change_or eq (finding eq rest [])) f),
         record {
           before = take n T;

@@ -90,8 +90,8 @@ part_of {K} {V} {A} {B} ps qs part es fs at T v p f e h =
     let b : part ≡ take (begins 0 es (at + 1) - begins 0 es at) (drop (begins 0 es at) ps) = e ∙ (λ i. take (begins 0 (f i) (at + 1) - begins 0 (f i) at) (drop (begins 0 (f i) at) (p i))) in
     let n : suc at ≡ at + 1 = omega arith in
     let d : drop at (parted (keys_in ps) (values_in ps) 0 es) ≡ answered_in part ∷ drop (at + 1) (parted (keys_in ps) (values_in ps) 0 es)
-        = subst (λ k. drop at (parted (keys_in ps) (values_in ps) 0 es) ≡ record { keys = take (begins 0 es k - begins 0 es at) (drop (begins 0 es at) (keys_in ps)); values = take (begins 0 es k - begins 0 es at) (drop (begins 0 es at) (values_in ps)) } ∷ drop k (parted (keys_in ps) (values_in ps) 0 es)) n (parted_drop (keys_in ps) (values_in ps) 0 at es h)
-        ∙ ap (λ a. a ∷ drop (at + 1) (parted (keys_in ps) (values_in ps) 0 es)) (λ i. record { keys = sym (mapped (λ p. arc_value p.0) b) i; values = sym (mapped (λ p. arc_value p.1) b) i }) in
+    = subst (λ k. drop at (parted (keys_in ps) (values_in ps) 0 es) ≡ record { keys = take (begins 0 es k - begins 0 es at) (drop (begins 0 es at) (keys_in ps)); values = take (begins 0 es k - begins 0 es at) (drop (begins 0 es at) (values_in ps)) } ∷ drop k (parted (keys_in ps) (values_in ps) 0 es)) n (parted_drop (keys_in ps) (values_in ps) 0 at es h)
+    ∙ ap (λ a. a ∷ drop (at + 1) (parted (keys_in ps) (values_in ps) 0 es)) (λ i. record { keys = sym (mapped (λ p. arc_value p.0) b) i; values = sym (mapped (λ p. arc_value p.1) b) i }) in
     subst (λ S. drop at S ≡ answered_in part ∷ drop (at + 1) S) v d
   where
     mapped : {X : Type 0} (f : Arc K A × Arc V B → X) → part ≡ take (begins 0 es (at + 1) - begins 0 es at) (drop (begins 0 es at) ps) → map f part ≡ take (begins 0 es (at + 1) - begins 0 es at) (drop (begins 0 es at) (map f ps))

@@ -16,11 +16,7 @@ fn answer_of(alloc: Global, number: u64) -> Result<Answers<Value>, NoMemory>
     Ok(answers)
 }
 
-fn two_answers_of(
-    alloc: Global,
-    first: u64,
-    second: u64,
-) -> Result<Answers<Value>, NoMemory>
+fn two_answers_of(alloc: Global, first: u64, second: u64) -> Result<Answers<Value>, NoMemory>
     ensures { IfOk result (λ a. length a ≡ 2) }
 {
     let mut answers = answer_of(alloc, first)?;
@@ -108,10 +104,22 @@ fn a_check_goes_from_batch_to_batch_up_to_the_first_change(rt: HostRuntime) -> R
     let number = |n| Value::Number(n);
     let rows = [
         (5, None, State::Wants(Place::Cell(2), 2)),
-        (6, None, State::Changed(Place::Cell(1), number(5), number(6))),
+        (
+            6,
+            None,
+            State::Changed(Place::Cell(1), number(5), number(6)),
+        ),
         (5, Some((7, 9)), State::Same),
-        (5, Some((8, 10)), State::Changed(Place::Cell(2), number(7), number(8))),
-        (5, Some((7, 10)), State::Changed(Place::Cell(3), number(9), number(10))),
+        (
+            5,
+            Some((8, 10)),
+            State::Changed(Place::Cell(2), number(7), number(8)),
+        ),
+        (
+            5,
+            Some((7, 10)),
+            State::Changed(Place::Cell(3), number(9), number(10)),
+        ),
     ];
     for (first, rest, want) in rows {
         let mut check = Check::new(Arc::try_clone(&trace)?);

@@ -1,13 +1,15 @@
 -- `finish` keeps what is kept.
-use Rattle.std.proofs.Common.{◌≡◌, ◌≤◌, inl, inr, ℕ, Bool, true, false, not, ◌&&◌, ◌||◌, cond, nat_eq, nat_le, List, length, Option, Some, None, refl, sym, ap, ◌∙◌, subst, arith, eqb-true}
+use Rattle.std.proofs.Common.{◌≡◌, ◌≤◌, inl, inr, ℕ, Bool, true, false, not, ◌&&◌, ◌||◌, cond, nat_eq, nat_le, List, length, Option, Some, None, refl, sym, ap, ◌∙◌, subst, arith, eqb-true, leb-true}
+use Rattle.std.proofs.lemmas.Bool.{le-leb}
+use Rattle.std.proofs.lemmas.Option.{same_Some}
 use Rattle.dice_key.specs.Meaning.{Meaning, Answered}
 use Rattle.dice_key.specs.Lawful.{IsLawful, AreSame}
 use Rattle.dice_model.specs.Eval.{HasValue}
 use Rattle.dice_model.specs.Asks.{IsTrace}
 use Rattle.dice_model.proofs.Traces.{trace_value}
-use Rattle.versioned_graph.specs.Entries.{Kept, all_of, known, marked, joined, written}
-use Rattle.versioned_graph.specs.Sound.{IsTrue, Holds}
-use Rattle.versioned_graph.proofs.Bools.{and_both, or_either, or_left, or_right, not_true}
+use Rattle.versioned_graph.specs.Entries.{Kept, Stored, entry_at, all_of, known, marked, joined, finished, written}
+use Rattle.versioned_graph.specs.Sound.{IsTrue, IsClosed, AreTrue, Holds}
+use Rattle.versioned_graph.proofs.Bools.{and_both, or_either, both_and, or_left, or_right, not_true}
 use Rattle.versioned_graph.proofs.Marks.{marked_true}
 
 module _ {K V : Type 0} (eq : K → K → Bool) (m : Meaning K V) (law : IsLawful m) (veq : V → V → Bool) (same : AreSame veq) (C : List (List (K × V))) where
@@ -60,3 +62,38 @@ module _ {K V : Type 0} (eq : K → K → Bool) (m : Meaning K V) (law : IsLawfu
       same = trace_value eq m C v law k A x t.computed t.goes t.ends;
       holds = λ w i l. marked_true eq m law veq same C at holds es true_ones v k x A t w (f w i) l;
     }
+
+module _ {K V : Type 0} (eq : K → K → Bool) (m : Meaning K V) (law : IsLawful m) (veq : V → V → Bool) (same : AreSame veq) (C : List (List (K × V))) (at : ℕ → K → V) (holds : Holds eq m C at) (es : List (K × Stored K V)) (true_ones : AreTrue eq m C es)
+    (k : K) (v : ℕ) (x : V) (A : List (Answered K V)) (last : ℕ) (newest : last ≡ length C) (within : v ≤ length C) (trace : IsTrace eq m C v k A x) where
+  abbrev pub n : Kept K V
+  n = finished m veq at last (entry_at eq es) v x A
+
+  finished_true : IsTrue eq m C k n
+  finished_true = new_true eq m law veq same C at holds (entry_at eq es) (λ j e h. (true_ones j e h).0) k v x A (λ w. marked m veq at (entry_at eq es) v x A w && nat_le w last) within trace
+      (λ w h. (and_both (marked m veq at (entry_at eq es) v x A w) (nat_le w last) h).0)
+      (both_and (marked m veq at (entry_at eq es) v x A v) (nat_le v last) (or_left (nat_eq v v) (not (m.is_transient x) && all_of (known m veq at (entry_at eq es) v v) A) (itself v)) (le-leb v last (omega arith)))
+    where
+      itself : (i : ℕ) → nat_eq i i ≡ true
+      itself i = omega arith
+
+  finished_closed : IsClosed eq m C n
+  finished_closed w h = let l = leb-true w last (and_both (marked m veq at (entry_at eq es) v x A w) (nat_le w last) h).1 in omega arith
+
+  written_closed : (o : Option (Kept K V)) → ((e : Kept K V) → o ≡ Some e → IsClosed eq m C e) → IsClosed eq m C (written m veq o n)
+  written_closed None p = finished_closed
+  written_closed (Some e) p = by_first (veq e.value x && not (m.is_transient e.value))
+    where
+      by_version : (b : Bool) → IsClosed eq m C (cond b n e)
+      by_version true = finished_closed
+      by_version false = p e refl
+
+      by_first : (b : Bool) → IsClosed eq m C (cond b (joined m veq e n) (cond (nat_le e.version v) n e))
+      by_first true = λ w h. elim (or_either (e.ranges w) (n.ranges w) h) as (λ _. w ≤ length C) [ inl i ↦ p e refl w i | inr i ↦ finished_closed w i ]
+      by_first false = by_version (nat_le e.version v)
+
+  -- what stands after a finish is true
+  pub finish_true : (e : Kept K V) → Some (written m veq (entry_at eq es k) n) ≡ Some e → IsTrue eq m C k e × IsClosed eq m C e
+  finish_true e h = subst (λ z. IsTrue eq m C k z × IsClosed eq m C z) (same_Some _ _ h) (
+    written_true eq m law veq same C k (entry_at eq es k) n (λ f p. (true_ones k f p).0) finished_true,
+    written_closed (entry_at eq es k) (λ f p. (true_ones k f p).1),
+  )

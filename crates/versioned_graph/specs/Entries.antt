@@ -72,6 +72,10 @@ module _ {K V : Type 0} (m : Meaning K V) (veq : V → V → Bool) where
   abbrev pub marked : (ℕ → K → V) → (K → Option (Kept K V)) → ℕ → V → List (Answered K V) → ℕ → Bool
   marked at es v x A w = nat_eq w v || (not (m.is_transient x) && all_of (known at es v w) A)
 
+  -- the entry that a finish at v with value x and trace A makes, where `last` is the newest version
+  abbrev pub finished : (ℕ → K → V) → ℕ → (K → Option (Kept K V)) → ℕ → V → List (Answered K V) → Kept K V
+  finished at last es v x A = record { value = x; trace = A; ranges = λ w. marked at es v x A w && nat_le w last; version = v }
+
   -- an entry with the ranges of a new one of the same value, and with its trace and version where they are not older
   abbrev pub joined : Kept K V → Kept K V → Kept K V
   joined e n = record {

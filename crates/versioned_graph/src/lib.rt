@@ -2,8 +2,10 @@
 #![tactic(auto)]
 
 mod entry;
+mod finish;
 mod found;
 mod graph;
+mod marks;
 
 pub use found::{Found, Why};
 pub use graph::Graph;

@@ -34,7 +34,8 @@ impl<U: Universe> Graph<U> {
         } else {
             self.known_of_all(cells, version, trace)?
         };
-        add(&mut ranges, version)?;
+        let next = Some(version + 1);
+        ranges.insert(version, next).map_err(|_| NoMemory)?;
         ranges.close_at(cells.last() + 1);
         Ok(ranges)
     }
@@ -49,7 +50,7 @@ impl<U: Universe> Graph<U> {
         requires { version < u64.MAX }
         ensures { IfOk result (λ r. (w : ℕ) → contains r w ≡ all_of (known U.meaning U.Value.eq (cell_at U.Key.eq U.meaning cells.now) (entry_at U.Key.eq self.now) version w) trace.now) }
     {
-        let mut ranges = all(self.alloc)?;
+        let mut ranges = Ranges::all(self.alloc).map_err(|_| NoMemory)?;
         for i in 0..trace.len() {
             ranges = self.known_of_batch(cells, version, trace.batch(i), ranges)?;
         }
@@ -108,7 +109,10 @@ fn known_by_entry<U: Universe>(
 {
     match entry {
         Some(entry) if *entry.value == **answer => both(ranges, &entry.ranges),
-        _ => both(ranges, &one(alloc, version)?),
+        _ => {
+            let alone = Ranges::one(alloc, version).map_err(|_| NoMemory)?;
+            both(ranges, &alone)
+        }
     }
 }
 
@@ -116,8 +120,5 @@ fn known_by_entry<U: Universe>(
 fn both(a: &Ranges, b: &Ranges) -> Result<Ranges, NoMemory>
     ensures { IfOk result (λ r. (w : ℕ) → contains r w ≡ (contains a.now w && contains b.now w)) }
 {
-    match a.intersect(b) {
-        Ok(common) => Ok(common),
-        Err(_) => Err(NoMemory),
-    }
+    a.intersect(b).map_err(|_| NoMemory)
 }

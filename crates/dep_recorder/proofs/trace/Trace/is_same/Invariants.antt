@@ -1,5 +1,5 @@
 use Rattle.std.proofs.Common.{◌≡◌, take}
-use Rattle.dep_recorder.proofs.same.Trace.is_same.Given as goal
+use Rattle.dep_recorder.proofs.trace.Trace.is_same.Given as goal
 
 -- the batches so far are the same
 abbrev pub invariant-loop-i : goal.invariant-loop-i
