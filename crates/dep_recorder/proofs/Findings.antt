@@ -1,6 +1,6 @@
 -- What a check finds, as it is kept.
-use Rattle.std.proofs.Common.{◌≡◌, ◌≢◌, ◌≤◌, ◌<◌, ◌+◌, ℕ, zero, suc, Bool, true, false, cond, List, [], ◌∷◌, ◌++◌, length, map, take, drop, get_or, Option, Some, None, refl, sym, ap, ◌∙◌, subst, arith, append_assoc, append-nil, length-append}
-use Rattle.std.specs.Prelude.{option_to_list, IfSome}
+use Rattle.std.proofs.Common.{◌≡◌, ◌≢◌, ◌≤◌, ◌<◌, ◌+◌, ℕ, zero, suc, Bool, true, false, cond, List, [], ◌∷◌, ◌++◌, length, map, take, drop, get_or, Option, Some, None, refl, sym, ap, ◌∙◌, subst, arith, append-nil}
+use Rattle.std.specs.Prelude.{IfSome}
 use Rattle.std.specs.Option.{option_map}
 use Rattle.std.specs.Arc.{arc_value}
 use Rattle.std.specs.declared.sync.Arc.{Arc}
@@ -9,7 +9,7 @@ use Rattle.std.proofs.lemmas.Option.{same_Some, none-some}
 use Rattle.std.proofs.lemmas.List.{take-append-drop, map-append, length-map}
 use Rattle.dice_key.specs.Meaning.{Answered}
 use Rattle.dice_key.specs.Lawful.{IsEquality}
-use Rattle.dep_recorder.specs.Checks.{Finding, Wants, IsSame, HasChanged, finding, first_change, change_or, values_of, IsFirstChange, IsNextBatch, Checked, IsWantingOf, fed_so_far, heads, changed_at, HasChange}
+use Rattle.dep_recorder.specs.Checks.{Finding, Wants, IsSame, HasChanged, finding, first_change, change_or, values_of, IsFirstChange, IsNextBatch, Checked, IsWantingOf, fed_so_far, changed_at, HasChange}
 
 drop_all : {X : Type 0} (n : ℕ) (xs : List X) → length xs ≤ n → drop n xs ≡ []
 drop_all zero [] h = refl

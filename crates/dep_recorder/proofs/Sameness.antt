@@ -1,11 +1,11 @@
 -- Pairs of equal keys and values.
-use Rattle.std.proofs.Common.{◌≡◌, ◌≢◌, ◌≤◌, ◌<◌, ◌+◌, ℕ, zero, suc, Bool, true, false, ◌&&◌, List, [], ◌∷◌, ◌++◌, length, map, take, drop, get_or, refl, sym, ap, ◌∙◌, subst, arith}
+use Rattle.std.proofs.Common.{◌≡◌, ◌≢◌, ◌<◌, ◌+◌, ℕ, zero, suc, Bool, true, false, ◌&&◌, List, [], ◌∷◌, ◌++◌, length, take, drop, get_or, refl, sym, ap, ◌∙◌, subst, arith}
 use Rattle.std.specs.Arc.{arc_value}
 use Rattle.std.specs.declared.sync.Arc.{Arc}
 use Rattle.dice_key.specs.Meaning.{Answered}
 use Rattle.dice_key.specs.Lawful.{IsEquality}
 use Rattle.dep_recorder.specs.Recordings.{same_pairs, answered_in, keys_in, values_in}
-use Rattle.dep_recorder.proofs.Findings.{take_all, take_one}
+use Rattle.dep_recorder.proofs.Findings.{take_one}
 
 and_false : (c x : Bool) → x ≡ false → (c && x) ≡ false
 and_false true x h = h

@@ -1,4 +1,4 @@
-use Rattle.std.proofs.Common.{◌≡◌, ◌∙◌, ◌++◌, [], ap, sym, subst, List}
+use Rattle.std.proofs.Common.{◌++◌, [], sym, subst}
 use Rattle.dice_model.specs.Asks.{Goes}
 use Rattle.dice_model.proofs.Finite.{goes_last}
 use Rattle.dep_recorder.specs.Recordings.{answered_by}

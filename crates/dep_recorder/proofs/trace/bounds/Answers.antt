@@ -1,4 +1,4 @@
-use Rattle.std.proofs.Common.{◌≡◌, ◌+◌, ◌<◌, ◌≤◌, suc, get_or, arith, subst, sym, ◌∙◌, rules}
+use Rattle.std.proofs.Common.{◌≡◌, ◌+◌, suc, get_or, arith, subst}
 use Rattle.dep_recorder.specs.Recordings.{begins}
 use Rattle.dep_recorder.proofs.Parts.{begins_get, rise_at}
 use Rattle.dep_recorder.proofs.trace.bounds.Goals as goal

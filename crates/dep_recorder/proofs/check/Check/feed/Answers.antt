@@ -1,8 +1,8 @@
-use Rattle.std.proofs.Common.{◌≡◌, ◌∙◌, ◌+◌, ◌++◌, ◌<◌, ◌≤◌, sym, length, map, drop, ap, arith, subst, refl, [], ◌∷◌, None, Some, IfSome}
+use Rattle.std.proofs.Common.{◌≡◌, ◌∙◌, ◌+◌, ◌<◌, sym, length, drop, ap, arith, subst, ◌∷◌, IfSome}
 use Rattle.std.specs.Arc.{arc_value}
 use Rattle.std.proofs.lemmas.List.{length-map}
-use Rattle.dep_recorder.specs.Recordings.{keys_in, values_in, answered_in}
-use Rattle.dep_recorder.specs.Checks.{HasChange, fed_so_far}
+use Rattle.dep_recorder.specs.Recordings.{answered_in}
+use Rattle.dep_recorder.specs.Checks.{HasChange}
 use Rattle.dep_recorder.proofs.Findings.{wanting, as_many, has_change, fed_more, fed_next}
 use Rattle.dep_recorder.proofs.check.Check.feed.Goals as goal
 use Rattle.dep_recorder.proofs.check.Check.feed.Goals.{in-Some-1, in-None-1}

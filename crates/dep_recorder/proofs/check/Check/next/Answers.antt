@@ -1,4 +1,4 @@
-use Rattle.std.proofs.Common.{◌≡◌, ◌∙◌, ◌+◌, ◌++◌, ◌<◌, ◌≤◌, sym, length, map, drop, ap, arith, subst, refl, [], ◌∷◌, None, Some, IfSome}
+use Rattle.std.proofs.Common.{◌≡◌, ◌+◌, ◌≤◌, length, drop, arith, subst, ◌∷◌, Some, IfSome}
 use Rattle.std.specs.Arc.{arc_value}
 use Rattle.std.proofs.lemmas.List.{length-map}
 use Rattle.dep_recorder.specs.Recordings.{keys_in, values_in, answered_in}

@@ -1,7 +1,6 @@
-use Rattle.std.proofs.Common.{◌≡◌, ◌∙◌, ◌+◌, ◌<◌, suc, sym, length, drop, ap, arith, subst, ◌∷◌}
-use Rattle.std.specs.Arc.{arc_value}
-use Rattle.dep_recorder.specs.Recordings.{keys_in, values_in, parted, RiseTo, begins, answered_in}
-use Rattle.dep_recorder.proofs.Parts.{parted_length, parted_drop, part_of}
+use Rattle.std.proofs.Common.{◌≡◌, ◌<◌, sym, length, ap, arith, subst}
+use Rattle.dep_recorder.specs.Recordings.{keys_in, values_in, parted, RiseTo}
+use Rattle.dep_recorder.proofs.Parts.{parted_length, part_of}
 use Rattle.dep_recorder.proofs.trace.Trace.batch.Goals as goal
 
 pub part-requires : goal.part-requires

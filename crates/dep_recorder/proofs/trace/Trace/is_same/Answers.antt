@@ -1,5 +1,4 @@
 use Rattle.std.proofs.Common.{rules, ◌≡◌, ◌+◌, true, false, sym, ◌∙◌, drop}
-use Rattle.dep_recorder.specs.Recordings.{same_pairs}
 use Rattle.dep_recorder.proofs.Sameness.{traces_differ, traces_same}
 use Rattle.dep_recorder.proofs.trace.Trace.is_same.Goals as goal
 

@@ -1,4 +1,4 @@
-use Rattle.std.proofs.Common.{◌≡◌, ◌∙◌, sym, length, ap, arith}
+use Rattle.std.proofs.Common.{◌≡◌, length, ap, arith}
 use Rattle.dep_recorder.specs.Recordings.{keys_in, values_in, parted}
 use Rattle.dep_recorder.proofs.Parts.{parted_length}
 use Rattle.dep_recorder.proofs.trace.Trace.len.Goals as goal

@@ -1,6 +1,5 @@
-use Rattle.std.proofs.Common.{◌≡◌, ◌∙◌, ◌+◌, ◌++◌, ◌<◌, sym, length, map, ap, arith, subst, [], ◌∷◌}
-use Rattle.std.specs.Arc.{arc_value}
-use Rattle.dep_recorder.specs.Recordings.{keys_in, values_in, parted, RiseTo}
+use Rattle.std.proofs.Common.{◌≡◌, ◌∙◌, ◌++◌, length, ap, arith, [], ◌∷◌}
+use Rattle.dep_recorder.specs.Recordings.{keys_in, values_in}
 use Rattle.dep_recorder.proofs.Parts.{pushed_rise, pushed_parts}
 use Rattle.dep_recorder.proofs.trace.Trace.push.Goals as goal
 

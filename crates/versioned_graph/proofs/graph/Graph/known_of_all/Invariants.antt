@@ -2,7 +2,7 @@ use Rattle.std.proofs.Common.{◌≡◌, ℕ, ◌&&◌, drop}
 use Rattle.version_ranges.specs.Members.{contains}
 use Rattle.injected.specs.Seen.{cell_at}
 use Rattle.versioned_graph.specs.Entries.{entry_at, known, all_of}
-use Rattle.versioned_graph.proofs.marks.Graph.known_of_all.Given as goal
+use Rattle.versioned_graph.proofs.graph.Graph.known_of_all.Given as goal
 
 -- what is left, narrowed down by the batches that are left, is what the whole trace leaves
 abbrev pub invariant-loop-i : goal.invariant-loop-i

@@ -10,7 +10,7 @@ use Rattle.dice_model.proofs.Traces.{trace_value}
 use Rattle.versioned_graph.specs.Entries.{Kept, Stored, entry_at, all_of, known, marked, joined, finished, written}
 use Rattle.versioned_graph.specs.Sound.{IsTrue, IsClosed, AreTrue, Holds}
 use Rattle.versioned_graph.proofs.Bools.{and_both, or_either, both_and, or_left, or_right, not_true}
-use Rattle.versioned_graph.proofs.Marks.{marked_true}
+use Rattle.versioned_graph.proofs.MarkLemmas.{marked_true}
 
 module _ {K V : Type 0} (eq : K → K → Bool) (m : Meaning K V) (law : IsLawful m) (veq : V → V → Bool) (same : AreSame veq) (C : List (List (K × V))) where
   -- the entry that is written is true, where the new one and the one that was there are

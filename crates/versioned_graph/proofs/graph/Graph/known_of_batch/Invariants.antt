@@ -3,7 +3,7 @@ use Rattle.version_ranges.specs.Members.{contains}
 use Rattle.injected.specs.Seen.{cell_at}
 use Rattle.dep_recorder.specs.Recordings.{keys_in, values_in}
 use Rattle.versioned_graph.specs.Entries.{entry_at, known, all_of_batch}
-use Rattle.versioned_graph.proofs.marks.Graph.known_of_batch.Given as goal
+use Rattle.versioned_graph.proofs.graph.Graph.known_of_batch.Given as goal
 
 -- what is left, narrowed down by the pairs that are left, is what the whole batch leaves
 abbrev pub invariant-loop-dep : goal.invariant-loop-dep
