@@ -1,7 +1,9 @@
 -- `finish` keeps what is kept.
 use Rattle.std.proofs.Common.{◌≡◌, ◌≤◌, inl, inr, ℕ, Bool, true, false, not, ◌&&◌, ◌||◌, cond, nat_eq, nat_le, List, length, Option, Some, None, refl, sym, ap, ◌∙◌, subst, arith, eqb-true, leb-true}
-use Rattle.std.proofs.lemmas.Bool.{le-leb}
+use Rattle.std.proofs.lemmas.Bool.{le-leb, eq-eqb}
 use Rattle.std.proofs.lemmas.Option.{same_Some}
+use Rattle.version_ranges.specs.declared.half_open.Range.{Range}
+use Rattle.version_ranges.specs.Members.{contains}
 use Rattle.dice_key.specs.Meaning.{Meaning, Answered}
 use Rattle.dice_key.specs.Lawful.{IsLawful, AreSame}
 use Rattle.dice_model.specs.Eval.{HasValue}
@@ -71,10 +73,7 @@ module _ {K V : Type 0} (eq : K → K → Bool) (m : Meaning K V) (law : IsLawfu
   finished_true : IsTrue eq m C k n
   finished_true = new_true eq m law veq same C at holds (entry_at eq es) (λ j e h. (true_ones j e h).0) k v x A (λ w. marked m veq at (entry_at eq es) v x A w && nat_le w last) within trace
       (λ w h. (and_both (marked m veq at (entry_at eq es) v x A w) (nat_le w last) h).0)
-      (both_and (marked m veq at (entry_at eq es) v x A v) (nat_le v last) (or_left (nat_eq v v) (not (m.is_transient x) && all_of (known m veq at (entry_at eq es) v v) A) (itself v)) (le-leb v last (omega arith)))
-    where
-      itself : (i : ℕ) → nat_eq i i ≡ true
-      itself i = omega arith
+      (both_and (marked m veq at (entry_at eq es) v x A v) (nat_le v last) (or_left (nat_eq v v) (not (m.is_transient x) && all_of (known m veq at (entry_at eq es) v v) A) (eq-eqb v v refl)) (le-leb v last (omega arith)))
 
   finished_closed : IsClosed eq m C n
   finished_closed w h = let l = leb-true w last (and_both (marked m veq at (entry_at eq es) v x A w) (nat_le w last) h).1 in omega arith
@@ -97,3 +96,8 @@ module _ {K V : Type 0} (eq : K → K → Bool) (m : Meaning K V) (law : IsLawfu
     written_true eq m law veq same C k (entry_at eq es k) n (λ f p. (true_ones k f p).0) finished_true,
     written_closed (entry_at eq es k) (λ f p. (true_ones k f p).1),
   )
+
+-- the entry that is made, as it is stored
+pub made : {K V : Type 0} (m : Meaning K V) (veq : V → V → Bool) (at : ℕ → K → V) (last : ℕ) (es : K → Option (Kept K V)) (v : ℕ) (r : List Range) (x y : V) (A B : List (Answered K V)) → y ≡ x → B ≡ A
+    → ((w : ℕ) → contains r w ≡ (marked m veq at es v y B w && nat_le w last)) → ◌≡◌ {A = Kept K V} (record { value = x; trace = A; ranges = contains r; version = v }) (finished m veq at last es v x A)
+made {K} {V} m veq at last es v r x y A B p q h = λ i. record { value = x; trace = A; ranges = λ w. (h w ∙ (λ j. marked m veq at es v (p j) (q j) w && nat_le w last)) i; version = v }

@@ -40,6 +40,7 @@ impl<U: Universe> Graph<U> {
             ranges,
             version,
         };
-        self.put(key, entry)
+        self.put(key, entry)?;
+        Ok(())
     }
 }

@@ -99,15 +99,15 @@ impl<U: Universe> Graph<U> {
 /// Of these versions those that are known by the entry of a dependency, if there is one.
 fn known_by_entry<U: Universe>(
     alloc: Global,
-    entry: Option<&Entry<U>>,
+    known: Option<&Entry<U>>,
     version: u64,
     answer: &Arc<U::Value>,
     ranges: &Ranges,
 ) -> Result<Ranges, NoMemory>
     requires { version < u64.MAX }
-    ensures { IfOk result (λ r. (w : ℕ) → contains r w ≡ (contains ranges.now w && known_by U.meaning U.Value.eq (option_map (λ e. kept_of e.now) entry) version (arc_value answer.now) w)) }
+    ensures { IfOk result (λ r. (w : ℕ) → contains r w ≡ (contains ranges.now w && known_by U.meaning U.Value.eq (option_map (λ e. kept_of e.now) known.entry) version (arc_value answer.now) w)) }
 {
-    match entry {
+    match known {
         Some(entry) if *entry.value == **answer => both(ranges, &entry.ranges),
         _ => {
             let alone = Ranges::one(alloc, version).map_err(|_| NoMemory)?;
