@@ -1,14 +1,13 @@
 -- The cells of a log are its inputs.
-use Rattle.std.proofs.Common.{◌≡◌, ◌<◌, ◌≤◌, ◌+◌, ◌-◌, ◌++◌, ℕ, zero, suc, Bool, true, false, cond, leb, List, [], ◌∷◌, length, take, Option, Some, None, refl, ap, sym, ◌∙◌, subst, arith, unwrap_or}
+use Rattle.std.proofs.Common.{◌≡◌, ◌≤◌, ◌+◌, ◌++◌, ℕ, zero, suc, Bool, cond, List, [], ◌∷◌, length, take, Option, Some, None, refl, ap, sym, ◌∙◌, arith, unwrap_or}
 use Rattle.std.specs.Map.{lookup}
 use Rattle.std.proofs.lemmas.Bool.{le-leb, lt-leb}
 use Rattle.std.proofs.lemmas.List.{append_assoc, take_all}
 use Rattle.dice_key.specs.Meaning.{Meaning}
 use Rattle.dice_model.specs.Log.{input, last_value_of}
-use Rattle.injected.specs.History.{value_at, newest_of, FirstAbove, IsRising}
+use Rattle.injected.specs.History.{value_at, newest_of}
 use Rattle.injected.specs.Seen.{Seen, sets_at, cell_at, newest_at}
 use Rattle.injected.specs.Inputs.{set_if, sets_from, AreOf}
-use Rattle.injected.proofs.Histories.{unmoved}
 
 module _ {K V : Type 0} (eq : K → K → Bool) where
   sets_more : (n : ℕ) (C : List (List (K × V))) (c : List (K × V)) (k : K) → sets_from eq n (C ++ c ∷ []) k ≡ sets_from eq n C k ++ set_if (suc (n + length C)) (lookup (eq k) c)

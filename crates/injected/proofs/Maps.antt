@@ -1,13 +1,12 @@
 -- A map of histories without pointers, and what a write makes of it.
-use Rattle.std.proofs.Common.{◌≡◌, ◌<◌, ◌-◌, ◌++◌, ◌+◌, ℕ, Bool, true, false, cond, List, [], ◌∷◌, map, Option, Some, None, IsSome, Result, Ok, Err, OnOk, OnErr, refl, ap, sym, ◌∙◌, subst, vec_len, vec_capacity, arith}
+use Rattle.std.proofs.Common.{◌≡◌, ◌-◌, ℕ, Bool, true, false, cond, List, [], ◌∷◌, map, Option, Some, None, IsSome, Result, Ok, Err, OnOk, OnErr, refl, ap, sym, ◌∙◌, subst, vec_len, vec_capacity}
 use Rattle.std.specs.Map.{lookup, set_value}
 use Rattle.std.specs.Option.{option_map}
 use Rattle.std.specs.Arc.{arc_value, arc_with_value}
 use Rattle.std.specs.declared.sync.Arc.{Arc}
 use Rattle.std.specs.declared.vec.Vec.{Vec}
 use Rattle.std.proofs.lemmas.Map.Steps.{set_value_same}
-use Rattle.std.proofs.lemmas.List.{map-append}
-use Rattle.injected.specs.History.{set_of, sets_of}
+use Rattle.injected.specs.History.{sets_of}
 use Rattle.injected.specs.Seen.{Cell, cell_of, named, sets_in, room_in, Writes}
 
 cond_map : {X Y : Type 0} (f : X → Y) (b : Bool) (x : X) (o : Option X) → cond b (Some (f x)) (option_map f o) ≡ option_map f (cond b (Some x) o)

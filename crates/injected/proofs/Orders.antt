@@ -1,11 +1,11 @@
 -- Cells stay in order, and read as before where nothing was written.
-use Rattle.std.proofs.Common.{◌≡◌, ◌<◌, ◌≤◌, ◌+◌, ◌++◌, ◌≢◌, ℕ, suc, Bool, true, false, cond, ltb, max, List, [], ◌∷◌, Option, Some, None, Result, OnOk, OnErr, refl, ap, sym, ◌∙◌, subst, inl, inr, arith}
+use Rattle.std.proofs.Common.{◌≡◌, ◌<◌, ◌≤◌, ◌+◌, ◌++◌, ℕ, Bool, true, false, cond, max, List, [], ◌∷◌, Some, Result, OnOk, OnErr, refl, ap, sym, ◌∙◌, subst, inl, inr, arith}
 use Rattle.std.specs.Map.{lookup}
-use Rattle.std.proofs.lemmas.Bool.{cases_Bool, lt-ltb, le-ltb}
+use Rattle.std.proofs.lemmas.Bool.{cases_Bool}
 use Rattle.std.proofs.lemmas.Result.{on_ok_weaker, on_err_weaker}
 use Rattle.dice_key.specs.Lawful.{AreSame}
 use Rattle.injected.specs.History.{AllBelow, IsRising}
-use Rattle.injected.specs.Seen.{Cell, Seen, sets_in, room_in, sets_at, room_at, IsInOrder, Writes}
+use Rattle.injected.specs.Seen.{Cell, Seen, sets_in, room_in, sets_at, IsInOrder, Writes}
 use Rattle.injected.proofs.Maps.{either_way}
 use Rattle.injected.proofs.Histories.{rising_push, below_push, below_more}
 

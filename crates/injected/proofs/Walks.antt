@@ -1,9 +1,9 @@
 -- A walk over the sets of a key that collects the versions of one value.
-use Rattle.std.proofs.Common.{◌≡◌, ◌≤◌, ◌<◌, ◌+◌, ℕ, Bool, true, false, ◌&&◌, ◌||◌, ◌↔◌, IsTrue, cond, leb, ltb, List, [], ◌∷◌, max, Some, None, refl, ap, sym, ◌∙◌, subst, inl, inr, arith}
-use Rattle.std.proofs.lemmas.Bool.{le-leb, lt-leb, lt-ltb, le-ltb, cases_lt, cases_Bool}
+use Rattle.std.proofs.Common.{◌≡◌, ◌≤◌, ◌<◌, ℕ, Bool, true, false, ◌&&◌, ◌||◌, ◌↔◌, IsTrue, cond, leb, ltb, List, [], ◌∷◌, max, Some, None, refl, ap, sym, ◌∙◌, inl, inr, arith}
+use Rattle.std.proofs.lemmas.Bool.{le-leb, lt-leb, lt-ltb, le-ltb, cases_lt}
 use Rattle.version_ranges.specs.declared.half_open.Range.{Range}
 use Rattle.version_ranges.specs.Members.{contains, is_in, is_open}
-use Rattle.injected.specs.History.{value_at, newest_of, FirstAbove, IsRising}
+use Rattle.injected.specs.History.{value_at, newest_of, IsRising}
 use Rattle.injected.proofs.Histories.{unmoved}
 
 -- the first set that is left, if there is one, lies at a version or above

@@ -1,5 +1,5 @@
 //! What holds of all cells.
-ghost use Rattle.std.specs.Prelude.{◌≡◌, ℕ, ◌+◌, ◌≤◌, suc, List, [], ◌∷◌, ◌++◌, length};
+ghost use Rattle.std.specs.Prelude.{◌≡◌, ℕ, ◌<◌, ◌≤◌, suc, List, [], ◌∷◌, ◌++◌, length};
 ghost use Rattle.std.specs.Map.{lookup};
 ghost use Rattle.dice_model.specs.Log.{input};
 ghost use Rattle.injected.specs.History.{AllBelow};
@@ -9,9 +9,11 @@ ghost use Rattle.injected.specs.Inputs.{AreOf, set_if};
 use crate::store::Cells;
 use dice_key::Universe;
 
-/// The sets of each key rise, and none lies above the last version; so from that on the newest value stands.
+/// The sets of each key rise, and none lies above the last version: so any key may be set above it, and from it on the newest
+/// value stands. It does no work.
 pub fn cells_in_order<U: Universe>(cells: &Cells<U>)
     ensures in_order { IsInOrder U.Key.eq cells.now }
+    ensures below { (v : ℕ) (k : U.Key) → cells.now.last < v → AllBelow (sets_at U.Key.eq cells.now k) v }
     ensures newest { (w : ℕ) (k : U.Key) → cells.now.last ≤ w → cell_at U.Key.eq U.meaning cells.now w k ≡ newest_at U.Key.eq U.meaning cells.now k }
 {
     let _ = &cells.last;

@@ -1,5 +1,5 @@
 -- Each set ends the versions of the value before it.
-use Rattle.std.proofs.Common.{◌≡◌, ◌+◌, ◌<◌, ◌∙◌, ◌∷◌, ◌&&◌, ◌||◌, ◌≤◌, ◌↔◌, ℕ, Bool, true, IsTrue, List, [], Some, None, ap, sym, subst, drop, length, arith}
+use Rattle.std.proofs.Common.{◌≡◌, ◌+◌, ◌∙◌, ◌∷◌, ◌&&◌, ◌||◌, ◌≤◌, ◌↔◌, ℕ, Bool, true, IsTrue, List, [], Some, None, ap, sym, subst, drop, arith}
 use Rattle.std.specs.Arc.{arc_value}
 use Rattle.std.proofs.lemmas.List.{drop_more, drop_all}
 use Rattle.version_ranges.specs.declared.half_open.Range.{Range}

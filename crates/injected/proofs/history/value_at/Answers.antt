@@ -1,5 +1,5 @@
 -- The last set at or below the version has the value.
-use Rattle.std.proofs.Common.{◌≡◌, ◌≤◌, ◌-◌, ◌<◌, ◌∙◌, ℕ, ap, sym, subst, leb, length, get_or, arith, rules}
+use Rattle.std.proofs.Common.{◌≡◌, ◌≤◌, ◌-◌, ◌<◌, ◌∙◌, ap, sym, subst, leb, length, get_or, arith, rules}
 use Rattle.std.specs.Arc.{arc_value}
 use Rattle.std.proofs.lemmas.Bool.{leb-true, leb-false}
 use Rattle.std.proofs.lemmas.List.{length-map}

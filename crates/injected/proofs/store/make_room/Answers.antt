@@ -1,5 +1,5 @@
 -- A key that is not there gets an empty history with room for a set.
-use Rattle.std.proofs.Common.{◌≡◌, ◌<◌, ◌-◌, ◌∙◌, None, Some, Bool, true, false, Option, IsSome, ap, sym, subst, refl, map, vec_len, vec_capacity, arith, is_some}
+use Rattle.std.proofs.Common.{◌≡◌, ◌-◌, ◌∙◌, None, Some, true, false, Option, IsSome, ap, sym, refl, map, vec_len, vec_capacity, arith, is_some}
 use Rattle.std.specs.Arc.{arc_value}
 use Rattle.std.specs.Map.{lookup}
 use Rattle.injected.specs.History.{sets_of}

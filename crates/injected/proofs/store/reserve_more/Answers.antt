@@ -1,5 +1,5 @@
 -- The sets of the key are as before.
-use Rattle.std.proofs.Common.{◌≡◌, ◌<◌, ◌-◌, ◌∙◌, Some, IsSome, ap, sym, subst, refl, map, vec_len, vec_capacity, arith}
+use Rattle.std.proofs.Common.{◌≡◌, ◌-◌, ◌∙◌, Some, IsSome, ap, sym, subst, refl, map, vec_len, vec_capacity, arith}
 use Rattle.std.specs.Arc.{arc_value}
 use Rattle.std.specs.Map.{lookup}
 use Rattle.std.specs.Option.{option_copied_mut}

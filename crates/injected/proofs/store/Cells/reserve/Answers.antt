@@ -1,7 +1,6 @@
 -- Room changes, and that of the key alone.
-use Rattle.std.proofs.Common.{◌≡◌, ◌<◌, ◌≤◌, ◌∙◌, ℕ, false, OnErr, OnOk, ap, sym, subst, refl, arith, List, map}
+use Rattle.std.proofs.Common.{◌≡◌, false, OnErr, ap, subst, arith, List, map}
 use Rattle.std.specs.Arc.{arc_value}
-use Rattle.std.proofs.lemmas.Result.{on_err_weaker}
 use Rattle.injected.specs.Seen.{Cell, Seen, named, sets_at, room_at}
 use Rattle.injected.proofs.Orders.{kept_order, roomy_sets, roomy_others, roomy_ok, roomy_err}
 use Rattle.injected.proofs.store.Cells.reserve.Goals as goal

@@ -1,5 +1,5 @@
 -- Room that is made leaves the sets as they were.
-use Rattle.std.proofs.Common.{◌≡◌, ◌++◌, ◌∷◌, ◌∙◌, [], cond, ap, sym, refl}
+use Rattle.std.proofs.Common.{◌≡◌, ◌++◌, ◌∷◌, ◌∙◌, [], cond, ap}
 use Rattle.std.specs.Arc.{arc_value}
 use Rattle.injected.specs.Seen.{sets_at}
 use Rattle.injected.proofs.store.Cells.set.Goals as goal

@@ -1,5 +1,5 @@
 -- The history of the key, if there is one.
-use Rattle.std.proofs.Common.{◌≡◌, ◌∙◌, Some, None, [], ap, sym, subst}
+use Rattle.std.proofs.Common.{◌≡◌, ◌∙◌, Some, None, ap, sym, subst}
 use Rattle.std.specs.Arc.{arc_value}
 use Rattle.std.specs.Map.{lookup}
 use Rattle.std.specs.Option.{option_copied}

@@ -1,5 +1,5 @@
 -- One set more of the key.
-use Rattle.std.proofs.Common.{◌≡◌, ◌<◌, ◌++◌, ◌∷◌, ◌∙◌, [], ℕ, false, cond, max, ap, sym, subst, refl, arith, List, map}
+use Rattle.std.proofs.Common.{◌≡◌, ◌<◌, ◌++◌, ◌∷◌, ◌∙◌, [], false, cond, max, ap, sym, subst, refl, List, map}
 use Rattle.std.specs.Arc.{arc_value}
 use Rattle.injected.specs.History.{AllBelow}
 use Rattle.injected.specs.Seen.{Cell, Seen, named, sets_at, room_at, sets_in}
