@@ -14,8 +14,7 @@ module _ {K V : Type 0} (eq : K → K → Bool) (m : Meaning K V) (C D : List (L
   pub longer : (es : List (K × Stored K V)) → AreTrue eq m C es → AreTrue eq m (C ++ D) es
   longer es s k e h =
       let t = s k e h in
-      let n = length-append C D in
-      (
+      let n = length-append C D in (
         record {
           finished = t.0.finished;
           before = t.0.before;

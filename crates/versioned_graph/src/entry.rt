@@ -74,11 +74,7 @@ impl<U: Universe> Entry<U> {
     }
 
     /// The entry that stands after a finish has made `next`; `None` where this one stays as it is.
-    pub(crate) fn after(
-        &self,
-        universe: &U,
-        next: Entry<U>,
-    ) -> Result<Option<Entry<U>>, NoMemory>
+    pub(crate) fn after(&self, universe: &U, next: Entry<U>) -> Result<Option<Entry<U>>, NoMemory>
         ensures { IfOk result (λ o. unwrap_or (option_map kept_of o) (kept_of self.now) ≡ written U.meaning U.Value.eq (Some (kept_of self.now)) (kept_of next)) }
     {
         if *self.value == *next.value && !universe.is_transient(&self.value) {

@@ -6,7 +6,8 @@ mod finish;
 mod found;
 mod graph;
 mod marks;
+#[cfg(test)]
+mod tests;
 
 pub use found::{Found, Why};
 pub use graph::Graph;
-

@@ -11,4 +11,4 @@ invariant-loop-i g l =
     let m = g.U.Universe.meaning in
     (w : ℕ)
     → (contains l.ranges w && all_of (known m g.U.Value.PartialEq.eq (cell_at eq m l.cells) (entry_at eq l.self) l.version w) (drop l.i l.trace))
-      ≡ all_of (known m g.U.Value.PartialEq.eq (cell_at eq m l.cells) (entry_at eq l.self) l.version w) l.trace
+    ≡ all_of (known m g.U.Value.PartialEq.eq (cell_at eq m l.cells) (entry_at eq l.self) l.version w) l.trace

@@ -12,4 +12,4 @@ invariant-loop-dep g l =
     let m = g.U.Universe.meaning in
     (w : ℕ)
     → (contains l.left w && all_of_batch (known m g.U.Value.PartialEq.eq (cell_at eq m l.cells) (entry_at eq l.self) l.version w) (keys_in (drop l.dep-index l.batch)) (values_in (drop l.dep-index l.batch)))
-      ≡ (contains l.fn.ranges w && all_of_batch (known m g.U.Value.PartialEq.eq (cell_at eq m l.cells) (entry_at eq l.self) l.version w) (keys_in l.batch) (values_in l.batch))
+    ≡ (contains l.fn.ranges w && all_of_batch (known m g.U.Value.PartialEq.eq (cell_at eq m l.cells) (entry_at eq l.self) l.version w) (keys_in l.batch) (values_in l.batch))
