@@ -1,0 +1,92 @@
+-- What the graph keeps of a key, and what a finish makes of it.
+use Rattle.std.specs.Prelude.{ℕ, Bool, true, false, cond, not, ◌&&◌, ◌||◌, nat_eq, nat_le, max, List, [], ◌∷◌, Option, Some, None}
+use Rattle.std.specs.Map.{lookup}
+use Rattle.std.specs.Arc.{arc_value}
+use Rattle.std.specs.declared.sync.Arc.{Arc}
+use Rattle.std.specs.Option.{option_map}
+use Rattle.dice_key.specs.Meaning.{Meaning, Answered}
+use Rattle.dice_key.specs.declared.universe.Kind.{Kind}
+use Rattle.dice_key.specs.declared.universe.Kind.TheVariants.{Injected, Computed, Projection}
+use Rattle.version_ranges.specs.declared.half_open.Range.{Range}
+use Rattle.version_ranges.specs.Members.{contains}
+
+-- an entry as it is stored
+pub record Stored (K V : Type 0) : Type 0 where
+  pub value : V
+  pub trace : List (Answered K V)
+  pub ranges : List Range
+  pub version : ℕ
+
+-- an entry as it is spoken of: its ranges are the test whether a version is in them
+pub record Kept (K V : Type 0) : Type 0 where
+  pub value : V
+  pub trace : List (Answered K V)
+  pub ranges : ℕ → Bool
+  pub version : ℕ
+
+abbrev pub kept_of : {K V : Type 0} → Stored K V → Kept K V
+kept_of s = record { value = s.value; trace = s.trace; ranges = contains s.ranges; version = s.version }
+
+-- an entry by its key
+abbrev pub named : {K V A : Type 0} → Arc K A × Stored K V → K × Stored K V
+named e = (arc_value e.0, e.1)
+
+-- the entry of a key
+abbrev pub entry_at : {K V : Type 0} → (K → K → Bool) → List (K × Stored K V) → K → Option (Kept K V)
+entry_at eq es k = option_map kept_of (lookup (eq k) es)
+
+-- an entry that was seen at a version
+abbrev pub seen_at : {K V : Type 0} → ℕ → Kept K V → Kept K V
+seen_at v e = record { value = e.value; trace = e.trace; ranges = e.ranges; version = max e.version v }
+
+abbrev pub if_injected : {X : Type 0} → Kind → X → X → X
+if_injected Injected a b = a
+if_injected Computed a b = b
+if_injected Projection a b = b
+
+-- the test holds of each key with its answer
+abbrev pub all_of_batch : {K V : Type 0} → (K → V → Bool) → List K → List V → Bool
+all_of_batch f [] [] = true
+all_of_batch f [] (x ∷ xs) = false
+all_of_batch f (k ∷ ks) [] = false
+all_of_batch f (k ∷ ks) (x ∷ xs) = f k x && all_of_batch f ks xs
+
+abbrev pub all_of : {K V : Type 0} → (K → V → Bool) → List (Answered K V) → Bool
+all_of f [] = true
+all_of f (b ∷ bs) = all_of_batch f b.keys b.values && all_of f bs
+
+module _ {K V : Type 0} (m : Meaning K V) (veq : V → V → Bool) where
+  -- whether version w is known by the entry of a dependency that was answered with a at v: where the entry has that value, its
+  -- ranges are known, else v alone
+  abbrev pub known_by : Option (Kept K V) → ℕ → V → ℕ → Bool
+  known_by None v a w = nat_eq w v
+  known_by (Some e) v a w = cond (veq e.value a) (e.ranges w) (nat_eq w v)
+
+  -- whether version w is known for a dependency that was answered with a at v: of an injected one the versions at which its
+  -- input is that at v
+  abbrev pub known : (ℕ → K → V) → (K → Option (Kept K V)) → ℕ → ℕ → K → V → Bool
+  known at es v w d a = if_injected (m.kind d) (veq (at w d) (at v d)) (known_by (es d) v a w)
+
+  -- whether a finish at v with value x and trace A marks version w: v itself, and, where the value is not transient, the versions
+  -- that are known for every dependency
+  abbrev pub marked : (ℕ → K → V) → (K → Option (Kept K V)) → ℕ → V → List (Answered K V) → ℕ → Bool
+  marked at es v x A w = nat_eq w v || (not (m.is_transient x) && all_of (known at es v w) A)
+
+  -- the entry that a finish at v with value x and trace A makes, where `last` is the newest version
+  abbrev pub finished : (ℕ → K → V) → ℕ → (K → Option (Kept K V)) → ℕ → V → List (Answered K V) → Kept K V
+  finished at last es v x A = record { value = x; trace = A; ranges = λ w. marked at es v x A w && nat_le w last; version = v }
+
+  -- an entry with the ranges of a new one of the same value, and with its trace and version where they are not older
+  abbrev pub joined : Kept K V → Kept K V → Kept K V
+  joined e n = record {
+    value = e.value;
+    trace = cond (nat_le e.version n.version) n.trace e.trace;
+    ranges = λ w. e.ranges w || n.ranges w;
+    version = cond (nat_le e.version n.version) n.version e.version;
+  }
+
+  -- what stands after a finish that makes the entry n; the first case that holds: there was none; the value is the same and not
+  -- transient; the new one is not older; else the old one stays
+  abbrev pub written : Option (Kept K V) → Kept K V → Kept K V
+  written None n = n
+  written (Some e) n = cond (veq e.value n.value && not (m.is_transient e.value)) (joined e n) (cond (nat_le e.version n.version) n e)

@@ -1,0 +1,124 @@
+//! The versions that a finish marks.
+ghost use Rattle.std.specs.Prelude.{◌≡◌, ◌<◌, ℕ, ◌&&◌, nat_le, IfOk, Some, None};
+ghost use Rattle.std.specs.Arc.{arc_value};
+ghost use Rattle.std.specs.Option.{option_map};
+ghost use Rattle.version_ranges.specs.Members.{contains};
+ghost use Rattle.injected.specs.Seen.{cell_at};
+ghost use Rattle.dep_recorder.specs.Recordings.{keys_in, values_in};
+ghost use Rattle.versioned_graph.specs.Entries.{kept_of, entry_at, known_by, known, all_of_batch, all_of, marked};
+
+use crate::entry::Entry;
+use crate::graph::Graph;
+use dep_recorder::Trace;
+use dice_key::{Kind, NoMemory, Universe};
+use injected::Cells;
+use std::alloc::Global;
+use std::sync::Arc;
+use version_ranges::Ranges;
+
+impl<U: Universe> Graph<U> {
+    /// The versions that a finish marks: its own, and those that are known for every dependency of its trace, up to the newest.
+    pub(crate) fn marked(
+        &self,
+        cells: &Cells<U>,
+        version: u64,
+        value: &U::Value,
+        trace: &Trace<U>,
+    ) -> Result<Ranges, NoMemory>
+        requires version { version < u64.MAX }
+        requires last { cells.now.last < u64.MAX }
+        ensures { IfOk result (λ r. (w : ℕ) → contains r w ≡ (marked U.meaning U.Value.eq (cell_at U.Key.eq U.meaning cells.now) (entry_at U.Key.eq self.now) version value.now trace.now w && nat_le w cells.now.last)) }
+    {
+        let mut ranges = if self.universe.is_transient(value) {
+            Ranges::new(self.alloc)
+        } else {
+            self.known_of_all(cells, version, trace)?
+        };
+        let next = Some(version + 1);
+        ranges.insert(version, next).map_err(|_| NoMemory)?;
+        ranges.close_at(cells.last() + 1);
+        Ok(ranges)
+    }
+
+    /// The versions that are known for every dependency of a trace.
+    fn known_of_all(
+        &self,
+        cells: &Cells<U>,
+        version: u64,
+        trace: &Trace<U>,
+    ) -> Result<Ranges, NoMemory>
+        requires { version < u64.MAX }
+        ensures { IfOk result (λ r. (w : ℕ) → contains r w ≡ all_of (known U.meaning U.Value.eq (cell_at U.Key.eq U.meaning cells.now) (entry_at U.Key.eq self.now) version w) trace.now) }
+    {
+        let mut ranges = Ranges::all(self.alloc).map_err(|_| NoMemory)?;
+        for i in 0..trace.len() {
+            ranges = self.known_of_batch(cells, version, trace.batch(i), ranges)?;
+        }
+        Ok(ranges)
+    }
+
+    /// Of these versions those that are known for every dependency of a batch.
+    fn known_of_batch(
+        &self,
+        cells: &Cells<U>,
+        version: u64,
+        batch: &[(Arc<U::Key>, Arc<U::Value>)],
+        ranges: Ranges,
+    ) -> Result<Ranges, NoMemory>
+        requires { version < u64.MAX }
+        ensures { IfOk result (λ r. (w : ℕ) → contains r w ≡ (contains ranges w && all_of_batch (known U.meaning U.Value.eq (cell_at U.Key.eq U.meaning cells.now) (entry_at U.Key.eq self.now) version w) (keys_in batch.now) (values_in batch.now))) }
+    {
+        let mut left = ranges;
+        for (dep, answer) in batch {
+            left = self.known_of(cells, version, dep, answer, &left)?;
+        }
+        Ok(left)
+    }
+
+    /// Of these versions those that are known for a dependency.
+    fn known_of(
+        &self,
+        cells: &Cells<U>,
+        version: u64,
+        dep: &Arc<U::Key>,
+        answer: &Arc<U::Value>,
+        ranges: &Ranges,
+    ) -> Result<Ranges, NoMemory>
+        requires { version < u64.MAX }
+        ensures { IfOk result (λ r. (w : ℕ) → contains r w ≡ (contains ranges.now w && known U.meaning U.Value.eq (cell_at U.Key.eq U.meaning cells.now) (entry_at U.Key.eq self.now) version w (arc_value dep.now) (arc_value answer.now))) }
+    {
+        match self.universe.kind(dep) {
+            Kind::Injected => both(ranges, &cells.ranges_of(version, dep)?),
+            Kind::Computed | Kind::Projection => {
+                known_by_entry(self.alloc, self.entry(dep), version, answer, ranges)
+            }
+        }
+    }
+}
+
+/// Of these versions those that are known by the entry of a dependency, if there is one.
+fn known_by_entry<U: Universe>(
+    alloc: Global,
+    known: Option<&Entry<U>>,
+    version: u64,
+    answer: &Arc<U::Value>,
+    ranges: &Ranges,
+) -> Result<Ranges, NoMemory>
+    requires { version < u64.MAX }
+    ensures { IfOk result (λ r. (w : ℕ) → contains r w ≡ (contains ranges.now w && known_by U.meaning U.Value.eq (option_map (λ e. kept_of e.now) known.entry) version (arc_value answer.now) w)) }
+{
+    match known {
+        Some(entry) if *entry.value == **answer => both(ranges, &entry.ranges),
+        _ => {
+            let alone = Ranges::one(alloc, version).map_err(|_| NoMemory)?;
+            both(ranges, &alone)
+        }
+    }
+}
+
+/// The versions of both sets.
+fn both(a: &Ranges, b: &Ranges) -> Result<Ranges, NoMemory>
+    ensures { IfOk result (λ r. (w : ℕ) → contains r w ≡ (contains a.now w && contains b.now w)) }
+{
+    a.intersect(b).map_err(|_| NoMemory)
+}
