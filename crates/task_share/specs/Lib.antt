@@ -1,0 +1,5 @@
+pub mod Asked
+pub mod Lists
+pub mod Seen
+pub mod Listed
+pub mod Lent
