@@ -96,3 +96,10 @@ module _ {K T : Type 0} (eq : K → K → Bool) where
     pub promises : (q : K) → eq k q ≡ false → promise_room ps q ≤ promise_room qs q
     pub askers : (q : K) → eq k q ≡ false → asker_room ps q ≤ asker_room qs q
     pub waits : (q : K) → eq k q ≡ false → wait_room ps q ≤ wait_room qs q
+
+  -- of the room made ahead at most this was used: m q for promises, n q for asking tasks and l q for waits of each key q
+  pub record UsesRoomOf (m n l : K → ℕ) (ps qs : List (K × Share K T)) : Type 0 where
+    pub places : (q : K) → has_place ps q ≡ true → has_place qs q ≡ true
+    pub promises : (q : K) → promise_room ps q ≤ promise_room qs q + m q
+    pub askers : (q : K) → asker_room ps q ≤ asker_room qs q + n q
+    pub waits : (q : K) → wait_room ps q ≤ wait_room qs q + l q
