@@ -246,6 +246,10 @@ pub if_some : {X : Type 0} {P Q : X → Type 0} (o : Option X) → ((x : X) → 
 if_some None f p = tt
 if_some (Some x) f p = f x refl p
 
+pub if_ok : {X E : Type 0} {P Q : Type 0} (r : Result X E) → (P → Q) → OnOk r P → OnOk r Q
+if_ok (Ok x) f p = f p
+if_ok (Err e) f p = p
+
 pub if_none : {X : Type 0} {Q : Type 0} (o : Option X) → (o ≡ None → Q) → IfNone o Q
 if_none None f = f refl
 if_none (Some x) f = tt
