@@ -17,7 +17,7 @@ use Rattle.dice_key.specs.Lawful.{IsEquality}
 use Rattle.task_share.specs.Asked.{By, Promised, Tasked, is_by}
 use Rattle.task_share.specs.Lists.{Has}
 use Rattle.task_share.specs.Seen.{Share, is_for, list_for, number_for, has_by, has_live, has_place, asks, waits_at, KeepsTasks, KeepsRoom}
-use Rattle.task_share.specs.Listed.{share_of, entry_of, shares_of, is_idle, kept_name, one_if, IsNamed, IsListed, IsChanged, Left, UsesRoom, Withdraws, Withdrawing, NoneIdle, IsKept, IsPopped, IsVacant}
+use Rattle.task_share.specs.Listed.{share_of, entry_of, shares_of, is_idle, kept_name, one_if, IsNamed, IsListed, IsChanged, Left, UsesRoom, Withdraws, Withdrawing, NoneIdle, IsKept, IsPopped, IsVacant, AllRun}
 use Rattle.task_share.specs.declared.place.Place.{Place}
 use Rattle.task_share.proofs.PlaceLemmas.{true_or_false, and_both, lookup_shares}
 use Rattle.task_share.proofs.TurnLemmas.{tasks_kept, room_kept, asks_turned, waits_turned, same_cond, tasks_on, room_on, room_itself, kept_on}
@@ -43,7 +43,7 @@ module _ {K T : Type 0} (eq : K → K → Bool) (law : IsEquality eq) where
   -- a candidate whose key has no place is no loss
   pub dropped_listed : (ps : List (K × Share K T)) (cs : List K) (k : K) (room : ℕ) → lookup (eq k) ps ≡ None → IsListed eq ps (cs ++ k ∷ []) room → IsListed eq ps cs room
   dropped_listed ps cs k room none l = record {
-    each = λ q p e. (let z = l.each q p e in record { idle = z.idle; named = z.named;
+    each = λ q p e. (let z = l.each q p e in record { idle = z.idle; named = z.named; runs = z.runs;
         listed = λ n. elim (has_split cs k q (z.listed n)) as (λ _. Has cs q) [ inl h ↦ h | inr s ↦ absurd (none-some p (sym (subst (λ x. lookup (eq x) ps ≡ None) s none) ∙ e)) ] });
     fits = (let a = l.fits in let b = length-append cs (k ∷ []) in omega arith);
   }
@@ -55,7 +55,7 @@ module _ {K T : Type 0} (eq : K → K → Bool) (law : IsEquality eq) where
     each = λ q p e. elim (true_or_false (eq k q)) as (λ _. IsNamed cs q p) [
       | inl t ↦ (let s : k ≡ q = law.same k q t in
           subst (λ x. IsNamed cs x p) s (subst (λ (r : Share K T). IsNamed cs k r) (same_Some (record h { name = Some k }) p (sym here ∙ subst (λ x. lookup (eq x) qs ≡ Some p) (sym s) e)) at_key))
-      | inr t ↦ (let z = l.each q p (sym (others q t) ∙ e) in record { idle = z.idle; named = z.named;
+      | inr t ↦ (let z = l.each q p (sym (others q t) ∙ e) in record { idle = z.idle; named = z.named; runs = z.runs;
           listed = λ n. elim (has_split cs k q (z.listed n)) as (λ _. Has cs q) [ inl i ↦ i | inr s ↦ absurd (let a : eq k q ≡ true = subst (λ x. eq k x ≡ true) s (law.itself k) in let b : true ≡ false = sym a ∙ t in cc) ] })
     ];
     fits = (let a = sum_by-set_value kept_name (eq k) ps h (record h { name = Some k }) known in
@@ -67,8 +67,11 @@ module _ {K T : Type 0} (eq : K → K → Bool) (law : IsEquality eq) where
         omega arith);
   }
     where
+      was_runs : h.live ≡ true → is_some h.task ≡ true
+      was_runs = (l.each k h known).runs
+
       at_key : IsNamed cs k (record h { name = Some k })
-      at_key = record { idle = λ e. absurd (let f : true ≡ false = sym e ∙ busy in cc); listed = λ e. cc; named = λ n e. sym (same_Some k n e) }
+      at_key = record { idle = λ e. absurd (let f : true ≡ false = sym e ∙ busy in cc); listed = λ e. cc; named = λ n e. sym (same_Some k n e); runs = was_runs }
 
   -- a place that is taken out with its candidate
   pub taken_listed : (ps qs : List (K × Share K T)) (cs : List K) (k : K) (room : ℕ) → ((q : K) → lookup (eq q) qs ≡ cond (eq k q) None (lookup (eq q) ps)) → sum_by kept_name (values_of qs) ≤ sum_by kept_name (values_of ps) → IsListed eq ps (cs ++ k ∷ []) room → IsListed eq qs cs room
@@ -79,7 +82,7 @@ module _ {K T : Type 0} (eq : K → K → Bool) (law : IsEquality eq) where
     where
       by_test : (q : K) (p : Share K T) (b : Bool) → eq k q ≡ b → cond b None (lookup (eq q) ps) ≡ Some p → IsNamed cs q p
       by_test q p true t e = absurd (none-some p e)
-      by_test q p false t e = let z = l.each q p e in record { idle = z.idle; named = z.named;
+      by_test q p false t e = let z = l.each q p e in record { idle = z.idle; named = z.named; runs = z.runs;
         listed = λ n. elim (has_split cs k q (z.listed n)) as (λ _. Has cs q) [ inl i ↦ i | inr s ↦ absurd (let a : eq k q ≡ true = subst (λ x. eq k x ≡ true) s (law.itself k) in let b : true ≡ false = sym a ∙ t in cc) ] }
 
   -- where no candidate is left, no task is idle
@@ -130,7 +133,7 @@ module _ {K T : Type 0} (eq : K → K → Bool) (law : IsEquality eq) where
   -- one more key is left
   pub withdraws_more : (k d : K) (done : List K) (ps qs rs : List (K × Share K T)) → Withdraws eq k done ps qs → IsChanged eq d (λ p r. Left eq (Tasked k) p r × UsesRoom 0 0 0 p r) qs rs → Withdraws eq k (d ∷ done) ps rs
   withdraws_more k d done ps qs rs w c = record {
-    tasks = tasks_on eq ps qs rs w.tasks (tasks_kept eq law qs rs d _ c (λ p r i. (i.0.task, i.0.ended)));
+    tasks = tasks_on eq ps qs rs w.tasks (tasks_kept eq law qs rs d _ c (λ p r i. (i.0.task, i.0.live)));
     asks = λ q a. asks_turned eq law qs rs d _ c (λ t. t) (λ e. e) (λ x b. b && not (is_by eq (Tasked k) x)) (λ d b. b) (λ p r i. i.0) a (λ n. refl) q
         ∙ (ap (λ b. cond (eq d q) (b && not (is_by eq (Tasked k) a)) b) (w.asks q a) ∙ by_tests (asks eq ps q a) (is_by eq (Tasked k) a) (list_any (eq q) done) (eq d q) (eq q d) (same_test d q));
     waits = λ i x. waits_turned eq law qs rs d _ c (λ t. t) (λ e. e) (λ x b. b && not (is_by eq (Tasked k) x)) (λ d b. b) (λ p r i. i.0) x (λ n. refl) i ∙ (same_cond (eq d i) (list_any (eq x) (waits_at eq qs i)) ∙ w.waits i x);
@@ -218,7 +221,8 @@ module _ {K T : Type 0} (eq : K → K → Bool) (law : IsEquality eq) where
       where
         by_test : (q : K) (p : Share K T) (b : Bool) → eq k q ≡ b → cond b (Some v) (lookup (eq q) ps) ≡ Some p → IsNamed cs q p
         by_test q p true t e = subst (λ x. IsNamed cs x p) (law.same k q t) (subst (λ (r : Share K T). IsNamed cs k r) (same_Some v p e) (record {
-          idle = λ i. absurd (let a = (and_both (is_some v.task) _ (and_both (has_live v) _ i).0).0 in let b : is_some v.task ≡ false = ap is_some vacant.task in let f : true ≡ false = sym a ∙ b in cc);
+          idle = λ i. absurd (let a = (and_both v.live _ i).0 in let f : true ≡ false = sym a ∙ vacant.live in cc);
+          runs = λ i. absurd (let f : true ≡ false = sym i ∙ vacant.live in cc);
           listed = λ n. absurd (none-some k (sym n ∙ vacant.name));
           named = λ n f. sym (same_Some k n (sym vacant.name ∙ f));
         }))
@@ -245,7 +249,7 @@ module _ {K T : Type 0} (eq : K → K → Bool) (law : IsEquality eq) where
 
     pub vacant_kept : IsKept eq ps qs
     vacant_kept = record {
-      tasks = record { tasks = by_place (option_and_then (λ (p : Share K T). p.task)) vacant.task; live = by_place (is_for has_live) (ap (λ o. is_some o && not v.ended) vacant.task) };
+      tasks = record { tasks = by_place (option_and_then (λ (p : Share K T). p.task)) vacant.task; live = by_place (is_for has_live) vacant.live };
       asks = λ q a. by_place (is_for (λ p. has_by eq p a)) (no_asker a) q;
       waits = λ i d. by_place (λ o. list_any (eq d) (list_for (λ (p : Share K T). p.waits) o)) (ap (list_any (eq d)) vacant.waits) i;
       room = record {
@@ -291,3 +295,7 @@ is_missing (Some x) e = cc
 pub at_none : {X : Type 0} {P : Type 0} (Q : X → Type 0) (o : Option X) → o ≡ None → MatchOption o P Q → P
 at_none Q None e p = p
 at_none Q (Some x) e p = cc
+
+-- a table's tasks that have not ended are there
+pub all_run : {K T : Type 0} (eq : K → K → Bool) (ps : List (K × Share K T)) (cs : List K) (room : ℕ) → IsListed eq ps cs room → AllRun eq ps
+all_run eq ps cs room l k p e = (l.each k p e).runs

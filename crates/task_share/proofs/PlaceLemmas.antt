@@ -65,24 +65,24 @@ module _ {K A T : Type 0} where
 module _ {K T : Type 0} (eq : K → K → Bool) (law : IsEquality eq) where
   -- a place w in the place of h: the key that w gave away is a candidate
   pub settled_listed : (ps qs : List (K × Share K T)) (cs ds : List K) (room : ℕ) (k : K) (h w : Share K T) → IsListed eq ps cs room → lookup (eq k) ps ≡ Some h → qs ≡ set_value (eq k) ps (settled w) → lookup (eq k) qs ≡ Some (settled w)
-      → ((q : K) → eq k q ≡ false → lookup (eq q) qs ≡ lookup (eq q) ps) → w.name ≡ h.name → ds ≡ cs ++ option_to_list (released w) → IsListed eq qs ds room
-  settled_listed ps qs cs ds room k h w l known set here others same grown = record { each = each_on; fits = fits_on (is_idle w) refl w.name refl }
+      → ((q : K) → eq k q ≡ false → lookup (eq q) qs ≡ lookup (eq q) ps) → w.name ≡ h.name → (w.live ≡ true → is_some w.task ≡ true) → ds ≡ cs ++ option_to_list (released w) → IsListed eq qs ds room
+  settled_listed ps qs cs ds room k h w l known set here others same runs grown = record { each = each_on; fits = fits_on (is_idle w) refl w.name refl }
     where
       was : IsNamed cs k h
       was = l.each k h known
 
       -- a name that was kept or is given away is the key; one that was away before is a candidate
       each_here : (b : Bool) → is_idle w ≡ b → (n : Option K) → w.name ≡ n → IsNamed (cs ++ option_to_list (cond b n None)) k (record w { name = cond b None n })
-      each_here true e None f = record { idle = λ _. refl; listed = λ _. has_front cs [] k (was.listed (sym same ∙ f)); named = λ n g. cc }
-      each_here true e (Some n) f = record { idle = λ _. refl; listed = λ _. has_back cs (n ∷ []) k (inl (was.named n (sym same ∙ f))); named = λ n g. cc }
-      each_here false e n f = record { idle = λ g. absurd (let a : true ≡ false = sym g ∙ e in cc); listed = λ g. has_front cs [] k (was.listed (sym same ∙ (f ∙ g))); named = λ m g. was.named m (sym same ∙ (f ∙ g)) }
+      each_here true e None f = record { idle = λ _. refl; listed = λ _. has_front cs [] k (was.listed (sym same ∙ f)); named = λ n g. cc; runs = runs }
+      each_here true e (Some n) f = record { idle = λ _. refl; listed = λ _. has_back cs (n ∷ []) k (inl (was.named n (sym same ∙ f))); named = λ n g. cc; runs = runs }
+      each_here false e n f = record { idle = λ g. absurd (let a : true ≡ false = sym g ∙ e in cc); listed = λ g. has_front cs [] k (was.listed (sym same ∙ (f ∙ g))); named = λ m g. was.named m (sym same ∙ (f ∙ g)); runs = runs }
 
       each_on : (q : K) (p : Share K T) → lookup (eq q) qs ≡ Some p → IsNamed ds q p
       each_on q p e = elim (true_or_false (eq k q)) as (λ _. IsNamed ds q p) [
         | inl t ↦ (let s : k ≡ q = law.same k q t in
             subst (λ x. IsNamed ds x p) s (subst (λ (r : Share K T). IsNamed ds k r) (same_Some (settled w) p (sym here ∙ subst (λ x. lookup (eq x) qs ≡ Some p) (sym s) e))
             (subst (λ xs. IsNamed xs k (settled w)) (sym grown) (each_here (is_idle w) refl w.name refl))))
-        | inr t ↦ (let z = l.each q p (sym (others q t) ∙ e) in record { idle = z.idle; listed = λ g. subst (λ xs. Has xs q) (sym grown) (has_front cs (option_to_list (released w)) q (z.listed g)); named = z.named })
+        | inr t ↦ (let z = l.each q p (sym (others q t) ∙ e) in record { idle = z.idle; listed = λ g. subst (λ xs. Has xs q) (sym grown) (has_front cs (option_to_list (released w)) q (z.listed g)); named = z.named; runs = z.runs })
       ]
 
       fits_on : (b : Bool) → is_idle w ≡ b → (n : Option K) → w.name ≡ n → sum_by kept_name (values_of qs) + length ds ≤ room
@@ -120,12 +120,12 @@ module _ {K T : Type 0} (eq : K → K → Bool) (law : IsEquality eq) where
 
   -- the same of a place that was settled, where mid is the place before that
   pub written_listed : {A B : Type 0} (key : Arc K A) (es fs : List (Arc K A × Place K T)) (cs ds : List (Arc K B)) (room : ℕ) (h w : Place K T) (mid : Share K T) → IsWritten eq key es fs h w → IsListed eq (shares_of es) (map arc_value cs) room
-      → mid.name ≡ (share_of h).name → share_of w ≡ settled mid → map arc_value ds ≡ map arc_value cs ++ option_to_list (released mid) → IsListed eq (shares_of fs) (map arc_value ds) room
-  written_listed {A} key es fs cs ds room h w mid i l same was grown =
+      → mid.name ≡ (share_of h).name → (((share_of h).live ≡ true → is_some h.task ≡ true) → mid.live ≡ true → is_some mid.task ≡ true) → share_of w ≡ settled mid → map arc_value ds ≡ map arc_value cs ++ option_to_list (released mid) → IsListed eq (shares_of fs) (map arc_value ds) room
+  written_listed {A} key es fs cs ds room h w mid i l same runs was grown =
       let c = changed_written key es fs h w (λ p r. Unit {0}) i tt in
       settled_listed (shares_of es) (shares_of fs) (map arc_value cs) (map arc_value ds) room (arc_value key) (share_of h) mid l (lookup_shares (eq (arc_value key)) es ∙ ap (option_map share_of) i.known)
       (ap shares_of i.set ∙ (set_shares (eq (arc_value key)) es w ∙ ap (set_value (eq (arc_value key)) (shares_of es)) was))
-      (lookup_shares (eq (arc_value key)) fs ∙ (ap (option_map share_of) i.here ∙ ap Some was)) c.others same grown
+      (lookup_shares (eq (arc_value key)) fs ∙ (ap (option_map share_of) i.here ∙ ap Some was)) c.others same (runs (l.each (arc_value key) (share_of h) (lookup_shares (eq (arc_value key)) es ∙ ap (option_map share_of) i.known)).runs) grown
 
   -- there is room for the key of a place among the candidates
   pub has_room : {A B : Type 0} (key : Arc K A) (es : List (Arc K A × Place K T)) (cs : List (Arc K B)) (room : ℕ) (h : Place K T) → IsListed eq (shares_of es) (map arc_value cs) room → lookup (λ a. eq (arc_value key) (arc_value a)) es ≡ Some h → is_some h.name ≡ true → length cs < room
@@ -150,12 +150,12 @@ module _ {K T : Type 0} (eq : K → K → Bool) (law : IsEquality eq) where
   pub asked_busy : (p : Share K T) (a : By K) → has_by eq p a ≡ true → is_idle p ≡ true → ⊥
   asked_busy p a e i = let f : true ≡ false = sym e ∙ idle_unasked p i a in cc
 
-  pub ended_busy : (p : Share K T) → p.ended ≡ true → is_idle p ≡ true → ⊥
-  ended_busy p e i = let l = (and_both (is_some p.task) (not p.ended) (and_both (has_live p) _ i).0).1 in let f : false ≡ true = sym (ap not e) ∙ l in cc
+  pub ended_busy : (p : Share K T) → p.live ≡ false → is_idle p ≡ true → ⊥
+  ended_busy p e i = let l = (and_both p.live _ i).0 in let f : false ≡ true = sym e ∙ l in cc
 
   -- a place keeps its key, and has no idle task that it did not have
-  pub kept_listed : {A : Type 0} (key : Arc K A) (es fs : List (Arc K A × Place K T)) (h w : Place K T) → IsWritten eq key es fs h w → (share_of w).name ≡ (share_of h).name → (is_idle (share_of w) ≡ true → is_idle (share_of h) ≡ true) → KeepsListed eq (shares_of es) (shares_of fs)
-  kept_listed key es fs h w i same idle cs room l =
+  pub kept_listed : {A : Type 0} (key : Arc K A) (es fs : List (Arc K A × Place K T)) (h w : Place K T) → IsWritten eq key es fs h w → (share_of w).name ≡ (share_of h).name → (is_idle (share_of w) ≡ true → is_idle (share_of h) ≡ true) → (((share_of h).live ≡ true → is_some h.task ≡ true) → (share_of w).live ≡ true → is_some w.task ≡ true) → KeepsListed eq (shares_of es) (shares_of fs)
+  kept_listed key es fs h w i same idle runs cs room l =
       let k = arc_value key in
       let known = lookup_shares (eq k) es ∙ ap (option_map share_of) i.known in
       let was = l.each k (share_of h) known in
@@ -164,7 +164,7 @@ module _ {K T : Type 0} (eq : K → K → Bool) (law : IsEquality eq) where
       let st = settled_same (share_of w) none in
       settled_listed (shares_of es) (shares_of fs) cs cs room k (share_of h) (share_of w) l known
       (ap shares_of i.set ∙ (set_shares (eq k) es w ∙ ap (set_value (eq k) (shares_of es)) st))
-      (lookup_shares (eq k) fs ∙ (ap (option_map share_of) i.here ∙ ap Some st)) c.others same (sym (ap (λ o. cs ++ option_to_list o) (released_none (share_of w) none) ∙ append-nil cs))
+      (lookup_shares (eq k) fs ∙ (ap (option_map share_of) i.here ∙ ap Some st)) c.others same (runs was.runs) (sym (ap (λ o. cs ++ option_to_list o) (released_none (share_of w) none) ∙ append-nil cs))
     where
       settled_same : (p : Share K T) → (is_idle p ≡ true → p.name ≡ None) → p ≡ settled p
       settled_same p n = by_idle (is_idle p) refl

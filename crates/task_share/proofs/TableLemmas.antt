@@ -20,10 +20,6 @@ join_bools true x y = refl
 join_bools false true y = refl
 join_bools false false y = refl
 
-and_false : (x : Bool) → (x && false) ≡ false
-and_false true = refl
-and_false false = refl
-
 and_true : (x : Bool) → x ≡ (x && true)
 and_true true = refl
 and_true false = refl
@@ -34,22 +30,22 @@ module _ {K T : Type 0} (eq : K → K → Bool) (law : IsEquality eq) where
   mirrored_same ps qs a w m d k = a d (Tasked k) ∙ (m d k ∙ sym (w k d))
 
   -- a task is put to the place of k
-  module _ (ps qs : List (K × Share K T)) (k : K) (t : T) (c : IsChanged eq k (λ p r. Turns eq (λ o. Some t) (λ e. false) (λ x b. b) (λ d b. b) p r × UsesRoom 0 0 0 p r) ps qs) where
+  module _ (ps qs : List (K × Share K T)) (k : K) (t : T) (c : IsChanged eq k (λ p r. Turns eq (λ o. Some t) (λ e. true) (λ x b. b) (λ d b. b) p r × UsesRoom 0 0 0 p r) ps qs) where
     pub put_tasks : has_place eq ps k ≡ true → (q : K) → task_at eq qs q ≡ cond (eq k q) (Some t) (task_at eq ps q)
-    put_tasks h q = task_turned eq law ps qs k _ c (λ o. Some t) (λ e. false) (λ x b. b) (λ d b. b) (λ p r i. i.0) (λ n. absurd (let f : true ≡ false = sym h ∙ ap is_some n in cc)) q
+    put_tasks h q = task_turned eq law ps qs k _ c (λ o. Some t) (λ e. true) (λ x b. b) (λ d b. b) (λ p r i. i.0) (λ n. absurd (let f : true ≡ false = sym h ∙ ap is_some n in cc)) q
 
     pub put_live : has_place eq ps k ≡ true → (q : K) → is_live eq qs q ≡ (eq k q || is_live eq ps q)
-    put_live h q = test_turned eq law ps qs k _ c has_live (λ b. true) (λ n. absurd (let f : true ≡ false = sym h ∙ ap is_some n in cc)) (λ p r i. (let x = i.0.task in let y = i.0.ended in cc)) q ∙ by_bools (eq k q) (is_live eq ps q)
+    put_live h q = test_turned eq law ps qs k _ c has_live (λ b. true) (λ n. absurd (let f : true ≡ false = sym h ∙ ap is_some n in cc)) (λ p r i. i.0.live) q ∙ by_bools (eq k q) (is_live eq ps q)
       where
         by_bools : (b x : Bool) → cond b true x ≡ (b || x)
         by_bools true x = refl
         by_bools false x = refl
 
     pub put_asks : KeepsAsks eq ps qs
-    put_asks q a = asks_turned eq law ps qs k _ c (λ o. Some t) (λ e. false) (λ x b. b) (λ d b. b) (λ p r i. i.0) a (λ n. refl) q ∙ same_cond (eq k q) (asks eq ps q a)
+    put_asks q a = asks_turned eq law ps qs k _ c (λ o. Some t) (λ e. true) (λ x b. b) (λ d b. b) (λ p r i. i.0) a (λ n. refl) q ∙ same_cond (eq k q) (asks eq ps q a)
 
     pub put_mirrored : IsMirrored eq ps → IsMirrored eq qs
-    put_mirrored = mirrored_same ps qs put_asks (λ i d. waits_turned eq law ps qs k _ c (λ o. Some t) (λ e. false) (λ x b. b) (λ d b. b) (λ p r i. i.0) d (λ n. refl) i ∙ same_cond (eq k i) (list_any (eq d) (waits_at eq ps i)))
+    put_mirrored = mirrored_same ps qs put_asks (λ i d. waits_turned eq law ps qs k _ c (λ o. Some t) (λ e. true) (λ x b. b) (λ d b. b) (λ p r i. i.0) d (λ n. refl) i ∙ same_cond (eq k i) (list_any (eq d) (waits_at eq ps i)))
 
     pub put_room : KeepsRoom eq ps qs
     put_room = room_kept eq law ps qs k _ c (λ p r i. i.1)
@@ -65,7 +61,7 @@ module _ {K T : Type 0} (eq : K → K → Bool) (law : IsEquality eq) where
         by_bools false false y = refl
 
     pub promise_left_tasks : KeepsTasks eq ps qs
-    promise_left_tasks = tasks_kept eq law ps qs k _ c (λ p r i. (i.0.task, i.0.ended))
+    promise_left_tasks = tasks_kept eq law ps qs k _ c (λ p r i. (i.0.task, i.0.live))
 
     pub promise_left_mirrored : IsMirrored eq ps → IsMirrored eq qs
     promise_left_mirrored m d j = promise_left_asks d (Tasked j) ∙ (by_bools (eq k d) (asks eq ps d (Tasked j)) ∙ (m d j ∙ sym (waits_turned eq law ps qs k _ c (λ t. t) (λ e. e) (λ x b. b && not (is_by eq (Promised n) x)) (λ d b. b) (λ p r i. i.0) d (λ n. refl) j ∙ same_cond (eq k j) (list_any (eq d) (waits_at eq ps j)))))
@@ -92,7 +88,7 @@ module _ {K T : Type 0} (eq : K → K → Bool) (law : IsEquality eq) where
         by_bools false false y = refl
 
     pub task_left_tasks : KeepsTasks eq ps rs
-    task_left_tasks = tasks_on eq ps qs rs (tasks_kept eq law ps qs k _ c (λ p r i. (i.0.task, i.0.ended))) (tasks_kept eq law qs rs j _ w (λ p r i. (i.0.task, i.0.ended)))
+    task_left_tasks = tasks_on eq ps qs rs (tasks_kept eq law ps qs k _ c (λ p r i. (i.0.task, i.0.live))) (tasks_kept eq law qs rs j _ w (λ p r i. (i.0.task, i.0.live)))
 
     pub task_left_mirrored : IsMirrored eq ps → IsMirrored eq rs
     task_left_mirrored m d i = task_left_asks d (Tasked i) ∙ (ap (λ b. b && not (eq k d && eq j i)) (m d i) ∙ (by_bools (eq j i) (eq k d) (list_any (eq d) (waits_at eq ps i))
@@ -127,7 +123,7 @@ module _ {K T : Type 0} (eq : K → K → Bool) (law : IsEquality eq) where
         ∙ join_bools (eq k q) (asks eq ps q a) (is_by eq (Promised n) a)
 
     pub promise_joined_tasks : KeepsTasks eq ps qs
-    promise_joined_tasks = tasks_kept eq law ps qs k _ c (λ p r i. (i.0.task, i.0.ended))
+    promise_joined_tasks = tasks_kept eq law ps qs k _ c (λ p r i. (i.0.task, i.0.live))
 
     pub promise_joined_mirrored : IsMirrored eq ps → IsMirrored eq qs
     promise_joined_mirrored m d j = promise_joined_asks d (Tasked j) ∙ (by_bools (eq k d) (asks eq ps d (Tasked j)) ∙ (m d j ∙ sym (waits_turned eq law ps qs k _ c (λ t. t) (λ e. e) (λ x b. b || is_by eq (Promised n) x) (λ d b. b) (λ p r i. i.0) d (λ z. refl) j ∙ same_cond (eq k j) (list_any (eq d) (waits_at eq ps j)))))
@@ -163,7 +159,7 @@ module _ {K T : Type 0} (eq : K → K → Bool) (law : IsEquality eq) where
           ∙ (asks_turned eq law ps qs k _ c (λ t. t) (λ e. e) (λ x b. b || is_by eq (Tasked j) x) (λ d b. b) (λ p r i. i.0) a (λ z. absurd (missing_asks ps k (Tasked j) (λ p. p.asker_room) asker_space z)) q ∙ join_bools (eq k q) (asks eq ps q a) (is_by eq (Tasked j) a)))
 
       pub task_joined_tasks : KeepsTasks eq ps rs
-      task_joined_tasks = tasks_on eq ps qs rs (tasks_kept eq law ps qs k _ c (λ p r i. (i.0.task, i.0.ended))) (tasks_kept eq law qs rs j _ w (λ p r i. (i.0.task, i.0.ended)))
+      task_joined_tasks = tasks_on eq ps qs rs (tasks_kept eq law ps qs k _ c (λ p r i. (i.0.task, i.0.live))) (tasks_kept eq law qs rs j _ w (λ p r i. (i.0.task, i.0.live)))
 
       pub task_joined_mirrored : IsMirrored eq ps → IsMirrored eq rs
       task_joined_mirrored m d i = task_joined_asks d (Tasked i) ∙ (ap (λ b. b || (eq k d && eq j i)) (m d i) ∙ (by_bools (eq j i) (eq k d) (list_any (eq d) (waits_at eq ps i))
@@ -198,18 +194,18 @@ module _ {K T : Type 0} (eq : K → K → Bool) (law : IsEquality eq) where
       by_test false t = refl
 
   -- a task has ended: its waits are taken out, and then withdrawn
-  module _ (ps qs rs : List (K × Share K T)) (k : K) (W : List K) (c : IsChanged eq k (λ p r. Turns eq (λ t. t) (λ e. true) (λ x b. b) (λ d b. false) p r × UsesRoom 0 0 p.wait_room p r) ps qs) (waited : W ≡ waits_at eq ps k) (w : Withdraws eq k W qs rs) (m : IsMirrored eq ps) where
+  module _ (ps qs rs : List (K × Share K T)) (k : K) (W : List K) (c : IsChanged eq k (λ p r. Turns eq (λ t. t) (λ e. false) (λ x b. b) (λ d b. false) p r × UsesRoom 0 0 p.wait_room p r) ps qs) (waited : W ≡ waits_at eq ps k) (w : Withdraws eq k W qs rs) (m : IsMirrored eq ps) where
     asks_now : (q : K) (a : By K) → asks eq qs q a ≡ asks eq ps q a
-    asks_now q a = asks_turned eq law ps qs k _ c (λ t. t) (λ e. true) (λ x b. b) (λ d b. false) (λ p r i. i.0) a (λ z. refl) q ∙ same_cond (eq k q) (asks eq ps q a)
+    asks_now q a = asks_turned eq law ps qs k _ c (λ t. t) (λ e. false) (λ x b. b) (λ d b. false) (λ p r i. i.0) a (λ z. refl) q ∙ same_cond (eq k q) (asks eq ps q a)
 
     pub ended_asks : (q : K) (a : By K) → asks eq rs q a ≡ (asks eq ps q a && not (is_by eq (Tasked k) a))
     ended_asks q a = w.asks q a ∙ (ap (λ b. b && not (is_by eq (Tasked k) a && list_any (eq q) W)) (asks_now q a) ∙ withdrawn_at ps k W (λ x. ap (list_any (eq x)) waited ∙ sym (m x k)) (asks eq ps q a) q a refl)
 
     pub ended_tasks : (q : K) → task_at eq rs q ≡ task_at eq ps q
-    ended_tasks q = w.tasks.tasks q ∙ (task_turned eq law ps qs k _ c (λ t. t) (λ e. true) (λ x b. b) (λ d b. false) (λ p r i. i.0) (λ z. refl) q ∙ same_cond (eq k q) (task_at eq ps q))
+    ended_tasks q = w.tasks.tasks q ∙ (task_turned eq law ps qs k _ c (λ t. t) (λ e. false) (λ x b. b) (λ d b. false) (λ p r i. i.0) (λ z. refl) q ∙ same_cond (eq k q) (task_at eq ps q))
 
     pub ended_live : (q : K) → is_live eq rs q ≡ (is_live eq ps q && not (eq k q))
-    ended_live q = w.tasks.live q ∙ (test_turned eq law ps qs k _ c has_live (λ b. false) (λ z. refl) (λ p r i. ap (λ b. is_some r.task && not b) i.0.ended ∙ and_false (is_some r.task)) q ∙ by_bools (eq k q) (is_live eq ps q))
+    ended_live q = w.tasks.live q ∙ (test_turned eq law ps qs k _ c has_live (λ b. false) (λ z. refl) (λ p r i. i.0.live) q ∙ by_bools (eq k q) (is_live eq ps q))
       where
         by_bools : (b x : Bool) → cond b false x ≡ (x && not b)
         by_bools true true = refl
@@ -219,7 +215,7 @@ module _ {K T : Type 0} (eq : K → K → Bool) (law : IsEquality eq) where
 
     pub ended_mirrored : IsMirrored eq rs
     ended_mirrored d i = ended_asks d (Tasked i) ∙ (ap (λ b. b && not (eq k i)) (m d i) ∙ (by_bools (eq k i) (list_any (eq d) (waits_at eq ps i))
-        ∙ sym (w.waits i d ∙ waits_turned eq law ps qs k _ c (λ t. t) (λ e. true) (λ x b. b) (λ d b. false) (λ p r i. i.0) d (λ z. refl) i)))
+        ∙ sym (w.waits i d ∙ waits_turned eq law ps qs k _ c (λ t. t) (λ e. false) (λ x b. b) (λ d b. false) (λ p r i. i.0) d (λ z. refl) i)))
       where
         by_bools : (b x : Bool) → (x && not b) ≡ cond b false x
         by_bools true true = refl

@@ -79,10 +79,10 @@ module _ {K T : Type 0} (eq : K → K → Bool) (law : IsEquality eq) (ps qs : L
         by_places (Some p) (Some r) e i = (turn p r i).task
 
   -- the task of each place stays
-  pub tasks_kept : ((p r : Share K T) → R p r → (r.task ≡ p.task) × (r.ended ≡ p.ended)) → KeepsTasks eq ps qs
+  pub tasks_kept : ((p r : Share K T) → R p r → (r.task ≡ p.task) × (r.live ≡ p.live)) → KeepsTasks eq ps qs
   tasks_kept step = record {
     tasks = λ q. by_key (option_and_then (λ (p : Share K T). p.task)) (λ o. o) (by_places (lookup (eq k) ps) (lookup (eq k) qs) c.here) q ∙ same_cond (eq k q) (task_at eq ps q);
-    live = λ q. test_turned has_live (λ b. b) (λ n. refl) (λ p r i. (let z = step p r i in let x = z.0 in let y = z.1 in cc)) q ∙ same_cond (eq k q) (is_live eq ps q);
+    live = λ q. test_turned has_live (λ b. b) (λ n. refl) (λ p r i. (step p r i).1) q ∙ same_cond (eq k q) (is_live eq ps q);
   }
     where
       by_places : (o r : Option (Share K T)) → AreIn R o r → option_and_then (λ (p : Share K T). p.task) r ≡ option_and_then (λ (p : Share K T). p.task) o
@@ -106,7 +106,7 @@ module _ {K T : Type 0} (eq : K → K → Bool) (law : IsEquality eq) (ps qs : L
   -- where a place stays but for its room and its key, all is kept
   pub stays_kept : ((p r : Share K T) → R p r → Stays eq p r × UsesRoom 0 0 0 p r) → IsKept eq ps qs
   stays_kept step = record {
-    tasks = tasks_kept (λ p r i. ((step p r i).0.task, (step p r i).0.ended));
+    tasks = tasks_kept (λ p r i. ((step p r i).0.task, (step p r i).0.live));
     asks = λ q a. asks_turned (λ t. t) (λ e. e) (λ x b. b) (λ d b. b) (λ p r i. (step p r i).0) a (λ n. refl) q ∙ same_cond (eq k q) (asks eq ps q a);
     waits = λ q d. waits_turned (λ t. t) (λ e. e) (λ x b. b) (λ d b. b) (λ p r i. (step p r i).0) d (λ n. refl) q ∙ same_cond (eq k q) (list_any (eq d) (waits_at eq ps q));
     room = room_kept (λ p r i. (step p r i).1);

@@ -15,7 +15,7 @@ use Rattle.task_share.specs.declared.place.Place.{Place}
 abbrev pub share_of : {K T : Type 0} → Place K T → Share K T
 share_of p = record {
   task = p.task;
-  ended = p.ended;
+  live = p.live;
   promises = p.promises.keys;
   askers = map arc_value p.askers.keys;
   waits = map arc_value p.waits.keys;
@@ -51,11 +51,12 @@ one_if false = 0
 abbrev pub kept_name : {K T : Type 0} → Share K T → ℕ
 kept_name p = one_if (is_some p.name)
 
--- a place has its key, or the key is among the candidates, as that of an idle task is
+-- a place has its key, or the key is among the candidates, as that of an idle task is; a task that has not ended is there
 pub record IsNamed {K T : Type 0} (cs : List K) (k : K) (p : Share K T) : Type 0 where
   pub idle : is_idle p ≡ true → p.name ≡ None
   pub listed : p.name ≡ None → Has cs k
   pub named : (n : K) → p.name ≡ Some n → n ≡ k
+  pub runs : p.live ≡ true → is_some p.task ≡ true
 
 -- each place is named, and there is room for all keys among the candidates
 pub record IsListed {K T : Type 0} (eq : K → K → Bool) (ps : List (K × Share K T)) (cs : List K) (room : ℕ) : Type 0 where
@@ -74,6 +75,7 @@ pub record IsWhole {K T : Type 0} (eq : K → K → Bool) (ps : List (K × Share
 -- the place of k, before there is a task or an asker
 pub record IsVacant {K T : Type 0} (k : K) (p : Share K T) : Type 0 where
   pub task : p.task ≡ None
+  pub live : p.live ≡ false
   pub promises : p.promises ≡ []
   pub askers : p.askers ≡ []
   pub waits : p.waits ≡ []
@@ -97,10 +99,10 @@ pub record UsesRoom {K T : Type 0} (m n l : ℕ) (p r : Share K T) : Type 0 wher
   pub askers : p.asker_room ≤ r.asker_room + n
   pub waits : p.wait_room ≤ r.wait_room + l
 
--- the task of a place changes by t, whether it has ended by e, its askers by A and its waits by W
+-- the task of a place changes by t, whether it has not ended by e, its askers by A and its waits by W
 pub record Turns {K T : Type 0} (eq : K → K → Bool) (t : Option T → Option T) (e : Bool → Bool) (A : By K → Bool → Bool) (W : K → Bool → Bool) (p r : Share K T) : Type 0 where
   pub task : r.task ≡ t p.task
-  pub ended : r.ended ≡ e p.ended
+  pub live : r.live ≡ e p.live
   pub asks : (a : By K) → has_by eq r a ≡ A a (has_by eq p a)
   pub waits : (d : K) → list_any (eq d) r.waits ≡ W d (list_any (eq d) p.waits)
 
@@ -153,6 +155,10 @@ pub record IsPopped {K T : Type 0} (eq : K → K → Bool) (k : K) (t : T) (wait
   pub taken : IsTaken eq k place mid qs
   pub task : place.task ≡ Some t
   pub waited : waits ≡ place.waits
+
+-- each task that has not ended is there
+abbrev pub AllRun : {K T : Type 0} → (K → K → Bool) → List (K × Share K T) → Type 0
+AllRun {K} {T} eq ps = (k : K) (p : Share K T) → lookup (eq k) ps ≡ Some p → p.live ≡ true → is_some p.task ≡ true
 
 -- no task is idle
 abbrev pub NoneIdle : {K T : Type 0} → (K → K → Bool) → List (K × Share K T) → Type 0

@@ -4,11 +4,11 @@ use Rattle.std.specs.Map.{lookup}
 use Rattle.std.specs.List.{list_any}
 use Rattle.task_share.specs.Asked.{By, Promised, Tasked, Asked}
 
--- what is kept at a key: its task, if there is one, and whether it has ended; the promises and the tasks that ask for the key, the
+-- what is kept at a key: its task, if there is one, and whether it is there and has not ended; the promises and the tasks that ask for the key, the
 -- keys that its task waits for, and how many more of each there is room for; the key itself, where it is not among the candidates
 pub record Share (K T : Type 0) : Type 0 where
   pub task : Option T
-  pub ended : Bool
+  pub live : Bool
   pub promises : List ℕ
   pub askers : List K
   pub waits : List K
@@ -32,7 +32,7 @@ number_for f (Some x) = f x
 
 -- there is a task, and it has not ended
 abbrev pub has_live : {K T : Type 0} → Share K T → Bool
-has_live p = is_some p.task && not p.ended
+has_live p = p.live
 
 -- whether this asker is among those of the key
 abbrev pub has_by : {K T : Type 0} → (K → K → Bool) → Share K T → By K → Bool

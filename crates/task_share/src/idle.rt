@@ -4,7 +4,7 @@ ghost use Rattle.std.specs.Arc.{arc_value};
 ghost use Rattle.std.specs.Map.{lookup};
 ghost use Rattle.dice_key.specs.Lawful.{IsEquality};
 ghost use Rattle.task_share.specs.Seen.{is_for};
-ghost use Rattle.task_share.specs.Listed.{shares_of, is_idle, IsListed, IsKept, IsPopped, NoneIdle, Withdraws};
+ghost use Rattle.task_share.specs.Listed.{shares_of, is_idle, IsListed, IsKept, IsPopped, AllRun, NoneIdle, Withdraws};
 
 use crate::place::{Place, is_unasked};
 use crate::places::leave_task;
@@ -45,7 +45,8 @@ fn take_idle<K: Eq + Hash + Drop, T: Drop>(
     places: &mut HashMap<Arc<K>, Place<K, T>>,
     key: Arc<K>,
 ) -> Option<(Arc<K>, T, IndexSet<Arc<K>>)>
-    requires { IsEquality K.eq }
+    requires equality { IsEquality K.eq }
+    requires runs { AllRun K.eq (shares_of places.old.entries) }
     ensures listed { (cs : List K) (room : ℕ) → IsListed K.eq (shares_of places.old.entries) (cs ++ arc_value key ∷ []) room → IsListed K.eq (shares_of places.new.entries) cs room }
     ensures some { IfSome result (λ f. IsPopped K.eq (arc_value f.0) f.1 (map arc_value f.2.keys) (shares_of places.old.entries) (shares_of places.new.entries)) }
     ensures none { IfNone result (IsKept K.eq (shares_of places.old.entries) (shares_of places.new.entries)) }
@@ -59,7 +60,7 @@ fn take_idle<K: Eq + Hash + Drop, T: Drop>(
     };
     let Place {
         task,
-        ended: _,
+        live: _,
         promises: _,
         askers: _,
         waits,

@@ -84,13 +84,13 @@ pub fn put_task<K: Eq + Hash + Drop, T: Drop>(
     requires equality { IsEquality K.eq }
     requires listed { IsListed K.eq (shares_of places.old.entries) (map arc_value candidates.old.items) (vec_capacity candidates.old) }
     ensures listed { IsListed K.eq (shares_of places.new.entries) (map arc_value candidates.new.items) (vec_capacity candidates.new) }
-    ensures changed { IsChanged K.eq (arc_value key.now) (λ p r. Turns K.eq (λ t. Some task) (λ e. false) (λ x b. b) (λ d b. b) p r × UsesRoom 0 0 0 p r) (shares_of places.old.entries) (shares_of places.new.entries) }
+    ensures changed { IsChanged K.eq (arc_value key.now) (λ p r. Turns K.eq (λ t. Some task) (λ e. true) (λ x b. b) (λ d b. b) p r × UsesRoom 0 0 0 p r) (shares_of places.old.entries) (shares_of places.new.entries) }
 {
     let Some(place) = places.get_mut(key) else {
         return;
     };
     place.task = Some(task);
-    place.ended = false;
+    place.live = true;
     settle(place, candidates);
 }
 
@@ -103,13 +103,13 @@ pub fn end_task<K: Eq + Hash + Drop, T: Drop>(
     requires { IsEquality K.eq }
     ensures listed { KeepsListed K.eq (shares_of places.old.entries) (shares_of places.new.entries) }
     ensures waits { map arc_value result.keys ≡ waits_at K.eq (shares_of places.old.entries) (arc_value key.now) }
-    ensures changed { IsChanged K.eq (arc_value key.now) (λ p r. Turns K.eq (λ t. t) (λ e. true) (λ x b. b) (λ d b. false) p r × UsesRoom 0 0 p.wait_room p r) (shares_of places.old.entries) (shares_of places.new.entries) }
+    ensures changed { IsChanged K.eq (arc_value key.now) (λ p r. Turns K.eq (λ t. t) (λ e. false) (λ x b. b) (λ d b. false) p r × UsesRoom 0 0 p.wait_room p r) (shares_of places.old.entries) (shares_of places.new.entries) }
 {
     let none = IndexSet::new(alloc);
     let Some(place) = places.get_mut(key) else {
         return none;
     };
-    place.ended = true;
+    place.live = false;
     mem::replace(&mut place.waits, none)
 }
 

@@ -2,15 +2,17 @@
 ghost use Rattle.std.specs.Prelude.{◌≡◌, ◌<◌, ◌≤◌, ◌+◌, ◌⊎◌, ◌&&◌, ◌||◌, not, nat_eq, ℕ, [], true, false, Some, None, cond, map, if◌then◌else◌, IfSome, IfNone, OnOk, OnErr};
 ghost use Rattle.std.specs.Arc.{arc_value};
 ghost use Rattle.std.specs.List.{list_any};
-ghost use Rattle.std.specs.Option.{option_copied};
+ghost use Rattle.std.specs.Option.{option_copied, option_copied_mut};
+ghost use Rattle.std.specs.Borrow.{sem};
 ghost use Rattle.dice_key.specs.Lawful.{IsEquality};
 ghost use Rattle.task_share.specs.Asked.{By, Promised, Tasked, is_by, IsDone, Takes};
 ghost use Rattle.task_share.specs.Askers.{by_of};
+ghost use Rattle.task_share.specs.Lent.{LendsTask};
 ghost use Rattle.task_share.specs.Seen.{task_at, is_live, asks, waits_at, asked_of, has_place, promise_room, asker_room, wait_room, KeepsTasks, KeepsAsks, KeepsRoom, KeepsOtherRoom, UsesRoomOf};
 
 use crate::asker::{Asker, Wait};
 use crate::idle::{pop_idle, withdraw};
-use crate::place::Place;
+use crate::place::{Place, is_running};
 use crate::places::{add_asker, add_promise, add_wait, drop_wait, end_task, leave_promise, leave_task, pop_asker, put_task};
 use crate::room;
 use dice_key::NoMemory;
@@ -267,12 +269,21 @@ impl<K: Eq + Hash + Drop, T: Drop> Table<K, T> {
         place.task.as_ref()
     }
 
+    /// The task of the key, ended or not, to be changed. What is written changes this task alone.
+    pub fn task_mut(&mut self, key: &Arc<K>) -> Option<&mut T>
+        ensures* writes_back { sem 𝓛 (LendsTask K.row T.row K.eq K.hash_input self.entry (arc_value key.now) result) }
+        ensures value { option_copied_mut result ≡ task_at K.eq self.old (arc_value key.now) }
+    {
+        let place = self.places.get_mut(key)?;
+        place.task.as_mut()
+    }
+
     /// Whether the key has a task that has not ended.
     pub fn is_live(&self, key: &Arc<K>) -> bool
         ensures { result ≡ is_live K.eq self.now (arc_value key.now) }
     {
         match self.places.get(key) {
-            Some(place) => place.task.is_some() && !place.ended,
+            Some(place) => is_running(place),
             None => false,
         }
     }

@@ -10,7 +10,7 @@ use Rattle.task_share.specs.Listed.{share_of, shares_of, is_idle, IsListed, IsCh
 use Rattle.task_share.specs.declared.place.Place.{Place}
 use Rattle.task_share.proofs.PlaceLemmas.{lookup_shares, set_shares, and_both, no_more, IsWritten, changed_none, changed_written, written_listed, has_room, left_promise, left_task, left_wait, joined_promise, joined_task, joined_wait, list_any_values, kept_listed, kept_none, inserted, asked_busy, ended_busy}
 use Rattle.task_share.proofs.TurnLemmas.{stays_kept, kept_itself, kept_on}
-use Rattle.task_share.proofs.IdleLemmas.{dropped_listed, back_listed, taken_listed, none_idle, removed_less, removed_gone, withdraws_none, withdraws_more, popped, popped_on, withdrawing_none, withdrawing_more, withdrawing_done}
+use Rattle.task_share.proofs.IdleLemmas.{dropped_listed, back_listed, taken_listed, none_idle, removed_less, removed_gone, withdraws_none, withdraws_more, popped, popped_on, withdrawing_none, all_run, withdrawing_more, withdrawing_done}
 use Rattle.task_share.proofs.idle.give_back.Goals as goal
 
 pub returns-in_default-clause-listed : goal.returns-in_default-clause-listed
@@ -29,7 +29,7 @@ returns-clause-listed g c = λ cs room l.
     let eq = g.K.PartialEq.eq in
     let key = c.args.key in
     let h = c.in-Some.place.now in
-    let w : Place g.row.K.Denot g.row.T.Denot = record { task = h.task; ended = h.ended; promises = h.promises; askers = h.askers; waits = h.waits; name = Some c.args.key } in
+    let w : Place g.row.K.Denot g.row.T.Denot = record { task = h.task; live = h.live; promises = h.promises; askers = h.askers; waits = h.waits; name = Some c.args.key } in
     let known : lookup (λ a. eq (arc_value key) (arc_value a)) c.args.places.now.entries ≡ Some h = sym c.get_mut.ensures.value ∙ ap option_copied_mut c.in-Some.is in
     let o = c.get_mut.follows.holds w in
     let u = o.3 (subst IsSome (sym known) refl) in
@@ -44,10 +44,10 @@ returns-clause-kept g c =
     let eq = g.K.PartialEq.eq in
     let key = c.args.key in
     let h = c.in-Some.place.now in
-    let w : Place g.row.K.Denot g.row.T.Denot = record { task = h.task; ended = h.ended; promises = h.promises; askers = h.askers; waits = h.waits; name = Some c.args.key } in
+    let w : Place g.row.K.Denot g.row.T.Denot = record { task = h.task; live = h.live; promises = h.promises; askers = h.askers; waits = h.waits; name = Some c.args.key } in
     let known : lookup (λ a. eq (arc_value key) (arc_value a)) c.args.places.now.entries ≡ Some h = sym c.get_mut.ensures.value ∙ ap option_copied_mut c.in-Some.is in
     let o = c.get_mut.follows.holds w in
     let u = o.3 (subst IsSome (sym known) refl) in
     let i : IsWritten eq key c.args.places.now.entries (c.get_mut.follows.lender w).entries h w = record { known = known; set = o.0; here = u.1; others = u.2 } in
     stays_kept eq c.requires.equality (shares_of c.args.places.now.entries) (shares_of (c.get_mut.follows.lender w).entries) (arc_value key) (λ p r. Stays eq p r × UsesRoom 0 0 0 p r)
-    (changed_written eq c.requires.equality key c.args.places.now.entries (c.get_mut.follows.lender w).entries h w _ i (record { task = refl; ended = refl; asks = λ a. refl; waits = λ d. refl }, record { promises = omega arith; askers = omega arith; waits = omega arith })) (λ p r x. x)
+    (changed_written eq c.requires.equality key c.args.places.now.entries (c.get_mut.follows.lender w).entries h w _ i (record { task = refl; live = refl; asks = λ a. refl; waits = λ d. refl }, record { promises = omega arith; askers = omega arith; waits = omega arith })) (λ p r x. x)

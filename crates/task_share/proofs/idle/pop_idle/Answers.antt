@@ -10,8 +10,11 @@ use Rattle.task_share.specs.Listed.{share_of, shares_of, is_idle, IsListed, IsCh
 use Rattle.task_share.specs.declared.place.Place.{Place}
 use Rattle.task_share.proofs.PlaceLemmas.{lookup_shares, set_shares, and_both, no_more, IsWritten, changed_none, changed_written, written_listed, has_room, left_promise, left_task, left_wait, joined_promise, joined_task, joined_wait, list_any_values, kept_listed, kept_none, inserted, asked_busy, ended_busy}
 use Rattle.task_share.proofs.TurnLemmas.{stays_kept, kept_itself, kept_on}
-use Rattle.task_share.proofs.IdleLemmas.{dropped_listed, back_listed, taken_listed, none_idle, removed_less, removed_gone, withdraws_none, withdraws_more, popped, popped_on, withdrawing_none, withdrawing_more, withdrawing_done}
+use Rattle.task_share.proofs.IdleLemmas.{dropped_listed, back_listed, taken_listed, none_idle, removed_less, removed_gone, withdraws_none, withdraws_more, popped, popped_on, withdrawing_none, all_run, withdrawing_more, withdrawing_done}
 use Rattle.task_share.proofs.idle.pop_idle.Goals as goal
+
+pub take_idle-requires-clause-runs : goal.take_idle-requires-clause-runs
+take_idle-requires-clause-runs g c = all_run g.K.PartialEq.eq (shares_of c.loop-key.places.entries) (map arc_value c.loop-key.candidates.items) (vec_capacity c.loop-key.candidates) c.loop-key.invariant.listed
 
 pub returns-in-Some-take_idle-clause-listed : goal.returns-in-Some-take_idle-clause-listed
 returns-in-Some-take_idle-clause-listed g c =

@@ -10,7 +10,7 @@ use Rattle.task_share.specs.Listed.{share_of, shares_of, is_idle, IsListed, IsCh
 use Rattle.task_share.specs.declared.place.Place.{Place}
 use Rattle.task_share.proofs.PlaceLemmas.{lookup_shares, set_shares, and_both, no_more, IsWritten, changed_none, changed_written, written_listed, has_room, left_promise, left_task, left_wait, joined_promise, joined_task, joined_wait, list_any_values, kept_listed, kept_none, inserted, asked_busy, ended_busy}
 use Rattle.task_share.proofs.TurnLemmas.{stays_kept, kept_itself, kept_on}
-use Rattle.task_share.proofs.IdleLemmas.{dropped_listed, back_listed, taken_listed, none_idle, removed_less, removed_gone, withdraws_none, withdraws_more, popped, popped_on, withdrawing_none, withdrawing_more, withdrawing_done}
+use Rattle.task_share.proofs.IdleLemmas.{dropped_listed, back_listed, taken_listed, none_idle, removed_less, removed_gone, withdraws_none, withdraws_more, popped, popped_on, withdrawing_none, all_run, withdrawing_more, withdrawing_done}
 use Rattle.task_share.proofs.idle.withdraw.Goals as goal
 
 pub loop-asked-init : goal.loop-asked-init

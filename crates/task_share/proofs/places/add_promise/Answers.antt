@@ -29,7 +29,7 @@ returns-clause-listed g c =
     let eq = g.K.PartialEq.eq in
     let key = c.args.key.now in
     let h = c.in-Some.place.now in
-    let w : Place g.row.K.Denot g.row.T.Denot = record { task = h.task; ended = h.ended; promises = c.insert.new.self; askers = h.askers; waits = h.waits; name = h.name } in
+    let w : Place g.row.K.Denot g.row.T.Denot = record { task = h.task; live = h.live; promises = c.insert.new.self; askers = h.askers; waits = h.waits; name = h.name } in
     let known : lookup (λ a. eq (arc_value key) (arc_value a)) c.args.places.now.entries ≡ Some h = sym c.get_mut.ensures.value ∙ ap option_copied_mut c.in-Some.is in
     let o = c.get_mut.follows.holds w in
     let u = o.3 (subst IsSome (sym known) refl) in
@@ -37,14 +37,14 @@ returns-clause-listed g c =
     let found = lookup_shares (eq (arc_value key)) c.args.places.now.entries ∙ ap (option_map share_of) known in
     let b : (list_any (nat_eq c.args.number) h.promises.keys ≡ true) ⊎ (0 < spare h.promises) = subst (λ o. (is_for (λ (p : Share g.row.K.Denot g.row.T.Denot). has_by eq p (Promised c.args.number)) o ≡ true) ⊎ (0 < number_for (λ (p : Share g.row.K.Denot g.row.T.Denot). p.promise_room) o)) found c.requires.room in
     let d = inserted c.insert.result (list_any (nat_eq c.args.number) h.promises.keys) (spare h.promises) _ c.insert.ensures.updates c.insert.ensures.absent c.insert.ensures.succeeds b in
-    kept_listed eq c.requires.equality key c.args.places.now.entries (c.get_mut.follows.lender w).entries h w i refl (λ e. absurd (asked_busy eq c.requires.equality (share_of w) (Promised c.args.number) (d.0 c.args.number ∙ ap (λ t. cond t true (list_any (nat_eq c.args.number) h.promises.keys)) (eq-eqb c.args.number c.args.number refl)) e))
+    kept_listed eq c.requires.equality key c.args.places.now.entries (c.get_mut.follows.lender w).entries h w i refl (λ e. absurd (asked_busy eq c.requires.equality (share_of w) (Promised c.args.number) (d.0 c.args.number ∙ ap (λ t. cond t true (list_any (nat_eq c.args.number) h.promises.keys)) (eq-eqb c.args.number c.args.number refl)) e)) (λ r. r)
 
 pub returns-clause-changed : goal.returns-clause-changed
 returns-clause-changed g c =
     let eq = g.K.PartialEq.eq in
     let key = c.args.key.now in
     let h = c.in-Some.place.now in
-    let w : Place g.row.K.Denot g.row.T.Denot = record { task = h.task; ended = h.ended; promises = c.insert.new.self; askers = h.askers; waits = h.waits; name = h.name } in
+    let w : Place g.row.K.Denot g.row.T.Denot = record { task = h.task; live = h.live; promises = c.insert.new.self; askers = h.askers; waits = h.waits; name = h.name } in
     let known : lookup (λ a. eq (arc_value key) (arc_value a)) c.args.places.now.entries ≡ Some h = sym c.get_mut.ensures.value ∙ ap option_copied_mut c.in-Some.is in
     let o = c.get_mut.follows.holds w in
     let u = o.3 (subst IsSome (sym known) refl) in
@@ -52,4 +52,4 @@ returns-clause-changed g c =
     let found = lookup_shares (eq (arc_value key)) c.args.places.now.entries ∙ ap (option_map share_of) known in
     let b : (list_any (nat_eq c.args.number) h.promises.keys ≡ true) ⊎ (0 < spare h.promises) = subst (λ o. (is_for (λ (p : Share g.row.K.Denot g.row.T.Denot). has_by eq p (Promised c.args.number)) o ≡ true) ⊎ (0 < number_for (λ (p : Share g.row.K.Denot g.row.T.Denot). p.promise_room) o)) found c.requires.room in
     let d = inserted c.insert.result (list_any (nat_eq c.args.number) h.promises.keys) (spare h.promises) _ c.insert.ensures.updates c.insert.ensures.absent c.insert.ensures.succeeds b in
-    changed_written eq c.requires.equality key c.args.places.now.entries (c.get_mut.follows.lender w).entries h w _ i (record { task = refl; ended = refl; asks = joined_promise eq (share_of h) (share_of w) c.args.number refl (λ q. d.0 q); waits = λ d. refl }, record { promises = omega (arith, c.insert.ensures.spare); askers = omega arith; waits = omega arith })
+    changed_written eq c.requires.equality key c.args.places.now.entries (c.get_mut.follows.lender w).entries h w _ i (record { task = refl; live = refl; asks = joined_promise eq (share_of h) (share_of w) c.args.number refl (λ q. d.0 q); waits = λ d. refl }, record { promises = omega (arith, c.insert.ensures.spare); askers = omega arith; waits = omega arith })

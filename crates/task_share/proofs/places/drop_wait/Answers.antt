@@ -26,21 +26,21 @@ returns-clause-listed g c =
     let eq = g.K.PartialEq.eq in
     let key = c.args.key.now in
     let h = c.in-Some.place.now in
-    let w : Place g.row.K.Denot g.row.T.Denot = record { task = h.task; ended = h.ended; promises = h.promises; askers = h.askers; waits = c.swap_remove.new.self; name = h.name } in
+    let w : Place g.row.K.Denot g.row.T.Denot = record { task = h.task; live = h.live; promises = h.promises; askers = h.askers; waits = c.swap_remove.new.self; name = h.name } in
     let known : lookup (λ a. eq (arc_value key) (arc_value a)) c.args.places.now.entries ≡ Some h = sym c.get_mut.ensures.value ∙ ap option_copied_mut c.in-Some.is in
     let o = c.get_mut.follows.holds w in
     let u = o.3 (subst IsSome (sym known) refl) in
     let i : IsWritten eq key c.args.places.now.entries (c.get_mut.follows.lender w).entries h w = record { known = known; set = o.0; here = u.1; others = u.2 } in
-    kept_listed eq c.requires key c.args.places.now.entries (c.get_mut.follows.lender w).entries h w i refl (λ e. e)
+    kept_listed eq c.requires key c.args.places.now.entries (c.get_mut.follows.lender w).entries h w i refl (λ e. e) (λ r. r)
 
 pub returns-clause-changed : goal.returns-clause-changed
 returns-clause-changed g c =
     let eq = g.K.PartialEq.eq in
     let key = c.args.key.now in
     let h = c.in-Some.place.now in
-    let w : Place g.row.K.Denot g.row.T.Denot = record { task = h.task; ended = h.ended; promises = h.promises; askers = h.askers; waits = c.swap_remove.new.self; name = h.name } in
+    let w : Place g.row.K.Denot g.row.T.Denot = record { task = h.task; live = h.live; promises = h.promises; askers = h.askers; waits = c.swap_remove.new.self; name = h.name } in
     let known : lookup (λ a. eq (arc_value key) (arc_value a)) c.args.places.now.entries ≡ Some h = sym c.get_mut.ensures.value ∙ ap option_copied_mut c.in-Some.is in
     let o = c.get_mut.follows.holds w in
     let u = o.3 (subst IsSome (sym known) refl) in
     let i : IsWritten eq key c.args.places.now.entries (c.get_mut.follows.lender w).entries h w = record { known = known; set = o.0; here = u.1; others = u.2 } in
-    changed_written eq c.requires key c.args.places.now.entries (c.get_mut.follows.lender w).entries h w _ i (record { task = refl; ended = refl; asks = λ a. refl; waits = left_wait eq (share_of h) (share_of w) (arc_value c.args.asked.now) (λ q. list_any_values (eq q) w.waits.keys ∙ (c.swap_remove.ensures.updates.0 (arc_with_value c.args.asked.now q) ∙ ap (cond (eq (arc_value c.args.asked.now) q) false) (sym (list_any_values (eq q) h.waits.keys)))) }, record { promises = omega arith; askers = omega arith; waits = omega (arith, c.swap_remove.ensures.room.0) })
+    changed_written eq c.requires key c.args.places.now.entries (c.get_mut.follows.lender w).entries h w _ i (record { task = refl; live = refl; asks = λ a. refl; waits = left_wait eq (share_of h) (share_of w) (arc_value c.args.asked.now) (λ q. list_any_values (eq q) w.waits.keys ∙ (c.swap_remove.ensures.updates.0 (arc_with_value c.args.asked.now q) ∙ ap (cond (eq (arc_value c.args.asked.now) q) false) (sym (list_any_values (eq q) h.waits.keys)))) }, record { promises = omega arith; askers = omega arith; waits = omega (arith, c.swap_remove.ensures.room.0) })

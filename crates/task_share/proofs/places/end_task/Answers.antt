@@ -32,19 +32,19 @@ returns-clause-listed g c =
     let eq = g.K.PartialEq.eq in
     let key = c.args.key.now in
     let h = c.in-Some.place.now in
-    let w : Place g.row.K.Denot g.row.T.Denot = record { task = h.task; ended = true; promises = h.promises; askers = h.askers; waits = c.replace.new.dest; name = h.name } in
+    let w : Place g.row.K.Denot g.row.T.Denot = record { task = h.task; live = false; promises = h.promises; askers = h.askers; waits = c.replace.new.dest; name = h.name } in
     let known : lookup (λ a. eq (arc_value key) (arc_value a)) c.args.places.now.entries ≡ Some h = sym c.get_mut.ensures.value ∙ ap option_copied_mut c.in-Some.is in
     let o = c.get_mut.follows.holds w in
     let u = o.3 (subst IsSome (sym known) refl) in
     let i : IsWritten eq key c.args.places.now.entries (c.get_mut.follows.lender w).entries h w = record { known = known; set = o.0; here = u.1; others = u.2 } in
-    kept_listed eq c.requires key c.args.places.now.entries (c.get_mut.follows.lender w).entries h w i refl (λ e. absurd (ended_busy eq c.requires (share_of w) refl e))
+    kept_listed eq c.requires key c.args.places.now.entries (c.get_mut.follows.lender w).entries h w i refl (λ e. absurd (ended_busy eq c.requires (share_of w) refl e)) (λ r e. cc)
 
 pub returns-clause-waits : goal.returns-clause-waits
 returns-clause-waits g c =
     let eq = g.K.PartialEq.eq in
     let key = c.args.key.now in
     let h = c.in-Some.place.now in
-    let w : Place g.row.K.Denot g.row.T.Denot = record { task = h.task; ended = true; promises = h.promises; askers = h.askers; waits = c.replace.new.dest; name = h.name } in
+    let w : Place g.row.K.Denot g.row.T.Denot = record { task = h.task; live = false; promises = h.promises; askers = h.askers; waits = c.replace.new.dest; name = h.name } in
     let known : lookup (λ a. eq (arc_value key) (arc_value a)) c.args.places.now.entries ≡ Some h = sym c.get_mut.ensures.value ∙ ap option_copied_mut c.in-Some.is in
     let o = c.get_mut.follows.holds w in
     let u = o.3 (subst IsSome (sym known) refl) in
@@ -57,9 +57,9 @@ returns-clause-changed g c =
     let eq = g.K.PartialEq.eq in
     let key = c.args.key.now in
     let h = c.in-Some.place.now in
-    let w : Place g.row.K.Denot g.row.T.Denot = record { task = h.task; ended = true; promises = h.promises; askers = h.askers; waits = c.replace.new.dest; name = h.name } in
+    let w : Place g.row.K.Denot g.row.T.Denot = record { task = h.task; live = false; promises = h.promises; askers = h.askers; waits = c.replace.new.dest; name = h.name } in
     let known : lookup (λ a. eq (arc_value key) (arc_value a)) c.args.places.now.entries ≡ Some h = sym c.get_mut.ensures.value ∙ ap option_copied_mut c.in-Some.is in
     let o = c.get_mut.follows.holds w in
     let u = o.3 (subst IsSome (sym known) refl) in
     let i : IsWritten eq key c.args.places.now.entries (c.get_mut.follows.lender w).entries h w = record { known = known; set = o.0; here = u.1; others = u.2 } in
-    changed_written eq c.requires key c.args.places.now.entries (c.get_mut.follows.lender w).entries h w _ i (record { task = refl; ended = refl; asks = λ a. refl; waits = λ d. ap (λ s. list_any (eq d) (map arc_value s.keys)) c.replace.ensures.after ∙ ap (λ ks. list_any (eq d) (map arc_value ks)) c.new-none.ensures.empty }, record { promises = omega arith; askers = omega arith; waits = omega arith })
+    changed_written eq c.requires key c.args.places.now.entries (c.get_mut.follows.lender w).entries h w _ i (record { task = refl; live = refl; asks = λ a. refl; waits = λ d. ap (λ s. list_any (eq d) (map arc_value s.keys)) c.replace.ensures.after ∙ ap (λ ks. list_any (eq d) (map arc_value ks)) c.new-none.ensures.empty }, record { promises = omega arith; askers = omega arith; waits = omega arith })

@@ -35,9 +35,9 @@ returns-clause-listed g c =
     let o = c.get_mut.follows.holds w in
     let u = o.3 (subst IsSome (sym known) refl) in
     let i : IsWritten eq key c.args.places.now.entries (c.get_mut.follows.lender w).entries h w = record { known = known; set = o.0; here = u.1; others = u.2 } in
-    let mid : Place g.row.K.Denot g.row.T.Denot = record { task = h.task; ended = h.ended; promises = h.promises; askers = c.pop-asker.new.self; waits = h.waits; name = h.name } in
+    let mid : Place g.row.K.Denot g.row.T.Denot = record { task = h.task; live = h.live; promises = h.promises; askers = c.pop-asker.new.self; waits = h.waits; name = h.name } in
     subst (IsListed eq (shares_of (c.get_mut.follows.lender w).entries) (map arc_value c.settle.new.candidates.items)) (sym c.settle.ensures.room)
-    (written_listed eq c.requires.equality key c.args.places.now.entries (c.get_mut.follows.lender w).entries c.args.candidates.now.items c.settle.new.candidates.items (vec_capacity c.args.candidates.now) h w (share_of mid) i c.requires.listed refl c.settle.ensures.place c.settle.ensures.candidates)
+    (written_listed eq c.requires.equality key c.args.places.now.entries (c.get_mut.follows.lender w).entries c.args.candidates.now.items c.settle.new.candidates.items (vec_capacity c.args.candidates.now) h w (share_of mid) i c.requires.listed refl (λ r. r) c.settle.ensures.place c.settle.ensures.candidates)
 
 pub returns-clause-some : goal.returns-clause-some
 returns-clause-some g c =
@@ -49,12 +49,12 @@ returns-clause-some g c =
     let o = c.get_mut.follows.holds w in
     let u = o.3 (subst IsSome (sym known) refl) in
     let i : IsWritten eq key c.args.places.now.entries (c.get_mut.follows.lender w).entries h w = record { known = known; set = o.0; here = u.1; others = u.2 } in
-    let mid : Place g.row.K.Denot g.row.T.Denot = record { task = h.task; ended = h.ended; promises = h.promises; askers = c.pop-asker.new.self; waits = h.waits; name = h.name } in
+    let mid : Place g.row.K.Denot g.row.T.Denot = record { task = h.task; live = h.live; promises = h.promises; askers = c.pop-asker.new.self; waits = h.waits; name = h.name } in
     let found = lookup_shares (eq (arc_value key)) c.args.places.now.entries ∙ ap (option_map share_of) known in
     if_some c.pop-asker.result (λ j e up. (
       ap (is_for (λ (p : Share g.row.K.Denot g.row.T.Denot). has_by eq p (Tasked (arc_value j)))) found ∙ (list_any_values (eq (arc_value j)) h.askers.keys ∙ (ap (list_any (λ a. eq (arc_value j) (arc_value a))) (c.pop-asker.ensures.keys ∙ ap (λ r. mid.askers.keys ++ option_to_list r) e) ∙ any_last (λ a. eq (arc_value j) (arc_value a)) mid.askers.keys j (c.requires.equality.itself (arc_value j)))),
       changed_written eq c.requires.equality key c.args.places.now.entries (c.get_mut.follows.lender w).entries h w _ i
-        (rw c.settle.ensures.place (record { task = refl; ended = refl; asks = left_task eq (share_of h) (share_of mid) (arc_value j) refl (λ q. list_any_values (eq q) mid.askers.keys ∙ (up.0 (arc_with_value j q) ∙ ap (cond (eq (arc_value j) q) false) (sym (list_any_values (eq q) h.askers.keys)))); waits = λ d. refl }, record { promises = omega arith; askers = omega (arith, c.pop-asker.ensures.room.0); waits = omega arith })))
+        (rw c.settle.ensures.place (record { task = refl; live = refl; asks = left_task eq (share_of h) (share_of mid) (arc_value j) refl (λ q. list_any_values (eq q) mid.askers.keys ∙ (up.0 (arc_with_value j q) ∙ ap (cond (eq (arc_value j) q) false) (sym (list_any_values (eq q) h.askers.keys)))); waits = λ d. refl }, record { promises = omega arith; askers = omega (arith, c.pop-asker.ensures.room.0); waits = omega arith })))
     ) c.pop-asker.ensures.updates
 
 pub returns-clause-none : goal.returns-clause-none
@@ -67,12 +67,12 @@ returns-clause-none g c =
     let o = c.get_mut.follows.holds w in
     let u = o.3 (subst IsSome (sym known) refl) in
     let i : IsWritten eq key c.args.places.now.entries (c.get_mut.follows.lender w).entries h w = record { known = known; set = o.0; here = u.1; others = u.2 } in
-    let mid : Place g.row.K.Denot g.row.T.Denot = record { task = h.task; ended = h.ended; promises = h.promises; askers = c.pop-asker.new.self; waits = h.waits; name = h.name } in
+    let mid : Place g.row.K.Denot g.row.T.Denot = record { task = h.task; live = h.live; promises = h.promises; askers = c.pop-asker.new.self; waits = h.waits; name = h.name } in
     let found = lookup_shares (eq (arc_value key)) c.args.places.now.entries ∙ ap (option_map share_of) known in
     if_none c.pop-asker.result (λ e.
       let empty : h.askers.keys ≡ [] = no_more h.askers.keys (λ lt. let z = subst IsSome e (c.pop-asker.ensures.found.1 lt) in cc) in
       let same : mid.askers.keys ≡ h.askers.keys = sym (append-nil mid.askers.keys) ∙ sym (c.pop-asker.ensures.keys ∙ ap (λ r. mid.askers.keys ++ option_to_list r) e) in (
         λ j. ap (is_for (λ (p : Share g.row.K.Denot g.row.T.Denot). has_by eq p (Tasked j))) found ∙ ap (λ ks. list_any (eq j) (map arc_value ks)) empty,
         changed_written eq c.requires.equality key c.args.places.now.entries (c.get_mut.follows.lender w).entries h w _ i
-        (rw c.settle.ensures.place (record { task = refl; ended = refl; asks = same_asks eq (share_of h) (share_of mid) refl (ap (map arc_value) same); waits = λ d. refl }, record { promises = omega arith; askers = omega (arith, c.pop-asker.ensures.room.0); waits = omega arith }))
+        (rw c.settle.ensures.place (record { task = refl; live = refl; asks = same_asks eq (share_of h) (share_of mid) refl (ap (map arc_value) same); waits = λ d. refl }, record { promises = omega arith; askers = omega (arith, c.pop-asker.ensures.room.0); waits = omega arith }))
       ))

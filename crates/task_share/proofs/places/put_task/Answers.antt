@@ -31,9 +31,9 @@ returns-clause-listed g c =
     let o = c.get_mut.follows.holds w in
     let u = o.3 (subst IsSome (sym known) refl) in
     let i : IsWritten eq key c.args.places.now.entries (c.get_mut.follows.lender w).entries h w = record { known = known; set = o.0; here = u.1; others = u.2 } in
-    let mid : Place g.row.K.Denot g.row.T.Denot = record { task = Some c.args.task; ended = false; promises = h.promises; askers = h.askers; waits = h.waits; name = h.name } in
+    let mid : Place g.row.K.Denot g.row.T.Denot = record { task = Some c.args.task; live = true; promises = h.promises; askers = h.askers; waits = h.waits; name = h.name } in
     subst (IsListed eq (shares_of (c.get_mut.follows.lender w).entries) (map arc_value c.settle.new.candidates.items)) (sym c.settle.ensures.room)
-    (written_listed eq c.requires.equality key c.args.places.now.entries (c.get_mut.follows.lender w).entries c.args.candidates.now.items c.settle.new.candidates.items (vec_capacity c.args.candidates.now) h w (share_of mid) i c.requires.listed refl c.settle.ensures.place c.settle.ensures.candidates)
+    (written_listed eq c.requires.equality key c.args.places.now.entries (c.get_mut.follows.lender w).entries c.args.candidates.now.items c.settle.new.candidates.items (vec_capacity c.args.candidates.now) h w (share_of mid) i c.requires.listed refl (λ r e. refl) c.settle.ensures.place c.settle.ensures.candidates)
 
 pub returns-clause-changed : goal.returns-clause-changed
 returns-clause-changed g c =
@@ -45,6 +45,6 @@ returns-clause-changed g c =
     let o = c.get_mut.follows.holds w in
     let u = o.3 (subst IsSome (sym known) refl) in
     let i : IsWritten eq key c.args.places.now.entries (c.get_mut.follows.lender w).entries h w = record { known = known; set = o.0; here = u.1; others = u.2 } in
-    let mid : Place g.row.K.Denot g.row.T.Denot = record { task = Some c.args.task; ended = false; promises = h.promises; askers = h.askers; waits = h.waits; name = h.name } in
+    let mid : Place g.row.K.Denot g.row.T.Denot = record { task = Some c.args.task; live = true; promises = h.promises; askers = h.askers; waits = h.waits; name = h.name } in
     changed_written eq c.requires.equality key c.args.places.now.entries (c.get_mut.follows.lender w).entries h w _ i
-    (rw c.settle.ensures.place (record { task = refl; ended = refl; asks = λ a. refl; waits = λ d. refl }, record { promises = omega arith; askers = omega arith; waits = omega arith }))
+    (rw c.settle.ensures.place (record { task = refl; live = refl; asks = λ a. refl; waits = λ d. refl }, record { promises = omega arith; askers = omega arith; waits = omega arith }))

@@ -30,55 +30,55 @@ returns-in_err-reserve-clause-listed g c =
     let eq = g.K.PartialEq.eq in
     let key = c.args.key.now in
     let h = c.in-Some.place.now in
-    let w : Place g.row.K.Denot g.row.T.Denot = record { task = h.task; ended = h.ended; promises = c.reserve.new.self; askers = h.askers; waits = h.waits; name = h.name } in
+    let w : Place g.row.K.Denot g.row.T.Denot = record { task = h.task; live = h.live; promises = c.reserve.new.self; askers = h.askers; waits = h.waits; name = h.name } in
     let known : lookup (λ a. eq (arc_value key) (arc_value a)) c.args.places.now.entries ≡ Some h = sym c.get_mut.ensures.value ∙ ap option_copied_mut c.in-Some.is in
     let o = c.get_mut.follows.holds w in
     let u = o.3 (subst IsSome (sym known) refl) in
     let i : IsWritten eq key c.args.places.now.entries (c.get_mut.follows.lender w).entries h w = record { known = known; set = o.0; here = u.1; others = u.2 } in
-    kept_listed eq c.requires key c.args.places.now.entries (c.get_mut.follows.lender w).entries h w i refl (λ e. subst (λ ns. is_idle (record (share_of h) { promises = ns }) ≡ true) (c.reserve.ensures.keys) e)
+    kept_listed eq c.requires key c.args.places.now.entries (c.get_mut.follows.lender w).entries h w i refl (λ e. subst (λ ns. is_idle (record (share_of h) { promises = ns }) ≡ true) (c.reserve.ensures.keys) e) (λ r. r)
 
 pub returns-in_err-reserve-clause-changed : goal.returns-in_err-reserve-clause-changed
 returns-in_err-reserve-clause-changed g c =
     let eq = g.K.PartialEq.eq in
     let key = c.args.key.now in
     let h = c.in-Some.place.now in
-    let w : Place g.row.K.Denot g.row.T.Denot = record { task = h.task; ended = h.ended; promises = c.reserve.new.self; askers = h.askers; waits = h.waits; name = h.name } in
+    let w : Place g.row.K.Denot g.row.T.Denot = record { task = h.task; live = h.live; promises = c.reserve.new.self; askers = h.askers; waits = h.waits; name = h.name } in
     let known : lookup (λ a. eq (arc_value key) (arc_value a)) c.args.places.now.entries ≡ Some h = sym c.get_mut.ensures.value ∙ ap option_copied_mut c.in-Some.is in
     let o = c.get_mut.follows.holds w in
     let u = o.3 (subst IsSome (sym known) refl) in
     let i : IsWritten eq key c.args.places.now.entries (c.get_mut.follows.lender w).entries h w = record { known = known; set = o.0; here = u.1; others = u.2 } in
-    changed_written eq c.requires key c.args.places.now.entries (c.get_mut.follows.lender w).entries h w _ i (record { task = refl; ended = refl; asks = same_asks eq (share_of h) (share_of w) (c.reserve.ensures.keys) refl; waits = λ d. refl }, record { promises = omega (arith, c.reserve.ensures.room.0); askers = omega arith; waits = omega arith })
+    changed_written eq c.requires key c.args.places.now.entries (c.get_mut.follows.lender w).entries h w _ i (record { task = refl; live = refl; asks = same_asks eq (share_of h) (share_of w) (c.reserve.ensures.keys) refl; waits = λ d. refl }, record { promises = omega (arith, c.reserve.ensures.room.0); askers = omega arith; waits = omega arith })
 
 pub returns-clause-listed : goal.returns-clause-listed
 returns-clause-listed g c =
     let eq = g.K.PartialEq.eq in
     let key = c.args.key.now in
     let h = c.in-Some.place.now in
-    let w : Place g.row.K.Denot g.row.T.Denot = record { task = h.task; ended = h.ended; promises = c.reserve.new.self; askers = h.askers; waits = h.waits; name = h.name } in
+    let w : Place g.row.K.Denot g.row.T.Denot = record { task = h.task; live = h.live; promises = c.reserve.new.self; askers = h.askers; waits = h.waits; name = h.name } in
     let known : lookup (λ a. eq (arc_value key) (arc_value a)) c.args.places.now.entries ≡ Some h = sym c.get_mut.ensures.value ∙ ap option_copied_mut c.in-Some.is in
     let o = c.get_mut.follows.holds w in
     let u = o.3 (subst IsSome (sym known) refl) in
     let i : IsWritten eq key c.args.places.now.entries (c.get_mut.follows.lender w).entries h w = record { known = known; set = o.0; here = u.1; others = u.2 } in
-    kept_listed eq c.requires key c.args.places.now.entries (c.get_mut.follows.lender w).entries h w i refl (λ e. subst (λ ns. is_idle (record (share_of h) { promises = ns }) ≡ true) (c.reserve.ensures.keys) e)
+    kept_listed eq c.requires key c.args.places.now.entries (c.get_mut.follows.lender w).entries h w i refl (λ e. subst (λ ns. is_idle (record (share_of h) { promises = ns }) ≡ true) (c.reserve.ensures.keys) e) (λ r. r)
 
 pub returns-clause-changed : goal.returns-clause-changed
 returns-clause-changed g c =
     let eq = g.K.PartialEq.eq in
     let key = c.args.key.now in
     let h = c.in-Some.place.now in
-    let w : Place g.row.K.Denot g.row.T.Denot = record { task = h.task; ended = h.ended; promises = c.reserve.new.self; askers = h.askers; waits = h.waits; name = h.name } in
+    let w : Place g.row.K.Denot g.row.T.Denot = record { task = h.task; live = h.live; promises = c.reserve.new.self; askers = h.askers; waits = h.waits; name = h.name } in
     let known : lookup (λ a. eq (arc_value key) (arc_value a)) c.args.places.now.entries ≡ Some h = sym c.get_mut.ensures.value ∙ ap option_copied_mut c.in-Some.is in
     let o = c.get_mut.follows.holds w in
     let u = o.3 (subst IsSome (sym known) refl) in
     let i : IsWritten eq key c.args.places.now.entries (c.get_mut.follows.lender w).entries h w = record { known = known; set = o.0; here = u.1; others = u.2 } in
-    changed_written eq c.requires key c.args.places.now.entries (c.get_mut.follows.lender w).entries h w _ i (record { task = refl; ended = refl; asks = same_asks eq (share_of h) (share_of w) (c.reserve.ensures.keys) refl; waits = λ d. refl }, record { promises = omega (arith, c.reserve.ensures.room.0); askers = omega arith; waits = omega arith })
+    changed_written eq c.requires key c.args.places.now.entries (c.get_mut.follows.lender w).entries h w _ i (record { task = refl; live = refl; asks = same_asks eq (share_of h) (share_of w) (c.reserve.ensures.keys) refl; waits = λ d. refl }, record { promises = omega (arith, c.reserve.ensures.room.0); askers = omega arith; waits = omega arith })
 
 pub returns-clause-ok : goal.returns-clause-ok
 returns-clause-ok g c = λ e.
     let eq = g.K.PartialEq.eq in
     let key = c.args.key.now in
     let h = c.in-Some.place.now in
-    let w : Place g.row.K.Denot g.row.T.Denot = record { task = h.task; ended = h.ended; promises = c.reserve.new.self; askers = h.askers; waits = h.waits; name = h.name } in
+    let w : Place g.row.K.Denot g.row.T.Denot = record { task = h.task; live = h.live; promises = c.reserve.new.self; askers = h.askers; waits = h.waits; name = h.name } in
     let known : lookup (λ a. eq (arc_value key) (arc_value a)) c.args.places.now.entries ≡ Some h = sym c.get_mut.ensures.value ∙ ap option_copied_mut c.in-Some.is in
     let o = c.get_mut.follows.holds w in
     let u = o.3 (subst IsSome (sym known) refl) in

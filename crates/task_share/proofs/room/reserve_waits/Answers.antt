@@ -30,55 +30,55 @@ returns-in_err-reserve-clause-listed g c =
     let eq = g.K.PartialEq.eq in
     let key = c.args.key.now in
     let h = c.in-Some.place.now in
-    let w : Place g.row.K.Denot g.row.T.Denot = record { task = h.task; ended = h.ended; promises = h.promises; askers = h.askers; waits = c.reserve.new.self; name = h.name } in
+    let w : Place g.row.K.Denot g.row.T.Denot = record { task = h.task; live = h.live; promises = h.promises; askers = h.askers; waits = c.reserve.new.self; name = h.name } in
     let known : lookup (λ a. eq (arc_value key) (arc_value a)) c.args.places.now.entries ≡ Some h = sym c.get_mut.ensures.value ∙ ap option_copied_mut c.in-Some.is in
     let o = c.get_mut.follows.holds w in
     let u = o.3 (subst IsSome (sym known) refl) in
     let i : IsWritten eq key c.args.places.now.entries (c.get_mut.follows.lender w).entries h w = record { known = known; set = o.0; here = u.1; others = u.2 } in
-    kept_listed eq c.requires key c.args.places.now.entries (c.get_mut.follows.lender w).entries h w i refl (λ e. e)
+    kept_listed eq c.requires key c.args.places.now.entries (c.get_mut.follows.lender w).entries h w i refl (λ e. e) (λ r. r)
 
 pub returns-in_err-reserve-clause-changed : goal.returns-in_err-reserve-clause-changed
 returns-in_err-reserve-clause-changed g c =
     let eq = g.K.PartialEq.eq in
     let key = c.args.key.now in
     let h = c.in-Some.place.now in
-    let w : Place g.row.K.Denot g.row.T.Denot = record { task = h.task; ended = h.ended; promises = h.promises; askers = h.askers; waits = c.reserve.new.self; name = h.name } in
+    let w : Place g.row.K.Denot g.row.T.Denot = record { task = h.task; live = h.live; promises = h.promises; askers = h.askers; waits = c.reserve.new.self; name = h.name } in
     let known : lookup (λ a. eq (arc_value key) (arc_value a)) c.args.places.now.entries ≡ Some h = sym c.get_mut.ensures.value ∙ ap option_copied_mut c.in-Some.is in
     let o = c.get_mut.follows.holds w in
     let u = o.3 (subst IsSome (sym known) refl) in
     let i : IsWritten eq key c.args.places.now.entries (c.get_mut.follows.lender w).entries h w = record { known = known; set = o.0; here = u.1; others = u.2 } in
-    changed_written eq c.requires key c.args.places.now.entries (c.get_mut.follows.lender w).entries h w _ i (record { task = refl; ended = refl; asks = λ a. refl; waits = λ d. ap (list_any (eq d)) (ap (map arc_value) c.reserve.ensures.keys) }, record { promises = omega arith; askers = omega arith; waits = omega (arith, c.reserve.ensures.room.0) })
+    changed_written eq c.requires key c.args.places.now.entries (c.get_mut.follows.lender w).entries h w _ i (record { task = refl; live = refl; asks = λ a. refl; waits = λ d. ap (list_any (eq d)) (ap (map arc_value) c.reserve.ensures.keys) }, record { promises = omega arith; askers = omega arith; waits = omega (arith, c.reserve.ensures.room.0) })
 
 pub returns-clause-listed : goal.returns-clause-listed
 returns-clause-listed g c =
     let eq = g.K.PartialEq.eq in
     let key = c.args.key.now in
     let h = c.in-Some.place.now in
-    let w : Place g.row.K.Denot g.row.T.Denot = record { task = h.task; ended = h.ended; promises = h.promises; askers = h.askers; waits = c.reserve.new.self; name = h.name } in
+    let w : Place g.row.K.Denot g.row.T.Denot = record { task = h.task; live = h.live; promises = h.promises; askers = h.askers; waits = c.reserve.new.self; name = h.name } in
     let known : lookup (λ a. eq (arc_value key) (arc_value a)) c.args.places.now.entries ≡ Some h = sym c.get_mut.ensures.value ∙ ap option_copied_mut c.in-Some.is in
     let o = c.get_mut.follows.holds w in
     let u = o.3 (subst IsSome (sym known) refl) in
     let i : IsWritten eq key c.args.places.now.entries (c.get_mut.follows.lender w).entries h w = record { known = known; set = o.0; here = u.1; others = u.2 } in
-    kept_listed eq c.requires key c.args.places.now.entries (c.get_mut.follows.lender w).entries h w i refl (λ e. e)
+    kept_listed eq c.requires key c.args.places.now.entries (c.get_mut.follows.lender w).entries h w i refl (λ e. e) (λ r. r)
 
 pub returns-clause-changed : goal.returns-clause-changed
 returns-clause-changed g c =
     let eq = g.K.PartialEq.eq in
     let key = c.args.key.now in
     let h = c.in-Some.place.now in
-    let w : Place g.row.K.Denot g.row.T.Denot = record { task = h.task; ended = h.ended; promises = h.promises; askers = h.askers; waits = c.reserve.new.self; name = h.name } in
+    let w : Place g.row.K.Denot g.row.T.Denot = record { task = h.task; live = h.live; promises = h.promises; askers = h.askers; waits = c.reserve.new.self; name = h.name } in
     let known : lookup (λ a. eq (arc_value key) (arc_value a)) c.args.places.now.entries ≡ Some h = sym c.get_mut.ensures.value ∙ ap option_copied_mut c.in-Some.is in
     let o = c.get_mut.follows.holds w in
     let u = o.3 (subst IsSome (sym known) refl) in
     let i : IsWritten eq key c.args.places.now.entries (c.get_mut.follows.lender w).entries h w = record { known = known; set = o.0; here = u.1; others = u.2 } in
-    changed_written eq c.requires key c.args.places.now.entries (c.get_mut.follows.lender w).entries h w _ i (record { task = refl; ended = refl; asks = λ a. refl; waits = λ d. ap (list_any (eq d)) (ap (map arc_value) c.reserve.ensures.keys) }, record { promises = omega arith; askers = omega arith; waits = omega (arith, c.reserve.ensures.room.0) })
+    changed_written eq c.requires key c.args.places.now.entries (c.get_mut.follows.lender w).entries h w _ i (record { task = refl; live = refl; asks = λ a. refl; waits = λ d. ap (list_any (eq d)) (ap (map arc_value) c.reserve.ensures.keys) }, record { promises = omega arith; askers = omega arith; waits = omega (arith, c.reserve.ensures.room.0) })
 
 pub returns-clause-ok : goal.returns-clause-ok
 returns-clause-ok g c = λ e.
     let eq = g.K.PartialEq.eq in
     let key = c.args.key.now in
     let h = c.in-Some.place.now in
-    let w : Place g.row.K.Denot g.row.T.Denot = record { task = h.task; ended = h.ended; promises = h.promises; askers = h.askers; waits = c.reserve.new.self; name = h.name } in
+    let w : Place g.row.K.Denot g.row.T.Denot = record { task = h.task; live = h.live; promises = h.promises; askers = h.askers; waits = c.reserve.new.self; name = h.name } in
     let known : lookup (λ a. eq (arc_value key) (arc_value a)) c.args.places.now.entries ≡ Some h = sym c.get_mut.ensures.value ∙ ap option_copied_mut c.in-Some.is in
     let o = c.get_mut.follows.holds w in
     let u = o.3 (subst IsSome (sym known) refl) in
