@@ -1,15 +1,17 @@
 -- What each call makes of a table, from what it makes of its places.
 use Rattle.std.proofs.Common.{◌≡◌, ◌≤◌, ◌<◌, ◌+◌, inl, inr, ◌⊎◌, ℕ, suc, Bool, true, false, not, cond, ◌&&◌, ◌||◌, List, [], ◌∷◌, ◌++◌, length, Option, Some, None, is_some, nat_eq, eqb, eq-eqb, refl, sym, ap, ◌∙◌, subst, arith}
-use Rattle.std.specs.Prelude.{option_and_then, IfSome, IfNone}
+use Rattle.std.specs.Prelude.{option_and_then, IfSome, IfNone, OnSome}
+use Rattle.std.specs.Option.{option_map}
 use Rattle.std.specs.Map.{lookup}
 use Rattle.std.specs.List.{list_any}
 use Rattle.std.proofs.lemmas.Option.{same_Some, none-some}
 use Rattle.dice_key.specs.Lawful.{IsEquality}
 use Rattle.task_share.specs.Asked.{By, Promised, Tasked, is_by, Takes, IsDone}
 use Rattle.task_share.specs.Seen.{Share, is_for, list_for, number_for, has_by, has_live, task_at, is_live, asks, waits_at, asked_of, has_place, promise_room, asker_room, wait_room, KeepsTasks, KeepsAsks, KeepsRoom, KeepsOtherRoom, UsesRoomOf}
+use Rattle.task_share.specs.Lent.{WritesTask}
 use Rattle.task_share.specs.Listed.{is_idle, AreIn, IsChanged, Turns, Joined, Left, Stays, UsesRoom, IsKept, IsMirrored, Withdraws, IsTaken, IsPopped, NoneIdle}
 use Rattle.task_share.proofs.PlaceLemmas.{true_or_false, and_both, idle_unasked}
-use Rattle.task_share.proofs.TurnLemmas.{same_cond, asks_turned, waits_turned, task_turned, test_turned, tasks_kept, room_kept, place_kept, number_kept, tasks_on, room_on, stays_kept, kept_itself}
+use Rattle.task_share.proofs.TurnLemmas.{same_cond, asks_turned, waits_turned, task_turned, test_turned, tasks_kept, room_kept, place_kept, number_kept, by_key, tasks_on, room_on, stays_kept, kept_itself}
 
 no_number : (b : Bool) (m n : ℕ) → m ≤ n + cond b 0 0 → m ≤ n + 0
 no_number true m n h = omega arith
@@ -316,3 +318,59 @@ module _ {K T : Type 0} (eq : K → K → Bool) (law : IsEquality eq) where
       by_place (Some r) e l =
           let z = by_lists r r.promises r.askers refl refl (sym (ap (is_for has_live) e) ∙ l) (none k r e) in
           (z.0, sym (kept.asks k z.0) ∙ (ap (is_for (λ p. has_by eq p z.0)) e ∙ z.1))
+
+  -- another task is written in the place of the one of k
+  module _ (ps qs : List (K × Share K T)) (k : K) (t : T) (c : IsChanged eq k (λ p r. r ≡ record p { task = Some t }) ps qs) where
+    at_place : {X : Type 0} (f : Option (Share K T) → X) → ((p : Share K T) → f (Some (record p { task = Some t })) ≡ f (Some p)) → (q : K) → f (lookup (eq q) qs) ≡ f (lookup (eq q) ps)
+    at_place f s q = by_key eq law ps qs k _ c f (λ x. x) (by_places (lookup (eq k) ps) (lookup (eq k) qs) c.here) q ∙ same_cond (eq k q) (f (lookup (eq q) ps))
+      where
+        by_places : (o r : Option (Share K T)) → AreIn (λ p r. r ≡ record p { task = Some t }) o r → f r ≡ f o
+        by_places None None i = refl
+        by_places None (Some r) i = absurd i
+        by_places (Some p) None i = absurd i
+        by_places (Some p) (Some r) i = ap (λ x. f (Some x)) i ∙ s p
+
+    by_asker : (a : By K) (p : Share K T) → has_by eq (record p { task = Some t }) a ≡ has_by eq p a
+    by_asker (Promised n) p = refl
+    by_asker (Tasked j) p = refl
+
+    pub written_asks : KeepsAsks eq ps qs
+    written_asks q a = at_place (is_for (λ p. has_by eq p a)) (by_asker a) q
+
+    pub written_waits : (q : K) → waits_at eq qs q ≡ waits_at eq ps q
+    written_waits = at_place (list_for (λ (p : Share K T). p.waits)) (λ p. refl)
+
+    pub written_mirrored : IsMirrored eq ps → IsMirrored eq qs
+    written_mirrored = mirrored_same ps qs written_asks (λ i d. ap (list_any (eq d)) (written_waits i))
+
+    at_most : (m n : ℕ) → n ≡ m → m ≤ n
+    at_most m n e = omega arith
+
+    -- where there was a task
+    pub written : ((p : Share K T) → lookup (eq k) ps ≡ Some p → is_some p.task ≡ true) → WritesTask eq k ps qs t
+    written had = record {
+      tasks = by_key eq law ps qs k _ c (option_and_then (λ (p : Share K T). p.task)) (option_map (λ _. t)) (by_places (lookup (eq k) ps) (lookup (eq k) qs) refl c.here);
+      live = at_place (is_for has_live) (λ p. refl);
+      asks = written_asks;
+      waits = written_waits;
+      room = record {
+        places = λ q h. at_place is_some (λ p. refl) q ∙ h;
+        promises = λ q. at_most _ _ (at_place (number_for (λ (p : Share K T). p.promise_room)) (λ p. refl) q);
+        askers = λ q. at_most _ _ (at_place (number_for (λ (p : Share K T). p.asker_room)) (λ p. refl) q);
+        waits = λ q. at_most _ _ (at_place (number_for (λ (p : Share K T). p.wait_room)) (λ p. refl) q);
+      };
+    }
+      where
+        by_task : (o : Option T) → is_some o ≡ true → Some t ≡ option_map (λ _. t) o
+        by_task None e = cc
+        by_task (Some x) e = refl
+
+        by_places : (o r : Option (Share K T)) → lookup (eq k) ps ≡ o → AreIn (λ p r. r ≡ record p { task = Some t }) o r → option_and_then (λ (p : Share K T). p.task) r ≡ option_map (λ _. t) (option_and_then (λ (p : Share K T). p.task) o)
+        by_places None None e i = refl
+        by_places None (Some r) e i = absurd i
+        by_places (Some p) None e i = absurd i
+        by_places (Some p) (Some r) e i = ap (λ (x : Share K T). x.task) i ∙ by_task p.task (had p e)
+
+pub on_some : {X : Type 0} {P : Type 0} (o : Option X) → (is_some o ≡ true → P) → OnSome o P
+on_some None f = tt
+on_some (Some x) f = f refl

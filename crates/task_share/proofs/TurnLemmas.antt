@@ -20,7 +20,7 @@ any_for test f (Some x) = refl
 
 module _ {K T : Type 0} (eq : K → K → Bool) (law : IsEquality eq) (ps qs : List (K × Share K T)) (k : K) (R : Share K T → Share K T → Type 0) (c : IsChanged eq k R ps qs) where
   -- at the key by `here`, at another one as before
-  by_key : {X : Type 0} (f : Option (Share K T) → X) (x : X → X) → f (lookup (eq k) qs) ≡ x (f (lookup (eq k) ps)) → (q : K) → f (lookup (eq q) qs) ≡ cond (eq k q) (x (f (lookup (eq q) ps))) (f (lookup (eq q) ps))
+  pub by_key : {X : Type 0} (f : Option (Share K T) → X) (x : X → X) → f (lookup (eq k) qs) ≡ x (f (lookup (eq k) ps)) → (q : K) → f (lookup (eq q) qs) ≡ cond (eq k q) (x (f (lookup (eq q) ps))) (f (lookup (eq q) ps))
   by_key {X} f x here q = by_test (eq k q) refl
     where
       by_test : (b : Bool) → eq k q ≡ b → f (lookup (eq q) qs) ≡ cond b (x (f (lookup (eq q) ps))) (f (lookup (eq q) ps))
