@@ -2,3 +2,4 @@ pub mod PlaceLemmas
 pub mod TurnLemmas
 pub mod IdleLemmas
 pub mod TableLemmas
+pub mod CascadeLemmas

@@ -1,5 +1,6 @@
 -- Tasks and who asks for them, and what the cascade drops.
 use Rattle.std.specs.Prelude.{◌≡◌, ℕ, Bool, true, false, not, ◌&&◌, nat_eq, List, [], ◌∷◌}
+use Rattle.task_share.specs.Lists.{Has}
 
 -- who asks for a task: a promise by its number, or another task by its key
 pub data By (K : Type 0) : Type 0 where
@@ -62,3 +63,9 @@ Cascade {K} eq s (k ∷ ks) t = (u : Asked K) × Takes eq s k u × Cascade eq u 
 pub record WaitOf (K : Type 0) : Type 0 where
   pub key : K
   pub asker : K
+
+-- what the cascade from s to t drops: just the tasks that have not ended and that no promise holds; the held ones stay
+pub record DropsUnheld {K : Type 0} (s : Asked K) (ks : List K) (t : Asked K) : Type 0 where
+  pub dropped : (q : K) → Has ks q → (s.live q ≡ true) × (Held s q → ⊥)
+  pub unheld : (q : K) → s.live q ≡ true → (Held s q → ⊥) → Has ks q
+  pub held : (q : K) → s.live q ≡ true → Held s q → t.live q ≡ true

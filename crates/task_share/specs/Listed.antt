@@ -8,6 +8,7 @@ use Rattle.std.specs.HashSet.{spare}
 use Rattle.std.specs.declared.sync.Arc.{Arc}
 use Rattle.task_share.specs.Asked.{By, Promised, Tasked, is_by}
 use Rattle.task_share.specs.Lists.{Has}
+pub use Rattle.task_share.specs.Seen.{IsMirrored}
 use Rattle.task_share.specs.Seen.{Share, has_live, has_by, asks, waits_at, KeepsTasks, KeepsAsks, KeepsRoom}
 use Rattle.task_share.specs.declared.place.Place.{Place}
 
@@ -62,10 +63,6 @@ pub record IsNamed {K T : Type 0} (cs : List K) (k : K) (p : Share K T) : Type 0
 pub record IsListed {K T : Type 0} (eq : K → K → Bool) (ps : List (K × Share K T)) (cs : List K) (room : ℕ) : Type 0 where
   pub each : (k : K) (p : Share K T) → lookup (eq k) ps ≡ Some p → IsNamed cs k p
   pub fits : sum_by kept_name (values_of ps) + length cs ≤ room
-
--- the waits of tasks are just their asks
-abbrev pub IsMirrored : {K T : Type 0} → (K → K → Bool) → List (K × Share K T) → Type 0
-IsMirrored {K} eq ps = (d k : K) → asks eq ps d (Tasked k) ≡ list_any (eq d) (waits_at eq ps k)
 
 -- what a table keeps
 pub record IsWhole {K T : Type 0} (eq : K → K → Bool) (ps : List (K × Share K T)) (cs : List K) (room : ℕ) : Type 0 where

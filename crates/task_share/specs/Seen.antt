@@ -56,6 +56,10 @@ module _ {K T : Type 0} (eq : K → K → Bool) where
   abbrev pub waits_at : List (K × Share K T) → K → List K
   waits_at ps k = list_for (λ p. p.waits) (lookup (eq k) ps)
 
+  -- the waits of tasks are just their asks
+  abbrev pub IsMirrored : List (K × Share K T) → Type 0
+  IsMirrored ps = (d k : K) → asks ps d (Tasked k) ≡ list_any (eq d) (waits_at ps k)
+
   -- which keys have a task that has not ended, and who asks for which key
   abbrev pub asked_of : List (K × Share K T) → Asked K
   asked_of ps = record { live = is_live ps; asks = asks ps }

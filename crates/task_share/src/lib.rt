@@ -2,6 +2,7 @@
 #![tactic(auto)]
 
 mod asker;
+mod cascade;
 mod idle;
 mod place;
 mod places;
@@ -9,4 +10,5 @@ mod room;
 mod table;
 
 pub use asker::{Asker, Wait};
+pub use cascade::drops_unheld;
 pub use table::Table;

@@ -8,7 +8,7 @@ ghost use Rattle.dice_key.specs.Lawful.{IsEquality};
 ghost use Rattle.task_share.specs.Asked.{By, Promised, Tasked, is_by, IsDone, Takes};
 ghost use Rattle.task_share.specs.Askers.{by_of};
 ghost use Rattle.task_share.specs.Lent.{LendsTask};
-ghost use Rattle.task_share.specs.Seen.{task_at, is_live, asks, waits_at, asked_of, has_place, promise_room, asker_room, wait_room, KeepsTasks, KeepsAsks, KeepsRoom, KeepsOtherRoom, UsesRoomOf};
+ghost use Rattle.task_share.specs.Seen.{task_at, is_live, asks, waits_at, asked_of, IsMirrored, has_place, promise_room, asker_room, wait_room, KeepsTasks, KeepsAsks, KeepsRoom, KeepsOtherRoom, UsesRoomOf};
 
 use crate::asker::{Asker, Wait};
 use crate::idle::{pop_idle, withdraw};
@@ -308,10 +308,10 @@ impl<K: Eq + Hash + Drop, T: Drop> Table<K, T> {
         }
     }
 
-    /// The keys that the task of the key waits for, each once, in no order.
+    /// The keys that the task of the key waits for, each once, in no order. They are those that it asks for.
     pub fn waits(&self, key: &Arc<K>) -> &[Arc<K>]
         ensures keys { map arc_value result.now ≡ waits_at K.eq self.now (arc_value key.now) }
-        ensures asked { (d : K) → list_any (K.eq d) (map arc_value result.now) ≡ asks K.eq self.now d (Tasked (arc_value key.now)) }
+        ensures asked { IsMirrored K.eq self.now }
     {
         match self.places.get(key) {
             Some(place) => place.waits.as_slice(),

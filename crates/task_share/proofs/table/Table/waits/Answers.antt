@@ -15,14 +15,8 @@ use Rattle.task_share.proofs.table.Table.waits.Goals as goal
 
 pub returns-in-Some : goal.returns-in-Some
 returns-in-Some g c = record { keys = subst (λ (ps : List (g.row.K.Denot × Share g.row.K.Denot g.row.T.Denot)). map arc_value c.as_slice.result.now ≡ waits_at g.K.PartialEq.eq ps (arc_value c.args.key.now)) c.self.view_is
-    (ap (map arc_value) c.as_slice.ensures.keys ∙ sym (ap (list_for (λ (p : Share g.row.K.Denot g.row.T.Denot). p.waits)) (lookup_shares (g.K.PartialEq.eq (arc_value c.args.key.now)) c.self.inside.places.entries ∙ ap (option_map share_of) (sym c.get.ensures.value ∙ ap option_copied c.in-Some.is)))); asked = λ d.
-    subst (λ (ps : List (g.row.K.Denot × Share g.row.K.Denot g.row.T.Denot)). list_any (g.K.PartialEq.eq d) (map arc_value c.as_slice.result.now) ≡ asks g.K.PartialEq.eq ps d (Tasked (arc_value c.args.key.now))) c.self.view_is
-    (ap (list_any (g.K.PartialEq.eq d)) (subst (λ (ps : List (g.row.K.Denot × Share g.row.K.Denot g.row.T.Denot)). map arc_value c.as_slice.result.now ≡ waits_at g.K.PartialEq.eq ps (arc_value c.args.key.now)) c.self.view_is
-    (ap (map arc_value) c.as_slice.ensures.keys ∙ sym (ap (list_for (λ (p : Share g.row.K.Denot g.row.T.Denot). p.waits)) (lookup_shares (g.K.PartialEq.eq (arc_value c.args.key.now)) c.self.inside.places.entries ∙ ap (option_map share_of) (sym c.get.ensures.value ∙ ap option_copied c.in-Some.is))))) ∙ (ap (λ (ps : List (g.row.K.Denot × Share g.row.K.Denot g.row.T.Denot)). list_any (g.K.PartialEq.eq d) (waits_at g.K.PartialEq.eq ps (arc_value c.args.key.now))) (sym c.self.view_is) ∙ sym (c.self.invariant.1.mirrored d (arc_value c.args.key.now)))) }
+    (ap (map arc_value) c.as_slice.ensures.keys ∙ sym (ap (list_for (λ (p : Share g.row.K.Denot g.row.T.Denot). p.waits)) (lookup_shares (g.K.PartialEq.eq (arc_value c.args.key.now)) c.self.inside.places.entries ∙ ap (option_map share_of) (sym c.get.ensures.value ∙ ap option_copied c.in-Some.is)))); asked = subst (λ (ps : List (g.row.K.Denot × Share g.row.K.Denot g.row.T.Denot)). IsMirrored g.K.PartialEq.eq ps) c.self.view_is c.self.invariant.1.mirrored }
 
 pub returns-in-None : goal.returns-in-None
 returns-in-None g c = record { keys = subst (λ (ps : List (g.row.K.Denot × Share g.row.K.Denot g.row.T.Denot)). [] ≡ waits_at g.K.PartialEq.eq ps (arc_value c.args.key.now)) c.self.view_is
-    (sym (ap (list_for (λ (p : Share g.row.K.Denot g.row.T.Denot). p.waits)) (lookup_shares (g.K.PartialEq.eq (arc_value c.args.key.now)) c.self.inside.places.entries ∙ ap (option_map share_of) (sym c.get.ensures.value ∙ ap option_copied c.in-None.is)))); asked = λ d.
-    subst (λ (ps : List (g.row.K.Denot × Share g.row.K.Denot g.row.T.Denot)). list_any (g.K.PartialEq.eq d) [] ≡ asks g.K.PartialEq.eq ps d (Tasked (arc_value c.args.key.now))) c.self.view_is
-    (ap (list_any (g.K.PartialEq.eq d)) (subst (λ (ps : List (g.row.K.Denot × Share g.row.K.Denot g.row.T.Denot)). [] ≡ waits_at g.K.PartialEq.eq ps (arc_value c.args.key.now)) c.self.view_is
-    (sym (ap (list_for (λ (p : Share g.row.K.Denot g.row.T.Denot). p.waits)) (lookup_shares (g.K.PartialEq.eq (arc_value c.args.key.now)) c.self.inside.places.entries ∙ ap (option_map share_of) (sym c.get.ensures.value ∙ ap option_copied c.in-None.is))))) ∙ (ap (λ (ps : List (g.row.K.Denot × Share g.row.K.Denot g.row.T.Denot)). list_any (g.K.PartialEq.eq d) (waits_at g.K.PartialEq.eq ps (arc_value c.args.key.now))) (sym c.self.view_is) ∙ sym (c.self.invariant.1.mirrored d (arc_value c.args.key.now)))) }
+    (sym (ap (list_for (λ (p : Share g.row.K.Denot g.row.T.Denot). p.waits)) (lookup_shares (g.K.PartialEq.eq (arc_value c.args.key.now)) c.self.inside.places.entries ∙ ap (option_map share_of) (sym c.get.ensures.value ∙ ap option_copied c.in-None.is)))); asked = subst (λ (ps : List (g.row.K.Denot × Share g.row.K.Denot g.row.T.Denot)). IsMirrored g.K.PartialEq.eq ps) c.self.view_is c.self.invariant.1.mirrored }
