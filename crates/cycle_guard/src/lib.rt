@@ -1,6 +1,0 @@
-//! Whether a wait would close a circle.
-#![tactic(auto)]
-
-mod guard;
-
-pub use guard::would_close;

@@ -1,5 +1,0 @@
-pub mod PlaceLemmas
-pub mod TurnLemmas
-pub mod IdleLemmas
-pub mod TableLemmas
-pub mod CascadeLemmas
