@@ -36,6 +36,7 @@ pub fn run<R: Threads + Wait, S: Source, K: Sink, G: Gate>(
     _gate: &G,
 ) -> Status
     ensures words { result ≡ Status.WordsRefused → (IsAccepted (map (λ w. w.now) words.now) → ⊥) × Unread (S.left source.old) (S.left source.new) × Unchanged (K.taken sink.old) (K.taken sink.new) }
+    ensures accepted { IsAccepted (map (λ w. w.now) words.now) ⊎ ((result ≡ Status.WordsRefused) ⊎ (result ≡ Status.NoMemory)) }
     ensures read { result ≡ Status.ReadFailed → Rose (S.faults source.old) (S.faults source.new) × Unchanged (K.taken sink.old) (K.taken sink.new) }
     ensures write { result ≡ Status.WriteFailed → Rose (K.faults sink.old) (K.faults sink.new) × ((input : List ℕ) → S.left source.old ≡ Some input → (out : List ℕ) × IsWritten input out × GainedPart (K.taken sink.old) (K.taken sink.new) out) }
     ensures script { result ≡ Status.ScriptRefused → (input : List ℕ) → S.left source.old ≡ Some input → (out : List ℕ) × Refuses input out × Gained (K.taken sink.old) (K.taken sink.new) out }
