@@ -1,4 +1,3 @@
 pub mod History
 pub mod Seen
 pub mod Inputs
-pub mod Notes
