@@ -1,0 +1,27 @@
+//! A task's way through its states.
+use crate::{Need, Outcome, Stage, TaskState};
+use std::sync::Arc;
+use std::test::Fail;
+
+#[test]
+fn a_check_that_becomes_a_computation(rt: HostRuntime) -> Result<(), Fail> {
+    let mut state: TaskState<u32, u64> = TaskState::Checking(Stage::Ready);
+    assert_eq!(rt; state.poll_step(), Need::Take);
+    state.taken();
+    assert_eq!(rt; state.poll_step(), Need::Return);
+    state.given(false);
+    assert_eq!(rt; state.poll_step(), Need::Answers);
+    state.answered();
+    state.taken();
+    state.back();
+    state.taken();
+    state.given(true);
+    assert_eq!(rt; state.poll_step(), Need::Take);
+    state.taken();
+    state.differs();
+    assert!(rt; matches!(state, TaskState::Computing(Stage::Ready)));
+    state.end(Outcome::Value(Arc::new(rt.alloc(), 7)?));
+    assert_eq!(rt; state.poll_step(), Need::Nothing);
+    assert!(rt; matches!(state, TaskState::Ended(Outcome::Value(_))));
+    Ok(())
+}
