@@ -16,7 +16,7 @@ use Rattle.std.proofs.lemmas.Map.Entries.{sum_by-set_value, sum_by-remove_entry,
 use Rattle.dice_key.specs.Lawful.{IsEquality}
 use Rattle.task_share.specs.Asked.{By, Promised, Tasked, is_by}
 use Rattle.task_share.specs.Lists.{Has}
-use Rattle.task_share.specs.Seen.{Share, is_for, list_for, number_for, has_by, has_live, has_place, asks, waits_at, KeepsTasks, KeepsRoom}
+use Rattle.task_share.specs.Seen.{Share, is_for, list_for, number_for, has_by, has_live, has_place, asks, waits_at, ask_count, KeepsTasks, KeepsRoom}
 use Rattle.task_share.specs.Listed.{share_of, entry_of, shares_of, is_idle, kept_name, one_if, IsNamed, IsListed, IsChanged, Left, UsesRoom, Withdraws, Withdrawing, NoneIdle, IsKept, IsPopped, IsVacant, AllRun}
 use Rattle.task_share.specs.declared.place.Place.{Place}
 use Rattle.task_share.proofs.PlaceLemmas.{true_or_false, and_both, lookup_shares}
@@ -113,11 +113,11 @@ module _ {K T : Type 0} (eq : K → K → Bool) (law : IsEquality eq) where
       by_test true h = refl
       by_test false h = ap (λ rest. entry_of e ∷ rest) h
 
-  pub removed_less : {A : Type 0} (test : K → Bool) (es fs : List (Arc K A × Place K T)) → IsPermutation (remove_entry (λ a. test (arc_value a)) es) fs → sum_by kept_name (values_of (shares_of fs)) ≤ sum_by kept_name (values_of (shares_of es))
-  removed_less test es fs p =
-      let a = sum_by_values_permutation kept_name (shares_of (remove_entry (λ a. test (arc_value a)) es)) (shares_of fs) (IsPermutation-map entry_of (remove_entry (λ a. test (arc_value a)) es) fs p) in
-      let b : sum_by kept_name (values_of (shares_of (remove_entry (λ a. test (arc_value a)) es))) ≡ sum_by kept_name (values_of (remove_entry test (shares_of es))) = ap (λ xs. sum_by kept_name (values_of xs)) (remove_shares test es) in
-      let d = sum_by-remove_entry kept_name test (shares_of es) in
+  pub removed_less : {A : Type 0} (f : Share K T → ℕ) (test : K → Bool) (es fs : List (Arc K A × Place K T)) → IsPermutation (remove_entry (λ a. test (arc_value a)) es) fs → sum_by f (values_of (shares_of fs)) ≤ sum_by f (values_of (shares_of es))
+  removed_less f test es fs p =
+      let a = sum_by_values_permutation f (shares_of (remove_entry (λ a. test (arc_value a)) es)) (shares_of fs) (IsPermutation-map entry_of (remove_entry (λ a. test (arc_value a)) es) fs p) in
+      let b : sum_by f (values_of (shares_of (remove_entry (λ a. test (arc_value a)) es))) ≡ sum_by f (values_of (remove_entry test (shares_of es))) = ap (λ xs. sum_by f (values_of xs)) (remove_shares test es) in
+      let d = sum_by-remove_entry f test (shares_of es) in
       omega arith
 
   pub removed_gone : {A : Type 0} (key : Arc K A) (es fs : List (Arc K A × Place K T)) → ((q : Arc K A) → lookup (λ a. eq (arc_value q) (arc_value a)) fs ≡ cond (eq (arc_value key) (arc_value q)) None (lookup (λ a. eq (arc_value q) (arc_value a)) es))
@@ -263,8 +263,8 @@ module _ {K T : Type 0} (eq : K → K → Bool) (law : IsEquality eq) where
     no_asker (Promised n) = ap (list_any (nat_eq n)) vacant.promises
     no_asker (Tasked j) = ap (list_any (eq j)) vacant.askers
 
-    pub vacant_kept : IsKept eq ps qs
-    vacant_kept = record {
+    pub vacant_kept : ask_count qs ≤ ask_count ps → IsKept eq ps qs
+    vacant_kept less = record {
       tasks = record { tasks = by_place (option_and_then (λ (p : Share K T). p.task)) vacant.task; live = by_place (is_for has_live) vacant.live };
       asks = λ q a. by_place (is_for (λ p. has_by eq p a)) (no_asker a) q;
       waits = λ i d. by_place (λ o. list_any (eq d) (list_for (λ (p : Share K T). p.waits) o)) (ap (list_any (eq d)) vacant.waits) i;
@@ -273,6 +273,7 @@ module _ {K T : Type 0} (eq : K → K → Bool) (law : IsEquality eq) where
         promises = less_place (λ p. p.promise_room);
         askers = less_place (λ p. p.asker_room);
         waits = less_place (λ p. p.wait_room);
+        count = less;
       };
     }
       where
@@ -292,6 +293,15 @@ module _ {K T : Type 0} (eq : K → K → Bool) (law : IsEquality eq) where
       by_test : (b : Bool) (o : Option (Place K T)) → option_map share_of (cond b (Some v) o) ≡ cond b (Some (share_of v)) (option_map share_of o)
       by_test true o = refl
       by_test false o = refl
+
+  -- a place without askers adds no ask
+  pub put_count : {A : Type 0} (key : Arc K A) (v : Place K T) (es fs : List (Arc K A × Place K T)) → (share_of v).askers ≡ [] → IsPermutation ((key, v) ∷ es) fs → ask_count (shares_of fs) ≤ ask_count (shares_of es)
+  put_count key v es fs n p =
+      let f : Share K T → ℕ = λ (p : Share K T). length p.askers in
+      let a = sum_by_values_permutation f (shares_of ((key, v) ∷ es)) (shares_of fs) (IsPermutation-map entry_of ((key, v) ∷ es) fs p) in
+      let b = sum_by-cons f (share_of v) (values_of (shares_of es)) in
+      let d : length (share_of v).askers ≡ 0 = ap length n in
+      omega arith
 
   pub put_more : {A : Type 0} (key : Arc K A) (v : Place K T) (es fs : List (Arc K A × Place K T)) → IsPermutation ((key, v) ∷ es) fs → sum_by kept_name (values_of (shares_of fs)) ≤ sum_by kept_name (values_of (shares_of es)) + 1
   put_more key v es fs p =

@@ -8,7 +8,7 @@ ghost use Rattle.dice_key.specs.Lawful.{IsEquality};
 ghost use Rattle.task_share.specs.Asked.{By, Promised, Tasked, is_by, IsDone, Takes};
 ghost use Rattle.task_share.specs.Askers.{by_of};
 ghost use Rattle.task_share.specs.Lent.{LendsTask};
-ghost use Rattle.task_share.specs.Seen.{task_at, is_live, asks, waits_at, asked_of, IsMirrored, has_place, promise_room, asker_room, wait_room, KeepsTasks, KeepsAsks, KeepsRoom, KeepsOtherRoom, UsesRoomOf};
+ghost use Rattle.task_share.specs.Seen.{task_at, is_live, asks, waits_at, asked_of, ask_count, IsMirrored, has_place, promise_room, asker_room, wait_room, KeepsTasks, KeepsAsks, KeepsRoom, KeepsOtherRoom, UsesRoomOf};
 
 use crate::asker::{Asker, Askers, Wait};
 use crate::idle::{pop_idle, withdraw};
@@ -29,6 +29,9 @@ use std::sync::Arc;
 ///
 /// A key may have a task, which has ended or not, and askers: promises and other tasks. A task waits for the keys that it asks
 /// for. Askers are a set: who joins twice has joined once.
+///
+/// A call takes constant time, however many tasks and askers there are, but for growth; `ended` and `next_unasked` take it for
+/// each key that the task waited for, and `next_unasked` for each candidate, which an earlier call made.
 #[derive(Drop)]
 pub struct Table<K: Eq + Hash + Drop, T: Drop> {
     places: HashMap<Arc<K>, Place<K, T>>,
@@ -140,6 +143,7 @@ impl<K: Eq + Hash + Drop, T: Drop> Table<K, T> {
         ensures tasks { KeepsTasks K.eq self.old self.new }
         ensures asks { (q : K) (a : By K) → asks K.eq self.new q a ≡ (asks K.eq self.old q a || (K.eq (arc_value key.now) q && is_by K.eq (Promised number) a)) }
         ensures room { UsesRoomOf K.eq (λ q. if K.eq (arc_value key.now) q then 1 else 0) (λ q. 0) (λ q. 0) self.old self.new }
+        ensures count { ask_count self.new ≤ ask_count self.old }
     {
         add_promise(&mut self.places, key, number);
     }
@@ -151,6 +155,7 @@ impl<K: Eq + Hash + Drop, T: Drop> Table<K, T> {
         ensures tasks { KeepsTasks K.eq self.old self.new }
         ensures asks { (q : K) (a : By K) → asks K.eq self.new q a ≡ (asks K.eq self.old q a || (K.eq wait.key q && is_by K.eq (Tasked wait.asker) a)) }
         ensures room { UsesRoomOf K.eq (λ q. 0) (λ q. if K.eq wait.key q then 1 else 0) (λ q. if K.eq wait.asker q then 1 else 0) self.old self.new }
+        ensures count { ask_count self.new ≤ ask_count self.old + 1 }
     {
         let (key, asker, kept_asker) = wait.into_parts();
         add_asker(&mut self.places, &key, kept_asker);
@@ -162,6 +167,7 @@ impl<K: Eq + Hash + Drop, T: Drop> Table<K, T> {
         ensures tasks { KeepsTasks K.eq self.old self.new }
         ensures asks { OnOk result ((q : K) (a : By K) → asks K.eq self.new q a ≡ (asks K.eq self.old q a || (K.eq (arc_value key.now) q && is_by K.eq (by_of asker) a))) }
         ensures err { OnErr result (KeepsAsks K.eq self.old self.new) }
+        ensures count { ask_count self.new ≤ ask_count self.old + 1 }
     {
         match asker {
             Asker::Promise(number) => self.join_promise(key, number),
@@ -173,6 +179,7 @@ impl<K: Eq + Hash + Drop, T: Drop> Table<K, T> {
         ensures tasks { KeepsTasks K.eq self.old self.new }
         ensures asks { OnOk result ((q : K) (a : By K) → asks K.eq self.new q a ≡ (asks K.eq self.old q a || (K.eq (arc_value key.now) q && is_by K.eq (Promised number) a))) }
         ensures err { OnErr result (KeepsAsks K.eq self.old self.new) }
+        ensures count { ask_count self.new ≤ ask_count self.old + 1 }
     {
         self.reserve_promise(key)?;
         self.add_promise(key, number);
@@ -183,6 +190,7 @@ impl<K: Eq + Hash + Drop, T: Drop> Table<K, T> {
         ensures tasks { KeepsTasks K.eq self.old self.new }
         ensures asks { OnOk result ((q : K) (a : By K) → asks K.eq self.new q a ≡ (asks K.eq self.old q a || (K.eq (arc_value key.now) q && is_by K.eq (Tasked (arc_value asker.now)) a))) }
         ensures err { OnErr result (KeepsAsks K.eq self.old self.new) }
+        ensures count { ask_count self.new ≤ ask_count self.old + 1 }
     {
         let wait = Wait::new(key, asker)?;
         self.reserve_asker(key)?;
@@ -221,10 +229,13 @@ impl<K: Eq + Hash + Drop, T: Drop> Table<K, T> {
     }
 
     /// Takes one asking task away from a key, and gives its key; `None` exactly where no task asks for the key. It takes no memory.
+    ///
+    /// Each asker that it gives lowers the number of asks of tasks, so a loop over it ends.
     pub fn take_asker(&mut self, key: &Arc<K>) -> Option<Arc<K>>
         ensures tasks { KeepsTasks K.eq self.old self.new }
         ensures asked { IfSome result (λ j. asks K.eq self.old (arc_value key.now) (Tasked (arc_value j)) ≡ true) }
         ensures asks { IfSome result (λ j. (q : K) (a : By K) → asks K.eq self.new q a ≡ (asks K.eq self.old q a && not (K.eq (arc_value key.now) q && is_by K.eq (Tasked (arc_value j)) a))) }
+        ensures fewer { IfSome result (λ j. ask_count self.new < ask_count self.old) }
         ensures none { IfNone result (((j : K) → asks K.eq self.old (arc_value key.now) (Tasked j) ≡ false) × KeepsAsks K.eq self.old self.new) }
         ensures room { KeepsRoom K.eq self.old self.new }
     {

@@ -50,4 +50,4 @@ returns-clause-kept g c =
     let u = o.3 (subst IsSome (sym known) refl) in
     let i : IsWritten eq key c.args.places.now.entries (c.get_mut.follows.lender w).entries h w = record { known = known; set = o.0; here = u.1; others = u.2 } in
     stays_kept eq c.requires.equality (shares_of c.args.places.now.entries) (shares_of (c.get_mut.follows.lender w).entries) (arc_value key) (λ p r. Stays eq p r × UsesRoom 0 0 0 p r)
-    (changed_written eq c.requires.equality key c.args.places.now.entries (c.get_mut.follows.lender w).entries h w _ i (record { task = refl; live = refl; asks = λ a. refl; waits = λ d. refl }, record { promises = omega arith; askers = omega arith; waits = omega arith })) (λ p r x. x)
+    (changed_written eq c.requires.equality key c.args.places.now.entries (c.get_mut.follows.lender w).entries h w _ i (record { task = refl; live = refl; asks = λ a. refl; waits = λ d. refl }, record { promises = omega arith; askers = omega arith; waits = omega arith; count = omega arith })) (λ p r x. x)

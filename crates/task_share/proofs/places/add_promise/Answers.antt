@@ -52,4 +52,4 @@ returns-clause-changed g c =
     let found = lookup_shares (eq (arc_value key)) c.args.places.now.entries ∙ ap (option_map share_of) known in
     let b : (list_any (nat_eq c.args.number) h.promises.keys ≡ true) ⊎ (0 < spare h.promises) = subst (λ o. (is_for (λ (p : Share g.row.K.Denot g.row.T.Denot). has_by eq p (Promised c.args.number)) o ≡ true) ⊎ (0 < number_for (λ (p : Share g.row.K.Denot g.row.T.Denot). p.promise_room) o)) found c.requires.room in
     let d = inserted c.insert.result (list_any (nat_eq c.args.number) h.promises.keys) (spare h.promises) _ c.insert.ensures.updates c.insert.ensures.absent c.insert.ensures.succeeds b in
-    changed_written eq c.requires.equality key c.args.places.now.entries (c.get_mut.follows.lender w).entries h w _ i (record { task = refl; live = refl; asks = joined_promise eq (share_of h) (share_of w) c.args.number refl (λ q. d.0 q); waits = λ d. refl }, record { promises = omega (arith, c.insert.ensures.spare); askers = omega arith; waits = omega arith })
+    changed_written eq c.requires.equality key c.args.places.now.entries (c.get_mut.follows.lender w).entries h w _ i (record { task = refl; live = refl; asks = joined_promise eq (share_of h) (share_of w) c.args.number refl (λ q. d.0 q); waits = λ d. refl }, record { promises = omega (arith, c.insert.ensures.spare); askers = omega arith; waits = omega arith; count = omega arith })

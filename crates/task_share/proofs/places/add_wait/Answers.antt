@@ -49,4 +49,4 @@ returns-clause-changed g c =
     let found = lookup_shares (eq (arc_value key)) c.args.places.now.entries ∙ ap (option_map share_of) known in
     let b : (list_any (λ x. eq (arc_value c.args.asked) (arc_value x)) h.waits.keys ≡ true) ⊎ (0 < spare h.waits) = subst (λ t. (t ≡ true) ⊎ (0 < spare h.waits)) (list_any_values (eq (arc_value c.args.asked)) h.waits.keys) (subst (λ o. (list_any (eq (arc_value c.args.asked)) (list_for (λ (p : Share g.row.K.Denot g.row.T.Denot). p.waits) o) ≡ true) ⊎ (0 < number_for (λ (p : Share g.row.K.Denot g.row.T.Denot). p.wait_room) o)) found c.requires.room) in
     let d = inserted c.insert.result (list_any (λ x. eq (arc_value c.args.asked) (arc_value x)) h.waits.keys) (spare h.waits) _ c.insert.ensures.updates c.insert.ensures.absent c.insert.ensures.succeeds b in
-    changed_written eq c.requires.equality key c.args.places.now.entries (c.get_mut.follows.lender w).entries h w _ i (record { task = refl; live = refl; asks = λ a. refl; waits = joined_wait eq (share_of h) (share_of w) (arc_value c.args.asked) (λ q. list_any_values (eq q) w.waits.keys ∙ (d.0 (arc_with_value c.args.asked q) ∙ ap (cond (eq (arc_value c.args.asked) q) true) (sym (list_any_values (eq q) h.waits.keys)))) }, record { promises = omega arith; askers = omega arith; waits = omega (arith, c.insert.ensures.spare) })
+    changed_written eq c.requires.equality key c.args.places.now.entries (c.get_mut.follows.lender w).entries h w _ i (record { task = refl; live = refl; asks = λ a. refl; waits = joined_wait eq (share_of h) (share_of w) (arc_value c.args.asked) (λ q. list_any_values (eq q) w.waits.keys ∙ (d.0 (arc_with_value c.args.asked q) ∙ ap (cond (eq (arc_value c.args.asked) q) true) (sym (list_any_values (eq q) h.waits.keys)))) }, record { promises = omega arith; askers = omega arith; waits = omega (arith, c.insert.ensures.spare); count = omega arith })

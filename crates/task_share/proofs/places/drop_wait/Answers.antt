@@ -43,4 +43,4 @@ returns-clause-changed g c =
     let o = c.get_mut.follows.holds w in
     let u = o.3 (subst IsSome (sym known) refl) in
     let i : IsWritten eq key c.args.places.now.entries (c.get_mut.follows.lender w).entries h w = record { known = known; set = o.0; here = u.1; others = u.2 } in
-    changed_written eq c.requires key c.args.places.now.entries (c.get_mut.follows.lender w).entries h w _ i (record { task = refl; live = refl; asks = λ a. refl; waits = left_wait eq (share_of h) (share_of w) (arc_value c.args.asked.now) (λ q. list_any_values (eq q) w.waits.keys ∙ (c.swap_remove.ensures.updates.0 (arc_with_value c.args.asked.now q) ∙ ap (cond (eq (arc_value c.args.asked.now) q) false) (sym (list_any_values (eq q) h.waits.keys)))) }, record { promises = omega arith; askers = omega arith; waits = omega (arith, c.swap_remove.ensures.room.0) })
+    changed_written eq c.requires key c.args.places.now.entries (c.get_mut.follows.lender w).entries h w _ i (record { task = refl; live = refl; asks = λ a. refl; waits = left_wait eq (share_of h) (share_of w) (arc_value c.args.asked.now) (λ q. list_any_values (eq q) w.waits.keys ∙ (c.swap_remove.ensures.updates.0 (arc_with_value c.args.asked.now q) ∙ ap (cond (eq (arc_value c.args.asked.now) q) false) (sym (list_any_values (eq q) h.waits.keys)))) }, record { promises = omega arith; askers = omega arith; waits = omega (arith, c.swap_remove.ensures.room.0); count = omega arith })

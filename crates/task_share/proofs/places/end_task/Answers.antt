@@ -62,4 +62,4 @@ returns-clause-changed g c =
     let o = c.get_mut.follows.holds w in
     let u = o.3 (subst IsSome (sym known) refl) in
     let i : IsWritten eq key c.args.places.now.entries (c.get_mut.follows.lender w).entries h w = record { known = known; set = o.0; here = u.1; others = u.2 } in
-    changed_written eq c.requires key c.args.places.now.entries (c.get_mut.follows.lender w).entries h w _ i (record { task = refl; live = refl; asks = λ a. refl; waits = λ d. ap (λ s. list_any (eq d) (map arc_value s.keys)) c.replace.ensures.after ∙ ap (λ ks. list_any (eq d) (map arc_value ks)) c.new-none.ensures.empty }, record { promises = omega arith; askers = omega arith; waits = omega arith })
+    changed_written eq c.requires key c.args.places.now.entries (c.get_mut.follows.lender w).entries h w _ i (record { task = refl; live = refl; asks = λ a. refl; waits = λ d. ap (λ s. list_any (eq d) (map arc_value s.keys)) c.replace.ensures.after ∙ ap (λ ks. list_any (eq d) (map arc_value ks)) c.new-none.ensures.empty }, record { promises = omega arith; askers = omega arith; waits = omega arith; count = omega arith })

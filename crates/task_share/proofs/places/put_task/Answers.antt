@@ -47,4 +47,4 @@ returns-clause-changed g c =
     let i : IsWritten eq key c.args.places.now.entries (c.get_mut.follows.lender w).entries h w = record { known = known; set = o.0; here = u.1; others = u.2 } in
     let mid : Place g.row.K.Denot g.row.T.Denot = record { task = Some c.args.task; live = true; promises = h.promises; askers = h.askers; waits = h.waits; name = h.name } in
     changed_written eq c.requires.equality key c.args.places.now.entries (c.get_mut.follows.lender w).entries h w _ i
-    (rw c.settle.ensures.place (record { task = refl; live = refl; asks = λ a. refl; waits = λ d. refl }, record { promises = omega arith; askers = omega arith; waits = omega arith }))
+    (rw c.settle.ensures.place (record { task = refl; live = refl; asks = λ a. refl; waits = λ d. refl }, record { promises = omega arith; askers = omega arith; waits = omega arith; count = omega arith }))

@@ -47,7 +47,7 @@ returns-in_err-reserve-clause-changed g c =
     let o = c.get_mut.follows.holds w in
     let u = o.3 (subst IsSome (sym known) refl) in
     let i : IsWritten eq key c.args.places.now.entries (c.get_mut.follows.lender w).entries h w = record { known = known; set = o.0; here = u.1; others = u.2 } in
-    changed_written eq c.requires key c.args.places.now.entries (c.get_mut.follows.lender w).entries h w _ i (record { task = refl; live = refl; asks = same_asks eq (share_of h) (share_of w) (c.reserve.ensures.keys) refl; waits = λ d. refl }, record { promises = omega (arith, c.reserve.ensures.room.0); askers = omega arith; waits = omega arith })
+    changed_written eq c.requires key c.args.places.now.entries (c.get_mut.follows.lender w).entries h w _ i (record { task = refl; live = refl; asks = same_asks eq (share_of h) (share_of w) (c.reserve.ensures.keys) refl; waits = λ d. refl }, record { promises = omega (arith, c.reserve.ensures.room.0); askers = omega arith; waits = omega arith; count = omega arith })
 
 pub returns-clause-listed : goal.returns-clause-listed
 returns-clause-listed g c =
@@ -71,7 +71,7 @@ returns-clause-changed g c =
     let o = c.get_mut.follows.holds w in
     let u = o.3 (subst IsSome (sym known) refl) in
     let i : IsWritten eq key c.args.places.now.entries (c.get_mut.follows.lender w).entries h w = record { known = known; set = o.0; here = u.1; others = u.2 } in
-    changed_written eq c.requires key c.args.places.now.entries (c.get_mut.follows.lender w).entries h w _ i (record { task = refl; live = refl; asks = same_asks eq (share_of h) (share_of w) (c.reserve.ensures.keys) refl; waits = λ d. refl }, record { promises = omega (arith, c.reserve.ensures.room.0); askers = omega arith; waits = omega arith })
+    changed_written eq c.requires key c.args.places.now.entries (c.get_mut.follows.lender w).entries h w _ i (record { task = refl; live = refl; asks = same_asks eq (share_of h) (share_of w) (c.reserve.ensures.keys) refl; waits = λ d. refl }, record { promises = omega (arith, c.reserve.ensures.room.0); askers = omega arith; waits = omega arith; count = omega arith })
 
 pub returns-clause-ok : goal.returns-clause-ok
 returns-clause-ok g c = λ e.
