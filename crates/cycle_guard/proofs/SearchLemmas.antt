@@ -1,14 +1,14 @@
 -- Each step of the search, what it finds, and why it ends.
-use Rattle.std.proofs.Common.{◌≡◌, ◌≤◌, ◌<◌, ◌+◌, ◌*◌, ◌⊎◌, inl, inr, ℕ, zero, suc, Bool, true, false, not, cond, ◌&&◌, ◌||◌, List, [], ◌∷◌, ◌++◌, length, drop, map, reverse, get_or, Option, Some, None, refl, sym, ap, ◌∙◌, subst, arith, append_assoc, append-nil}
+use Rattle.std.proofs.Common.{◌≡◌, ◌≤◌, ◌+◌, ◌⊎◌, inl, inr, ℕ, Bool, true, false, cond, ◌||◌, List, [], ◌∷◌, ◌++◌, length, drop, reverse, Some, refl, sym, ap, ◌∙◌, subst, arith, append_assoc, append-nil}
 use Rattle.std.specs.Map.{lookup}
-use Rattle.std.specs.List.{list_any, slice_get}
+use Rattle.std.specs.List.{list_any}
 use Rattle.std.proofs.lemmas.List.{reverse-append, reverse-reverse}
 use Rattle.dice_key.specs.Lawful.{IsEquality}
-use Rattle.task_share.specs.Asked.{Asked, By, Tasked, Leads, stays, asks_on}
+use Rattle.task_share.specs.Asked.{Tasked, Leads, stays, asks_on}
 use Rattle.task_share.specs.Lists.{Has, AreDistinct}
 use Rattle.task_share.specs.Seen.{Share, asks, waits_at, asked_of, list_for, IsMirrored}
 use Rattle.cycle_guard.specs.Circle.{WouldWait, IsRound, IsSecond, IsCircle}
-use Rattle.cycle_guard.specs.Search.{Stacked, Pending, left_of, IsSearch, unmet}
+use Rattle.cycle_guard.specs.Search.{Stacked, Pending, IsSearch, unmet}
 
 true_or_false : (b : Bool) → (b ≡ true) ⊎ (b ≡ false)
 true_or_false true = inl refl

@@ -1,5 +1,5 @@
 -- The steps of the search, as the code takes them: its lists have the newest last.
-use Rattle.std.proofs.Common.{◌≡◌, ◌≤◌, ◌<◌, ◌+◌, ◌*◌, ◌⊎◌, inl, inr, ℕ, zero, suc, Bool, true, false, not, cond, List, [], ◌∷◌, ◌++◌, length, drop, map, reverse, Option, Some, None, refl, sym, ap, ◌∙◌, subst, arith, add-one, ◌-◌, Bor}
+use Rattle.std.proofs.Common.{◌≡◌, ◌<◌, ◌+◌, ◌*◌, inl, inr, ℕ, zero, suc, Bool, true, false, not, cond, List, [], ◌∷◌, ◌++◌, length, drop, map, reverse, Option, Some, None, refl, sym, ap, ◌∙◌, subst, arith, add-one, ◌-◌, Bor}
 use Rattle.std.specs.Prelude.{IsSome}
 use Rattle.std.specs.Arc.{arc_value}
 use Rattle.std.specs.List.{slice_get}
@@ -13,7 +13,7 @@ use Rattle.task_share.specs.Asked.{Leads}
 use Rattle.task_share.specs.Lists.{Has}
 use Rattle.task_share.specs.Seen.{Share, waits_at, asked_of, IsMirrored}
 use Rattle.cycle_guard.specs.Circle.{IsCircle}
-use Rattle.cycle_guard.specs.Search.{Stacked, left_of, IsSearch, unmet, next_wait, steps_left, is_met}
+use Rattle.cycle_guard.specs.Search.{Stacked, left_of, IsSearch, next_wait, steps_left, is_met}
 use Rattle.cycle_guard.proofs.SearchLemmas.{search_begins, search_popped, search_passed, search_met, found_circle, found_leads, over, unmet_less, unmet_same}
 
 drop_at : {X : Type 0} (xs : List X) (n : ℕ) (x : X) → slice_get xs n ≡ Some x → drop n xs ≡ x ∷ drop (suc n) xs

@@ -1,5 +1,5 @@
 -- Idle tasks: what gives a key back to its place, takes a task out, and withdraws its asks.
-use Rattle.std.proofs.Common.{◌≡◌, ◌≤◌, ◌<◌, ◌+◌, inl, inr, ◌⊎◌, ℕ, suc, Bool, true, false, not, cond, ◌&&◌, ◌||◌, List, [], ◌∷◌, ◌++◌, length, map, Option, Some, None, is_some, unwrap_or, eqb, nat_eq, refl, sym, ap, ◌∙◌, subst, arith}
+use Rattle.std.proofs.Common.{◌≡◌, ◌≤◌, ◌+◌, inl, inr, ◌⊎◌, ℕ, suc, Bool, true, false, not, cond, ◌&&◌, ◌||◌, List, [], ◌∷◌, ◌++◌, length, map, Option, Some, None, is_some, nat_eq, refl, sym, ap, ◌∙◌, subst, arith}
 use Rattle.std.specs.Prelude.{option_and_then, MatchOption}
 use Rattle.std.specs.Arc.{arc_value}
 use Rattle.std.specs.Map.{lookup, set_value, remove_entry, values_of}
@@ -16,7 +16,7 @@ use Rattle.std.proofs.lemmas.Map.Entries.{sum_by-set_value, sum_by-remove_entry,
 use Rattle.dice_key.specs.Lawful.{IsEquality}
 use Rattle.task_share.specs.Asked.{By, Promised, Tasked, is_by}
 use Rattle.task_share.specs.Lists.{Has}
-use Rattle.task_share.specs.Seen.{Share, is_for, list_for, number_for, has_by, has_live, has_place, asks, waits_at, ask_count, KeepsTasks, KeepsRoom}
+use Rattle.task_share.specs.Seen.{Share, is_for, list_for, number_for, has_by, has_live, has_place, asks, waits_at, ask_count}
 use Rattle.task_share.specs.Listed.{share_of, entry_of, shares_of, is_idle, kept_name, one_if, IsNamed, IsListed, IsChanged, Left, UsesRoom, Withdraws, Withdrawing, NoneIdle, IsKept, IsPopped, IsVacant, AllRun}
 use Rattle.task_share.specs.declared.place.Place.{Place}
 use Rattle.task_share.proofs.PlaceLemmas.{true_or_false, and_both, lookup_shares}

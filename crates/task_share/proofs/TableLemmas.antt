@@ -1,17 +1,16 @@
 -- What each call makes of a table, from what it makes of its places.
-use Rattle.std.proofs.Common.{◌≡◌, ◌≤◌, ◌<◌, ◌+◌, inl, inr, ◌⊎◌, ℕ, suc, Bool, true, false, not, cond, ◌&&◌, ◌||◌, List, [], ◌∷◌, ◌++◌, length, Option, Some, None, is_some, nat_eq, eqb, eq-eqb, refl, sym, ap, ◌∙◌, subst, arith}
-use Rattle.std.specs.Prelude.{option_and_then, IsSome, IfSome, IfNone, OnSome}
+use Rattle.std.proofs.Common.{◌≡◌, ◌≤◌, ◌<◌, ◌+◌, inl, inr, ◌⊎◌, ℕ, Bool, true, false, not, cond, ◌&&◌, ◌||◌, List, [], ◌∷◌, length, Option, Some, None, is_some, nat_eq, eq-eqb, refl, sym, ap, ◌∙◌, subst, arith}
+use Rattle.std.specs.Prelude.{option_and_then, IsSome, OnSome}
 use Rattle.std.specs.Option.{option_map}
 use Rattle.std.specs.Map.{lookup}
 use Rattle.std.specs.List.{list_any}
-use Rattle.std.proofs.lemmas.Option.{same_Some, none-some}
 use Rattle.dice_key.specs.Lawful.{IsEquality}
 use Rattle.task_share.specs.Asked.{By, Promised, Tasked, is_by, Takes, IsDone}
 use Rattle.task_share.specs.Seen.{Share, is_for, list_for, number_for, has_by, has_live, task_at, is_live, asks, waits_at, asked_of, has_place, promise_room, asker_room, wait_room, ask_count, KeepsTasks, KeepsAsks, KeepsRoom, KeepsOtherRoom, UsesRoomOf}
 use Rattle.task_share.specs.Lent.{WritesTask}
-use Rattle.task_share.specs.Listed.{is_idle, IsListed, AreIn, IsChanged, Turns, Joined, Left, Stays, UsesRoom, IsKept, IsMirrored, Withdraws, IsTaken, IsPopped, NoneIdle}
-use Rattle.task_share.proofs.PlaceLemmas.{true_or_false, and_both, idle_unasked}
-use Rattle.task_share.proofs.TurnLemmas.{same_cond, asks_turned, waits_turned, task_turned, test_turned, tasks_kept, count_kept, room_kept, place_kept, number_kept, by_key, tasks_on, room_on, stays_kept, kept_itself}
+use Rattle.task_share.specs.Listed.{is_idle, IsListed, AreIn, IsChanged, Turns, Joined, Left, UsesRoom, IsKept, IsMirrored, Withdraws, IsPopped, NoneIdle}
+use Rattle.task_share.proofs.PlaceLemmas.{and_both, idle_unasked}
+use Rattle.task_share.proofs.TurnLemmas.{same_cond, asks_turned, waits_turned, task_turned, test_turned, tasks_kept, count_kept, room_kept, place_kept, number_kept, by_key, tasks_on, room_on}
 
 no_number : (b : Bool) (m n : ℕ) → m ≤ n + cond b 0 0 → m ≤ n + 0
 no_number true m n h = omega arith

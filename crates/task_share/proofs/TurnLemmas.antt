@@ -1,13 +1,12 @@
 -- What a change at one key makes of tasks, askers, waits and room.
-use Rattle.std.proofs.Common.{◌≡◌, ◌≤◌, ◌<◌, ◌+◌, inl, inr, ◌⊎◌, ℕ, Bool, true, false, not, cond, ◌&&◌, ◌||◌, List, length, Option, Some, None, is_some, refl, sym, ap, ◌∙◌, subst, arith}
+use Rattle.std.proofs.Common.{◌≡◌, ◌≤◌, ◌+◌, ℕ, Bool, true, false, cond, List, length, Option, Some, None, is_some, refl, sym, ap, ◌∙◌, subst, arith}
 use Rattle.std.specs.Prelude.{option_and_then}
 use Rattle.std.specs.Map.{lookup}
 use Rattle.std.specs.List.{list_any}
 use Rattle.dice_key.specs.Lawful.{IsEquality}
-use Rattle.task_share.specs.Asked.{By, Promised, Tasked, is_by}
-use Rattle.task_share.specs.Seen.{Share, is_for, list_for, number_for, has_by, has_live, task_at, is_live, asks, waits_at, has_place, promise_room, asker_room, wait_room, ask_count, KeepsTasks, KeepsAsks, KeepsRoom}
-use Rattle.task_share.specs.Listed.{AreIn, IsChanged, Turns, Stays, UsesRoom, IsKept, Withdraws}
-use Rattle.task_share.proofs.PlaceLemmas.{true_or_false}
+use Rattle.task_share.specs.Asked.{By}
+use Rattle.task_share.specs.Seen.{Share, is_for, list_for, number_for, has_by, has_live, task_at, is_live, asks, waits_at, has_place, ask_count, KeepsTasks, KeepsRoom}
+use Rattle.task_share.specs.Listed.{AreIn, IsChanged, Turns, Stays, UsesRoom, IsKept}
 
 pub same_cond : {X : Type 0} (b : Bool) (x : X) → cond b x x ≡ x
 same_cond true x = refl

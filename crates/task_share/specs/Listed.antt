@@ -1,12 +1,12 @@
 -- What a table keeps of its candidates, and what becomes of one place.
-use Rattle.std.specs.Prelude.{◌≡◌, ◌≤◌, ◌+◌, ℕ, Bool, true, false, not, cond, ◌&&◌, ◌||◌, eqb, List, [], ◌++◌, length, map, Option, Some, None, is_some}
+use Rattle.std.specs.Prelude.{◌≡◌, ◌≤◌, ◌+◌, ℕ, Bool, true, false, not, cond, ◌&&◌, ◌||◌, eqb, List, [], length, map, Option, Some, None, is_some}
 use Rattle.std.specs.Arc.{arc_value}
 use Rattle.std.specs.Map.{lookup, values_of}
 use Rattle.std.specs.List.{list_any, sum_by}
-use Rattle.std.specs.Option.{option_map, option_to_list}
+use Rattle.std.specs.Option.{option_map}
 use Rattle.std.specs.HashSet.{spare}
 use Rattle.std.specs.declared.sync.Arc.{Arc}
-use Rattle.task_share.specs.Asked.{By, Promised, Tasked, is_by}
+use Rattle.task_share.specs.Asked.{By, Tasked, is_by}
 use Rattle.task_share.specs.Lists.{Has}
 pub use Rattle.task_share.specs.Seen.{IsMirrored}
 use Rattle.task_share.specs.Seen.{Share, number_for, has_live, has_by, asks, waits_at, ask_count, KeepsTasks, KeepsAsks, KeepsRoom}

@@ -1,5 +1,5 @@
 -- A table as its users see it: a list of keys with what is kept at each, read by key.
-use Rattle.std.specs.Prelude.{◌≡◌, ◌≤◌, ◌+◌, ℕ, Bool, true, false, not, ◌&&◌, nat_eq, List, [], length, Option, Some, None, option_and_then, is_some}
+use Rattle.std.specs.Prelude.{◌≡◌, ◌≤◌, ◌+◌, ℕ, Bool, true, false, nat_eq, List, [], length, Option, Some, None, option_and_then, is_some}
 use Rattle.std.specs.Map.{lookup, values_of}
 use Rattle.std.specs.List.{list_any, sum_by}
 use Rattle.task_share.specs.Asked.{By, Promised, Tasked, Asked}

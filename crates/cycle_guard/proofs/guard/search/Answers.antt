@@ -1,6 +1,5 @@
-use Rattle.std.proofs.Common.{◌≡◌, ◌<◌, map, reverse, length, Some, None, true, false, cond, ap, sym, ◌∙◌, subst, arith}
+use Rattle.std.proofs.Common.{◌≡◌, map, reverse, Some, None, true, false, cond, ap, sym, ◌∙◌, subst, arith}
 use Rattle.std.specs.Arc.{arc_value, arc_with_value}
-use Rattle.task_share.specs.Asked.{Leads}
 use Rattle.task_share.specs.Seen.{asked_of}
 use Rattle.cycle_guard.specs.Circle.{IsCircle}
 use Rattle.cycle_guard.specs.Search.{next_wait, is_met}

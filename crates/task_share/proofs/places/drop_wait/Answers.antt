@@ -1,14 +1,11 @@
-use Rattle.std.proofs.Common.{◌≡◌, ◌≤◌, ◌+◌, ℕ, Bool, true, false, not, cond, ◌&&◌, ◌||◌, List, [], ◌∷◌, map, Some, None, refl, sym, ap, ◌∙◌, subst, arith}
-use Rattle.std.specs.Prelude.{IsSome, IfSome, IfNone}
+use Rattle.std.proofs.Common.{◌≡◌, false, cond, Some, None, refl, sym, ap, ◌∙◌, subst, arith}
+use Rattle.std.specs.Prelude.{IsSome}
 use Rattle.std.specs.Arc.{arc_value, arc_with_value}
 use Rattle.std.specs.Map.{lookup}
 use Rattle.std.specs.Option.{option_copied_mut}
-use Rattle.std.specs.Vec.{vec_capacity}
-use Rattle.task_share.specs.Asked.{Promised, Tasked}
-use Rattle.task_share.specs.Seen.{Share, asks, waits_at, has_by}
-use Rattle.task_share.specs.Listed.{share_of, shares_of, is_idle, IsListed, IsChanged, KeepsListed, Turns, UsesRoom, Left, Joined, Stays}
+use Rattle.task_share.specs.Listed.{share_of}
 use Rattle.task_share.specs.declared.place.Place.{Place}
-use Rattle.task_share.proofs.PlaceLemmas.{IsWritten, changed_none, changed_written, written_listed, has_room, left_promise, left_task, left_wait, joined_promise, joined_task, joined_wait, list_any_values, kept_listed, kept_none, inserted, asked_busy, ended_busy}
+use Rattle.task_share.proofs.PlaceLemmas.{IsWritten, changed_none, changed_written, left_wait, list_any_values, kept_listed, kept_none}
 use Rattle.task_share.proofs.places.drop_wait.Goals as goal
 
 pub returns-in_default-clause-listed : goal.returns-in_default-clause-listed

@@ -1,17 +1,16 @@
-use Rattle.std.proofs.Common.{◌≡◌, ◌<◌, ◌⊎◌, ◌++◌, length, append-nil, nat_eq, eq-eqb, ◌≤◌, ◌+◌, ℕ, Bool, true, false, not, cond, ◌&&◌, ◌||◌, List, [], ◌∷◌, map, Some, None, is_some, refl, sym, ap, ◌∙◌, subst, arith}
-use Rattle.std.specs.Prelude.{IsSome, IfSome, IfNone}
+use Rattle.std.proofs.Common.{◌≡◌, ◌++◌, append-nil, false, cond, [], map, Some, None, is_some, refl, sym, ap, ◌∙◌, subst, arith}
+use Rattle.std.specs.Prelude.{IsSome}
 use Rattle.std.specs.Arc.{arc_value, arc_with_value}
 use Rattle.std.specs.Map.{lookup}
 use Rattle.std.specs.List.{list_any}
-use Rattle.std.specs.HashSet.{spare}
 use Rattle.std.specs.Option.{option_map, option_to_list}
 use Rattle.std.specs.Option.{option_copied_mut}
 use Rattle.std.specs.Vec.{vec_capacity}
-use Rattle.task_share.specs.Asked.{Promised, Tasked}
-use Rattle.task_share.specs.Seen.{Share, asks, waits_at, has_by, is_for, list_for, number_for}
-use Rattle.task_share.specs.Listed.{share_of, shares_of, is_idle, IsListed, IsChanged, KeepsListed, Turns, UsesRoom, Left, Joined, Stays}
+use Rattle.task_share.specs.Asked.{Tasked}
+use Rattle.task_share.specs.Seen.{Share, has_by, is_for}
+use Rattle.task_share.specs.Listed.{share_of, shares_of, IsListed}
 use Rattle.task_share.specs.declared.place.Place.{Place}
-use Rattle.task_share.proofs.PlaceLemmas.{lookup_shares, popped_fewer, fewer_by_one, fewer_count, same_asks, if_some, if_none, any_last, no_more, IsWritten, changed_none, changed_written, written_listed, has_room, left_promise, left_task, left_wait, joined_promise, joined_task, joined_wait, list_any_values, kept_listed, kept_none, inserted, asked_busy, ended_busy}
+use Rattle.task_share.proofs.PlaceLemmas.{lookup_shares, popped_fewer, fewer_by_one, fewer_count, same_asks, if_some, if_none, any_last, no_more, IsWritten, changed_none, changed_written, written_listed, has_room, left_task, list_any_values}
 use Rattle.task_share.proofs.places.pop_asker.Goals as goal
 
 pub returns-in_default-clause-none : goal.returns-in_default-clause-none

@@ -1,14 +1,11 @@
-use Rattle.std.proofs.Common.{◌≡◌, length, ◌<◌, is_some, ◌≤◌, ◌+◌, ℕ, Bool, true, false, not, cond, ◌&&◌, ◌||◌, List, [], ◌∷◌, map, Some, None, refl, sym, ap, ◌∙◌, subst, arith}
-use Rattle.std.specs.Prelude.{MatchOption, IsSome, IfSome, IfNone}
-use Rattle.std.specs.Arc.{arc_value, arc_with_value}
+use Rattle.std.proofs.Common.{◌≡◌, length, is_some, true, map, None, sym, ap, ◌∙◌, subst, arith}
+use Rattle.std.specs.Arc.{arc_value}
 use Rattle.std.specs.Map.{lookup}
-use Rattle.std.specs.Option.{option_copied_mut, option_map}
+use Rattle.std.specs.Option.{option_map}
 use Rattle.std.specs.Vec.{vec_capacity}
-use Rattle.task_share.specs.Asked.{Promised, Tasked}
-use Rattle.task_share.specs.Seen.{Share, asks, waits_at, has_by, has_place, is_for, number_for}
-use Rattle.task_share.specs.Listed.{share_of, entry_of, shares_of, IsVacant, IsKept, is_idle, IsListed, IsChanged, KeepsListed, Turns, UsesRoom, Left, Joined, Stays}
-use Rattle.task_share.specs.declared.place.Place.{Place}
-use Rattle.task_share.proofs.PlaceLemmas.{lookup_shares, IsWritten, changed_none, changed_written, written_listed, has_room, left_promise, left_task, left_wait, joined_promise, joined_task, joined_wait, list_any_values, kept_listed, kept_none, inserted, asked_busy, ended_busy}
+use Rattle.task_share.specs.Seen.{has_place}
+use Rattle.task_share.specs.Listed.{share_of, entry_of, shares_of, IsVacant, IsKept, IsListed}
+use Rattle.task_share.proofs.PlaceLemmas.{lookup_shares}
 use Rattle.std.proofs.lemmas.List.{length-map}
 use Rattle.task_share.proofs.TurnLemmas.{kept_itself}
 use Rattle.task_share.proofs.IdleLemmas.{room_grown, vacant_placed, vacant_listed, vacant_kept, put_at, put_more, put_count, still_some, is_missing, at_none}

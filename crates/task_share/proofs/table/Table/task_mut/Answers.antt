@@ -1,5 +1,5 @@
-use Rattle.std.proofs.Common.{◌≡◌, ◌∙◌, sym, ap, subst, refl, Some, None, true, false, map, Option, List, is_some}
-use Rattle.std.specs.Prelude.{IsSome, OnSome, option_and_then}
+use Rattle.std.proofs.Common.{◌≡◌, ◌∙◌, sym, ap, subst, refl, Some, true, false, map, List, is_some}
+use Rattle.std.specs.Prelude.{IsSome, option_and_then}
 use Rattle.std.specs.Arc.{arc_value}
 use Rattle.std.specs.Map.{lookup}
 use Rattle.std.specs.Option.{option_copied_mut, option_map, ghost_name_of}
