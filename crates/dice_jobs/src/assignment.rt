@@ -1,5 +1,5 @@
 //! What a job is for.
-ghost use Rattle.std.specs.Prelude.{◌≡◌, length, IfOk, IsTrue, ◌↔◌, Some, None};
+ghost use Rattle.std.specs.Prelude.{◌≡◌, [], length, IfOk, IsTrue, ◌↔◌, Some};
 ghost use Rattle.std.specs.Option.{option_copied};
 ghost use Rattle.std.specs.Arc.{arc_value};
 ghost use Rattle.dice_jobs.specs.Jobs.{answered_more, Computes};
@@ -150,9 +150,7 @@ impl<U: Universe> Earlier<U> {
 }
 
 /// The same batches again, shared.
-fn copied<U: Universe>(
-    answered: &Option<Arc<Trace<U>>>,
-) -> Result<Option<Arc<Trace<U>>>, NoMemory>
+fn copied<U: Universe>(answered: &Option<Arc<Trace<U>>>) -> Result<Option<Arc<Trace<U>>>, NoMemory>
     ensures { IfOk result (λ t. batches_in t ≡ batches_in answered.now) }
 {
     match answered {
@@ -162,10 +160,7 @@ fn copied<U: Universe>(
 }
 
 /// Whether these are the same batches with the same answers.
-fn are_same_batches<U: Universe>(
-    a: &Option<Arc<Trace<U>>>,
-    b: &Option<Arc<Trace<U>>>,
-) -> bool
+fn are_same_batches<U: Universe>(a: &Option<Arc<Trace<U>>>, b: &Option<Arc<Trace<U>>>) -> bool
     ensures { IsTrue result ↔ (batches_in a.now ≡ batches_in b.now) }
 {
     match (a, b) {

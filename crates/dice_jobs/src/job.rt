@@ -96,12 +96,10 @@ impl<U: Universe> Job<U> {
         ensures step { IfOk result (λ s. IsStepOf U.meaning U.Value.eq s self) }
         ensures refused { IfErr result (λ n. n ≡ self.name) }
     {
-        match ending_of(universe, &self.assignment, self.ready) {
-            Ok(ending) => Ok(Step {
-                assignment: self.assignment,
-                ending,
-            }),
-            Err(NoMemory) => Err(self.assignment.into_name()),
+        let Job { assignment, ready } = self;
+        match ending_of(universe, &assignment, ready) {
+            Ok(ending) => Ok(Step { assignment, ending }),
+            Err(NoMemory) => Err(assignment.into_name()),
         }
     }
 }

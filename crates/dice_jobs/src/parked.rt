@@ -65,7 +65,8 @@ impl<U: Universe> Parked<U> {
         requires next { next ≡ answered_more self.job self.keys answers }
         ensures { result ≡ next }
     {
-        let ready = match self.course {
+        let Parked { course, .. } = self;
+        let ready = match course {
             Course::Run(run) => Ready::Resume(run, answers),
             Course::Check(check) => Ready::Feed(check, answers),
         };

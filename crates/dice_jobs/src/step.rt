@@ -85,9 +85,10 @@ impl<U: Universe> Step<U> {
     pub fn into_parked(self) -> Option<Parked<U>>
         ensures { result ≡ waiting_after self.job self.outcome }
     {
-        match self.ending {
+        let Step { assignment, ending } = self;
+        match ending {
             Ending::Asks(batch, course) => Some(Parked {
-                assignment: self.assignment,
+                assignment,
                 batch,
                 course,
             }),
