@@ -6,6 +6,8 @@ mod job;
 mod name;
 mod parked;
 mod step;
+#[cfg(test)]
+mod tests;
 
 pub use assignment::{Assignment, Earlier};
 pub use job::Job;
