@@ -81,7 +81,7 @@ module _ {K V : Type 0} (eq : K → K → Bool) (m : Meaning K V) (law : IsLawfu
         let u : AllTrue (HasValue eq m C n.version) (c.before ++ record { keys = c.batch.keys; values = c.answers } ∷ []) = subst (λ B. AllTrue (HasValue eq m C n.version) B) s t in
         let z : AllZip (HasValue eq m C n.version) c.batch.keys c.answers = true_end (HasValue eq m C n.version) c.before (record { keys = c.batch.keys; values = c.answers }) u in
         let y : AllZip (HasValue eq m C n.version) (c.keys_before ++ d ∷ c.keys_after) (c.same ++ x.1 ∷ c.now_after) =
-            subst (λ ys. AllZip (HasValue eq m C n.version) (c.keys_before ++ d ∷ c.keys_after) ys) c.answers_are (subst (λ ks. AllZip (HasValue eq m C n.version) ks c.answers) c.keys_are z) in
+        subst (λ ys. AllZip (HasValue eq m C n.version) (c.keys_before ++ d ∷ c.keys_after) ys) c.answers_are (subst (λ ks. AllZip (HasValue eq m C n.version) ks c.answers) c.keys_are z) in
         let p = zip_front (HasValue eq m C n.version) c.keys_before c.keys_after c.same c.now_after d x.1 c.counted y in
         record {
           before = c.before;
