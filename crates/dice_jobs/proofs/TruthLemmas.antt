@@ -1,5 +1,5 @@
 -- What is true of a job's answers stays so, and what its step says is true.
-use Rattle.std.proofs.Common.{◌≡◌, ◌≢◌, ◌≤◌, ◌+◌, ◌∙◌, ℕ, Bool, false, List, [], ◌∷◌, ◌++◌, length, refl, sym, ap, subst, append-nil, length-append, arith}
+use Rattle.std.proofs.Common.{◌≡◌, ◌≢◌, ◌≤◌, ◌∙◌, ℕ, Bool, List, [], ◌∷◌, ◌++◌, length, refl, sym, ap, subst, append-nil, length-append, arith}
 use Rattle.std.specs.List.{AllZip}
 use Rattle.dice_key.specs.Meaning.{Meaning, Answered, Step, Asks, Ends}
 use Rattle.dice_key.specs.Lawful.{IsLawful}
@@ -9,7 +9,7 @@ use Rattle.dice_model.specs.Log.{Has}
 use Rattle.dice_model.specs.Asks.{AllTrue, Goes, AsksFor, IsTrace}
 use Rattle.dice_model.proofs.Finite.{goes_last}
 use Rattle.dice_model.proofs.Stable.{goes_stable, true_stable}
-use Rattle.dep_recorder.specs.Checks.{Finding, Wants, IsSame, HasChanged, finding, values_of, IsNextBatch, IsFirstChange}
+use Rattle.dep_recorder.specs.Checks.{Finding, Wants, IsSame, HasChanged, finding, values_of, IsNextBatch}
 use Rattle.dice_jobs.specs.Jobs.{Name, Work, Computes, Checks, Assigned, Outcome, Wanting, Valued, Unchanged, Changed, Stepped, of_move, of_finding, comes, Explains, IsExplained, IsStepOf, answered_more}
 use Rattle.dice_jobs.specs.Truths.{Follows, IsEarlier, AreAnswers, IsTrueJob, ChangesFirst}
 use Rattle.dice_jobs.proofs.Followed.{same_front, changed_front, follows_next, true_last, true_end, true_front, zip_front, goes_here, asks_here}
