@@ -67,7 +67,7 @@ module _ {K V : Type 0} (eq : K → K → Bool) (equality : IsEquality eq) where
       count_turns _ _ (v, k) (λ p n. ap is_going (task_there p n)) (pair_test eq equality v k) (is_going (w.tasks v k)) (is_going o) refl (ap is_going task_here) d.live e.live t.live l,
     )
 
-    -- the call goes on: version v stands over R2, all other versions rest over it, and the desk followed
+    -- the call goes on: version v stands over the new journal, all other versions rest over it, and the desk followed
     pub goes_on : (m : Meaning K V) (R R2 : List (Told K V)) (W W2 : List K) (d e : Desk K) (owed owed2 : ℕ) → Stand eq m R v W w d owed → IsLawfulBack eq m R2 → VersionStands eq m R2 v W2 u us
         → ((n : ℕ) → eqb n v ≡ false → IsAtRest eq m R n (w.asked n) (w.tasks n) → IsAtRest eq m R2 n (w.asked n) (w.tasks n)) → DeskTurns v k (w.tasks v k) o d e → 2 * e.live + owed2 ≤ e.spare
         → Stand eq m R2 v W2 (with_version v u us w) e owed2
