@@ -1,0 +1,33 @@
+-- What one step does to the tasks and the asks of a version.
+use Rattle.std.specs.Prelude.{◌≡◌, ◌⊎◌, ℕ, Bool, true, false, cond, not, ◌&&◌, ◌||◌, List, Option, Some, None}
+use Rattle.dice_model.specs.Log.{Has}
+use Rattle.task_share.specs.Asked.{By, Promised, Tasked, Asked, is_by}
+use Rattle.core_laws.specs.Tasks.{Task}
+
+module _ {K V : Type 0} (eq : K → K → Bool) where
+  -- the task of k is this, or none; all other tasks stay
+  abbrev pub Puts : K → Option (Task K V) → (K → Option (Task K V)) → (K → Option (Task K V)) → Type 0
+  Puts k o ts us = (q : K) → us q ≡ cond (eq k q) o (ts q)
+
+module _ {K : Type 0} (eq : K → K → Bool) where
+  -- the same asks
+  abbrev pub SameAsks : Asked K → Asked K → Type 0
+  SameAsks s u = (q : K) (a : By K) → u.asks q a ≡ s.asks q a
+
+  -- one asker more
+  abbrev pub Joins : K → By K → Asked K → Asked K → Type 0
+  Joins k b s u = (q : K) (a : By K) → u.asks q a ≡ (s.asks q a || (eq k q && is_by eq b a))
+
+  -- one asker fewer
+  abbrev pub Leaves : K → By K → Asked K → Asked K → Type 0
+  Leaves k b s u = (q : K) (a : By K) → u.asks q a ≡ (s.asks q a && not (eq k q && is_by eq b a))
+
+  -- the asks of the task of k are withdrawn
+  abbrev pub Withdraws : K → Asked K → Asked K → Type 0
+  Withdraws k s u = (q : K) (a : By K) → u.asks q a ≡ (s.asks q a && not (is_by eq (Tasked k) a))
+
+  -- the task of k asks for these keys, beside what it asks for already
+  pub record Parks (k : K) (ds : List K) (s u : Asked K) : Type 0 where
+    pub kept : (q : K) (a : By K) → s.asks q a ≡ true → u.asks q a ≡ true
+    pub asked : (d : K) → Has ds d → u.asks d (Tasked k) ≡ true
+    pub only : (q : K) (a : By K) → u.asks q a ≡ true → (s.asks q a ≡ true) ⊎ (Has ds q × (a ≡ Tasked k))

@@ -1,0 +1,3 @@
+pub mod Tasks
+pub mod Stands
+pub mod Changes

@@ -1,0 +1,5 @@
+pub mod PlaceLemmas
+pub mod TurnLemmas
+pub mod IdleLemmas
+pub mod TableLemmas
+pub mod CascadeLemmas

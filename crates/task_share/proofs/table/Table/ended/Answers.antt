@@ -1,0 +1,36 @@
+use Rattle.std.proofs.Common.{◌≡◌, ◌≤◌, ◌<◌, ◌⊎◌, ◌∙◌, sym, ap, subst, refl, ℕ, Some, None, true, false, not, cond, ◌&&◌, ◌||◌, map, Option, List}
+use Rattle.std.specs.Prelude.{IfSome, IfNone}
+use Rattle.std.specs.Arc.{arc_value}
+use Rattle.std.specs.List.{list_any}
+use Rattle.std.specs.Map.{lookup}
+use Rattle.std.specs.Option.{option_copied, option_map}
+use Rattle.std.specs.Vec.{vec_capacity}
+use Rattle.task_share.specs.Asked.{By, Promised, Tasked, is_by, IsDone, Takes}
+use Rattle.task_share.specs.Seen.{Share, is_for, list_for, has_by, has_live, task_at, is_live, asks, waits_at, asked_of, has_place, promise_room, asker_room, wait_room, KeepsTasks, KeepsAsks, KeepsRoom, KeepsOtherRoom, UsesRoomOf}
+use Rattle.task_share.specs.Listed.{share_of, shares_of, IsListed, IsMirrored, IsWhole, IsKept, IsChanged, Turns, UsesRoom, Left, Joined, Stays}
+use Rattle.task_share.proofs.PlaceLemmas.{lookup_shares, list_any_values, if_ok}
+use Rattle.task_share.proofs.TurnLemmas.{stays_kept, kept_on, tasks_on, room_on}
+use Rattle.task_share.proofs.TableLemmas.{mirrored_same, put_tasks, put_live, put_asks, put_mirrored, put_room, promise_left_asks, promise_left_tasks, promise_left_mirrored, promise_left_room, task_left_asks, task_left_tasks, task_left_mirrored, task_left_room, promise_joined_asks, promise_joined_tasks, promise_joined_mirrored, promise_joined_room, wait_space, task_joined_asks, task_joined_tasks, task_joined_mirrored, task_joined_room, ended_asks, ended_tasks, ended_live, ended_mirrored, ended_room, popped_asks, popped_live, popped_takes, popped_task, popped_tasks, popped_mirrored, popped_room, done_from}
+use Rattle.task_share.proofs.table.Table.ended.Goals as goal
+
+pub withdraw-requires-clause-listed : goal.withdraw-requires-clause-listed
+withdraw-requires-clause-listed g c = c.end_task-waits.ensures.listed _ _ c.self.invariant.1.listed
+
+pub invariant_of-self : goal.invariant_of-self
+invariant_of-self g c = (c.self.invariant.0, record { listed = c.withdraw.ensures.listed; mirrored = ended_mirrored g.K.PartialEq.eq c.self.invariant.0 (shares_of c.self.inside.places.entries) (shares_of c.end_task-waits.new.places.entries) (shares_of c.withdraw.new.places.entries) (arc_value c.args.key.now) (map arc_value c.end_task-waits.result.keys) c.end_task-waits.ensures.changed c.end_task-waits.ensures.waits c.withdraw.ensures.withdrawn c.self.invariant.1.mirrored })
+
+pub returns-clause-tasks : goal.returns-clause-tasks
+returns-clause-tasks g c = subst (λ (ps : List (g.row.K.Denot × Share g.row.K.Denot g.row.T.Denot)). (q : g.row.K.Denot) → task_at g.K.PartialEq.eq (shares_of c.withdraw.new.places.entries) q ≡ task_at g.K.PartialEq.eq ps q) c.self.view_is
+    (ended_tasks g.K.PartialEq.eq c.self.invariant.0 (shares_of c.self.inside.places.entries) (shares_of c.end_task-waits.new.places.entries) (shares_of c.withdraw.new.places.entries) (arc_value c.args.key.now) (map arc_value c.end_task-waits.result.keys) c.end_task-waits.ensures.changed c.end_task-waits.ensures.waits c.withdraw.ensures.withdrawn c.self.invariant.1.mirrored)
+
+pub returns-clause-live : goal.returns-clause-live
+returns-clause-live g c = subst (λ (ps : List (g.row.K.Denot × Share g.row.K.Denot g.row.T.Denot)). (q : g.row.K.Denot) → is_live g.K.PartialEq.eq (shares_of c.withdraw.new.places.entries) q ≡ (is_live g.K.PartialEq.eq ps q && not (g.K.PartialEq.eq (arc_value c.args.key.now) q))) c.self.view_is
+    (ended_live g.K.PartialEq.eq c.self.invariant.0 (shares_of c.self.inside.places.entries) (shares_of c.end_task-waits.new.places.entries) (shares_of c.withdraw.new.places.entries) (arc_value c.args.key.now) (map arc_value c.end_task-waits.result.keys) c.end_task-waits.ensures.changed c.end_task-waits.ensures.waits c.withdraw.ensures.withdrawn c.self.invariant.1.mirrored)
+
+pub returns-clause-asks : goal.returns-clause-asks
+returns-clause-asks g c = subst (λ (ps : List (g.row.K.Denot × Share g.row.K.Denot g.row.T.Denot)). (q : g.row.K.Denot) (a : By g.row.K.Denot) → asks g.K.PartialEq.eq (shares_of c.withdraw.new.places.entries) q a ≡ (asks g.K.PartialEq.eq ps q a && not (is_by g.K.PartialEq.eq (Tasked (arc_value c.args.key.now)) a))) c.self.view_is
+    (ended_asks g.K.PartialEq.eq c.self.invariant.0 (shares_of c.self.inside.places.entries) (shares_of c.end_task-waits.new.places.entries) (shares_of c.withdraw.new.places.entries) (arc_value c.args.key.now) (map arc_value c.end_task-waits.result.keys) c.end_task-waits.ensures.changed c.end_task-waits.ensures.waits c.withdraw.ensures.withdrawn c.self.invariant.1.mirrored)
+
+pub returns-clause-room : goal.returns-clause-room
+returns-clause-room g c = subst (λ (ps : List (g.row.K.Denot × Share g.row.K.Denot g.row.T.Denot)). KeepsOtherRoom g.K.PartialEq.eq (arc_value c.args.key.now) ps (shares_of c.withdraw.new.places.entries)) c.self.view_is
+    (ended_room g.K.PartialEq.eq c.self.invariant.0 (shares_of c.self.inside.places.entries) (shares_of c.end_task-waits.new.places.entries) (shares_of c.withdraw.new.places.entries) (arc_value c.args.key.now) (map arc_value c.end_task-waits.result.keys) c.end_task-waits.ensures.changed c.end_task-waits.ensures.waits c.withdraw.ensures.withdrawn c.self.invariant.1.mirrored)

@@ -1,0 +1,109 @@
+-- A table as its users see it: a list of keys with what is kept at each, read by key.
+use Rattle.std.specs.Prelude.{◌≡◌, ◌≤◌, ◌+◌, ℕ, Bool, true, false, not, ◌&&◌, nat_eq, List, [], Option, Some, None, option_and_then, is_some}
+use Rattle.std.specs.Map.{lookup}
+use Rattle.std.specs.List.{list_any}
+use Rattle.task_share.specs.Asked.{By, Promised, Tasked, Asked}
+
+-- what is kept at a key: its task, if there is one, and whether it is there and has not ended; the promises and the tasks that ask for the key, the
+-- keys that its task waits for, and how many more of each there is room for; the key itself, where it is not among the candidates
+pub record Share (K T : Type 0) : Type 0 where
+  pub task : Option T
+  pub live : Bool
+  pub promises : List ℕ
+  pub askers : List K
+  pub waits : List K
+  pub promise_room : ℕ
+  pub asker_room : ℕ
+  pub wait_room : ℕ
+  pub name : Option K
+
+-- what a test says of a thing that may not be there
+abbrev pub is_for : {X : Type 0} → (X → Bool) → Option X → Bool
+is_for f None = false
+is_for f (Some x) = f x
+
+abbrev pub list_for : {X Y : Type 0} → (X → List Y) → Option X → List Y
+list_for f None = []
+list_for f (Some x) = f x
+
+abbrev pub number_for : {X : Type 0} → (X → ℕ) → Option X → ℕ
+number_for f None = 0
+number_for f (Some x) = f x
+
+-- there is a task, and it has not ended
+abbrev pub has_live : {K T : Type 0} → Share K T → Bool
+has_live p = p.live
+
+-- whether this asker is among those of the key
+abbrev pub has_by : {K T : Type 0} → (K → K → Bool) → Share K T → By K → Bool
+has_by eq p (Promised n) = list_any (nat_eq n) p.promises
+has_by eq p (Tasked j) = list_any (eq j) p.askers
+
+module _ {K T : Type 0} (eq : K → K → Bool) where
+  -- the task of a key, ended or not
+  abbrev pub task_at : List (K × Share K T) → K → Option T
+  task_at ps k = option_and_then (λ p. p.task) (lookup (eq k) ps)
+
+  -- the key has a task that has not ended
+  abbrev pub is_live : List (K × Share K T) → K → Bool
+  is_live ps k = is_for has_live (lookup (eq k) ps)
+
+  -- the asker asks for the key
+  abbrev pub asks : List (K × Share K T) → K → By K → Bool
+  asks ps k a = is_for (λ p. has_by eq p a) (lookup (eq k) ps)
+
+  -- the keys that the task of a key waits for
+  abbrev pub waits_at : List (K × Share K T) → K → List K
+  waits_at ps k = list_for (λ p. p.waits) (lookup (eq k) ps)
+
+  -- the waits of tasks are just their asks
+  abbrev pub IsMirrored : List (K × Share K T) → Type 0
+  IsMirrored ps = (d k : K) → asks ps d (Tasked k) ≡ list_any (eq d) (waits_at ps k)
+
+  -- which keys have a task that has not ended, and who asks for which key
+  abbrev pub asked_of : List (K × Share K T) → Asked K
+  asked_of ps = record { live = is_live ps; asks = asks ps }
+
+  -- there is a place for a task of the key
+  abbrev pub has_place : List (K × Share K T) → K → Bool
+  has_place ps k = is_some (lookup (eq k) ps)
+
+  -- how many more promises may ask for the key without memory, how many more tasks, and how many more keys its task may wait for
+  abbrev pub promise_room : List (K × Share K T) → K → ℕ
+  promise_room ps k = number_for (λ p. p.promise_room) (lookup (eq k) ps)
+
+  abbrev pub asker_room : List (K × Share K T) → K → ℕ
+  asker_room ps k = number_for (λ p. p.asker_room) (lookup (eq k) ps)
+
+  abbrev pub wait_room : List (K × Share K T) → K → ℕ
+  wait_room ps k = number_for (λ p. p.wait_room) (lookup (eq k) ps)
+
+  -- the tasks, and which of them have ended, are as before
+  pub record KeepsTasks (ps qs : List (K × Share K T)) : Type 0 where
+    pub tasks : (q : K) → task_at qs q ≡ task_at ps q
+    pub live : (q : K) → is_live qs q ≡ is_live ps q
+
+  -- the askers are as before, and with them the waits
+  abbrev pub KeepsAsks : List (K × Share K T) → List (K × Share K T) → Type 0
+  KeepsAsks ps qs = (q : K) (a : By K) → asks qs q a ≡ asks ps q a
+
+  -- the room made ahead is still there
+  pub record KeepsRoom (ps qs : List (K × Share K T)) : Type 0 where
+    pub places : (q : K) → has_place ps q ≡ true → has_place qs q ≡ true
+    pub promises : (q : K) → promise_room ps q ≤ promise_room qs q
+    pub askers : (q : K) → asker_room ps q ≤ asker_room qs q
+    pub waits : (q : K) → wait_room ps q ≤ wait_room qs q
+
+  -- the room made ahead is still there, but for that of one key
+  pub record KeepsOtherRoom (k : K) (ps qs : List (K × Share K T)) : Type 0 where
+    pub places : (q : K) → eq k q ≡ false → has_place ps q ≡ true → has_place qs q ≡ true
+    pub promises : (q : K) → eq k q ≡ false → promise_room ps q ≤ promise_room qs q
+    pub askers : (q : K) → eq k q ≡ false → asker_room ps q ≤ asker_room qs q
+    pub waits : (q : K) → eq k q ≡ false → wait_room ps q ≤ wait_room qs q
+
+  -- of the room made ahead at most this was used: m q for promises, n q for asking tasks and l q for waits of each key q
+  pub record UsesRoomOf (m n l : K → ℕ) (ps qs : List (K × Share K T)) : Type 0 where
+    pub places : (q : K) → has_place ps q ≡ true → has_place qs q ≡ true
+    pub promises : (q : K) → promise_room ps q ≤ promise_room qs q + m q
+    pub askers : (q : K) → asker_room ps q ≤ asker_room qs q + n q
+    pub waits : (q : K) → wait_room ps q ≤ wait_room qs q + l q

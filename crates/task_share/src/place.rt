@@ -1,0 +1,71 @@
+//! What a table keeps at a key.
+ghost use Rattle.std.specs.Prelude.{◌≡◌, ◌<◌, ◌≤◌, ◌++◌, true, map, length, is_some, vec_capacity};
+ghost use Rattle.std.specs.Arc.{arc_value};
+ghost use Rattle.std.specs.Option.{option_to_list};
+ghost use Rattle.task_share.specs.Seen.{has_live};
+ghost use Rattle.task_share.specs.Listed.{share_of, settled, released, is_idle, IsVacant};
+
+use indexmap::IndexSet;
+use std::alloc::Global;
+use std::hash::Hash;
+use std::sync::Arc;
+
+/// The place of a key: its task, whether it has not ended, who asks for it, and what it waits for. A place may stand before its task does, as room.
+///
+/// The place holds its key until the key goes to the candidates, so that a key may become one without memory.
+#[derive(Drop)]
+pub struct Place<K: Eq + Hash + Drop, T: Drop> {
+    pub task: Option<T>,
+    pub live: bool,
+    pub promises: IndexSet<u64>,
+    pub askers: IndexSet<Arc<K>>,
+    pub waits: IndexSet<Arc<K>>,
+    pub name: Option<Arc<K>>,
+}
+
+/// Whether there is a task that has not ended.
+pub fn is_running<K: Eq + Hash + Drop, T: Drop>(place: &Place<K, T>) -> bool
+    ensures { result ≡ has_live (share_of place.now) }
+{
+    place.live
+}
+
+/// Whether there is a task that has not ended, and nobody asks for it.
+pub fn is_unasked<K: Eq + Hash + Drop, T: Drop>(place: &Place<K, T>) -> bool
+    ensures { result ≡ is_idle (share_of place.now) }
+{
+    is_running(place)
+        && place.promises.is_empty()
+        && place.askers.is_empty()
+}
+
+/// Where nobody asks for the task, its key goes to the candidates. It takes no memory.
+pub fn settle<K: Eq + Hash + Drop, T: Drop>(
+    place: &mut Place<K, T>,
+    candidates: &mut Vec<Arc<K>>,
+)
+    requires { is_some place.old.name ≡ true → length candidates.old.items < vec_capacity candidates.old }
+    ensures place { share_of place.new ≡ settled (share_of place.old) }
+    ensures candidates { map arc_value candidates.new.items ≡ map arc_value candidates.old.items ++ option_to_list (released (share_of place.old)) }
+    ensures room { vec_capacity candidates.new ≡ vec_capacity candidates.old }
+{
+    if is_unasked(place) {
+        if let Some(name) = place.name.take() {
+            candidates.push_reserved(name);
+        }
+    }
+}
+
+/// The place of a key that has no task yet.
+pub fn vacant<K: Eq + Hash + Drop, T: Drop>(alloc: Global, name: Arc<K>) -> Place<K, T>
+    ensures { IsVacant (arc_value name) (share_of result) }
+{
+    Place {
+        task: None,
+        live: false,
+        promises: IndexSet::new(alloc),
+        askers: IndexSet::new(alloc),
+        waits: IndexSet::new(alloc),
+        name: Some(name),
+    }
+}

@@ -1,0 +1,321 @@
+//! The table of tasks.
+ghost use Rattle.std.specs.Prelude.{◌≡◌, ◌<◌, ◌≤◌, ◌+◌, ◌⊎◌, ◌&&◌, ◌||◌, not, nat_eq, ℕ, [], true, false, Some, None, cond, map, if◌then◌else◌, IfSome, IfNone, OnOk, OnErr};
+ghost use Rattle.std.specs.Arc.{arc_value};
+ghost use Rattle.std.specs.List.{list_any};
+ghost use Rattle.std.specs.Option.{option_copied, option_copied_mut};
+ghost use Rattle.std.specs.Borrow.{sem};
+ghost use Rattle.dice_key.specs.Lawful.{IsEquality};
+ghost use Rattle.task_share.specs.Asked.{By, Promised, Tasked, is_by, IsDone, Takes};
+ghost use Rattle.task_share.specs.Askers.{by_of};
+ghost use Rattle.task_share.specs.Lent.{LendsTask};
+ghost use Rattle.task_share.specs.Seen.{task_at, is_live, asks, waits_at, asked_of, IsMirrored, has_place, promise_room, asker_room, wait_room, KeepsTasks, KeepsAsks, KeepsRoom, KeepsOtherRoom, UsesRoomOf};
+
+use crate::asker::{Asker, Wait};
+use crate::idle::{pop_idle, withdraw};
+use crate::place::{Place, is_running};
+use crate::places::{add_asker, add_promise, add_wait, drop_wait, end_task, leave_promise, leave_task, pop_asker, put_task};
+use crate::room;
+use dice_key::NoMemory;
+use std::alloc::Global;
+use std::collections::HashMap;
+use std::hash::Hash;
+use std::marker::Model;
+use std::sync::Arc;
+
+/// The tasks of one epoch, each shared by all who ask for it.
+///
+/// A key may have a task, which has ended or not, and askers: promises and other tasks. A task waits for the keys that it asks
+/// for. Askers are a set: who joins twice has joined once.
+#[derive(Drop)]
+pub struct Table<K: Eq + Hash + Drop, T: Drop> {
+    places: HashMap<Arc<K>, Place<K, T>>,
+    candidates: Vec<Arc<K>>,
+    alloc: Global,
+}
+
+impl<K: Eq + Hash + Drop, T: Drop> Model for Table<K, T> {
+    ghost use Rattle.std.specs.Prelude.{List, map, vec_capacity};
+    ghost use Rattle.std.specs.Arc.{arc_value};
+    ghost use Rattle.dice_key.specs.Lawful.{IsEquality};
+    ghost use Rattle.task_share.specs.Seen.{Share};
+    ghost use Rattle.task_share.specs.Listed.{shares_of, IsWhole};
+
+    ghost Value = { List (K × Share K T) };
+
+    ghost view = { λ a. shares_of a.places.entries };
+
+    ghost invariant = { λ a. IsEquality K.eq × IsWhole K.eq (shares_of a.places.entries) (map arc_value a.candidates.items) (vec_capacity a.candidates) };
+}
+
+impl<K: Eq + Hash + Drop, T: Drop> Table<K, T> {
+    /// A table without tasks. It takes no memory. Keys that are equal have to be the same.
+    pub fn new(alloc: Global) -> Table<K, T>
+        requires { IsEquality K.eq }
+        ensures { result ≡ [] }
+    {
+        Table {
+            places: HashMap::new(alloc),
+            candidates: Vec::new(alloc),
+            alloc,
+        }
+    }
+
+    /// Makes room for a task of the key, so that `make_reserved` may follow. Nothing else changes.
+    pub fn reserve(&mut self, key: &Arc<K>) -> Result<(), NoMemory>
+        ensures tasks { KeepsTasks K.eq self.old self.new }
+        ensures asks { KeepsAsks K.eq self.old self.new }
+        ensures room { KeepsRoom K.eq self.old self.new }
+        ensures ok { OnOk result (has_place K.eq self.new (arc_value key.now) ≡ true) }
+    {
+        room::reserve_place(&mut self.places, &mut self.candidates, self.alloc, key)
+    }
+
+    /// Puts a task, which has not ended, to a key with room for it that has none or an ended one. The askers stay. It takes no memory.
+    pub fn make_reserved(&mut self, key: &Arc<K>, task: T)
+        requires room { has_place K.eq self.old (arc_value key.now) ≡ true }
+        requires free { is_live K.eq self.old (arc_value key.now) ≡ false }
+        ensures tasks { (q : K) → task_at K.eq self.new q ≡ (if K.eq (arc_value key.now) q then Some task else task_at K.eq self.old q) }
+        ensures live { (q : K) → is_live K.eq self.new q ≡ (K.eq (arc_value key.now) q || is_live K.eq self.old q) }
+        ensures asks { KeepsAsks K.eq self.old self.new }
+        ensures room { KeepsRoom K.eq self.old self.new }
+    {
+        put_task(&mut self.places, &mut self.candidates, key, task);
+    }
+
+    /// Puts a task, which has not ended, to a key that has none or an ended one. The askers stay.
+    ///
+    /// At an error all is as before, but for room, and the task is dropped.
+    pub fn make(&mut self, key: &Arc<K>, task: T) -> Result<(), NoMemory>
+        requires { is_live K.eq self.old (arc_value key.now) ≡ false }
+        ensures tasks { OnOk result ((q : K) → task_at K.eq self.new q ≡ (if K.eq (arc_value key.now) q then Some task else task_at K.eq self.old q)) }
+        ensures live { OnOk result ((q : K) → is_live K.eq self.new q ≡ (K.eq (arc_value key.now) q || is_live K.eq self.old q)) }
+        ensures asks { KeepsAsks K.eq self.old self.new }
+        ensures room { KeepsRoom K.eq self.old self.new }
+        ensures err { OnErr result (KeepsTasks K.eq self.old self.new) }
+    {
+        self.reserve(key)?;
+        self.make_reserved(key, task);
+        Ok(())
+    }
+
+    /// Makes room for one more promise of the key. Nothing else changes.
+    pub fn reserve_promise(&mut self, key: &Arc<K>) -> Result<(), NoMemory>
+        ensures tasks { KeepsTasks K.eq self.old self.new }
+        ensures asks { KeepsAsks K.eq self.old self.new }
+        ensures room { KeepsRoom K.eq self.old self.new }
+        ensures ok { OnOk result (0 < promise_room K.eq self.new (arc_value key.now)) }
+    {
+        self.reserve(key)?;
+        room::reserve_promise(&mut self.places, key)
+    }
+
+    /// Makes room for one more asking task of the key. Nothing else changes.
+    pub fn reserve_asker(&mut self, key: &Arc<K>) -> Result<(), NoMemory>
+        ensures tasks { KeepsTasks K.eq self.old self.new }
+        ensures asks { KeepsAsks K.eq self.old self.new }
+        ensures room { KeepsRoom K.eq self.old self.new }
+        ensures ok { OnOk result (0 < asker_room K.eq self.new (arc_value key.now)) }
+    {
+        self.reserve(key)?;
+        room::reserve_asker(&mut self.places, key)
+    }
+
+    /// Makes room for the task of the key to wait for this many more keys. Nothing else changes.
+    pub fn reserve_waits(&mut self, key: &Arc<K>, additional: usize) -> Result<(), NoMemory>
+        ensures tasks { KeepsTasks K.eq self.old self.new }
+        ensures asks { KeepsAsks K.eq self.old self.new }
+        ensures room { KeepsRoom K.eq self.old self.new }
+        ensures ok { OnOk result (additional ≤ wait_room K.eq self.new (arc_value key.now)) }
+    {
+        self.reserve(key)?;
+        room::reserve_waits(&mut self.places, key, additional)
+    }
+
+    /// Adds a promise to the askers of a key, in room made ahead. It takes no memory.
+    pub fn add_promise(&mut self, key: &Arc<K>, number: u64)
+        requires { (asks K.eq self.old (arc_value key.now) (Promised number) ≡ true) ⊎ (0 < promise_room K.eq self.old (arc_value key.now)) }
+        ensures tasks { KeepsTasks K.eq self.old self.new }
+        ensures asks { (q : K) (a : By K) → asks K.eq self.new q a ≡ (asks K.eq self.old q a || (K.eq (arc_value key.now) q && is_by K.eq (Promised number) a)) }
+        ensures room { UsesRoomOf K.eq (λ q. if K.eq (arc_value key.now) q then 1 else 0) (λ q. 0) (λ q. 0) self.old self.new }
+    {
+        add_promise(&mut self.places, key, number);
+    }
+
+    /// Adds a task to the askers of the key that it waits for, in room made ahead. It takes no memory.
+    pub fn add_wait(&mut self, wait: Wait<K>)
+        requires asker { (asks K.eq self.old wait.key (Tasked wait.asker) ≡ true) ⊎ (0 < asker_room K.eq self.old wait.key) }
+        requires wait { (asks K.eq self.old wait.key (Tasked wait.asker) ≡ true) ⊎ (0 < wait_room K.eq self.old wait.asker) }
+        ensures tasks { KeepsTasks K.eq self.old self.new }
+        ensures asks { (q : K) (a : By K) → asks K.eq self.new q a ≡ (asks K.eq self.old q a || (K.eq wait.key q && is_by K.eq (Tasked wait.asker) a)) }
+        ensures room { UsesRoomOf K.eq (λ q. 0) (λ q. if K.eq wait.key q then 1 else 0) (λ q. if K.eq wait.asker q then 1 else 0) self.old self.new }
+    {
+        let (key, asker, kept_asker) = wait.into_parts();
+        add_asker(&mut self.places, &key, kept_asker);
+        add_wait(&mut self.places, &asker, key);
+    }
+
+    /// Adds an asker to a key. At an error all is as before, but for room.
+    pub fn join(&mut self, key: &Arc<K>, asker: Asker<K>) -> Result<(), NoMemory>
+        ensures tasks { KeepsTasks K.eq self.old self.new }
+        ensures asks { OnOk result ((q : K) (a : By K) → asks K.eq self.new q a ≡ (asks K.eq self.old q a || (K.eq (arc_value key.now) q && is_by K.eq (by_of asker) a))) }
+        ensures err { OnErr result (KeepsAsks K.eq self.old self.new) }
+    {
+        match asker {
+            Asker::Promise(number) => self.join_promise(key, number),
+            Asker::Task(asker) => self.join_task(key, &asker),
+        }
+    }
+
+    fn join_promise(&mut self, key: &Arc<K>, number: u64) -> Result<(), NoMemory>
+        ensures tasks { KeepsTasks K.eq self.old self.new }
+        ensures asks { OnOk result ((q : K) (a : By K) → asks K.eq self.new q a ≡ (asks K.eq self.old q a || (K.eq (arc_value key.now) q && is_by K.eq (Promised number) a))) }
+        ensures err { OnErr result (KeepsAsks K.eq self.old self.new) }
+    {
+        self.reserve_promise(key)?;
+        self.add_promise(key, number);
+        Ok(())
+    }
+
+    fn join_task(&mut self, key: &Arc<K>, asker: &Arc<K>) -> Result<(), NoMemory>
+        ensures tasks { KeepsTasks K.eq self.old self.new }
+        ensures asks { OnOk result ((q : K) (a : By K) → asks K.eq self.new q a ≡ (asks K.eq self.old q a || (K.eq (arc_value key.now) q && is_by K.eq (Tasked (arc_value asker.now)) a))) }
+        ensures err { OnErr result (KeepsAsks K.eq self.old self.new) }
+    {
+        let wait = Wait::new(key, asker)?;
+        self.reserve_asker(key)?;
+        self.reserve_waits(asker, 1)?;
+        self.add_wait(wait);
+        Ok(())
+    }
+
+    /// Takes an asker away from a key. It takes no memory.
+    pub fn leave(&mut self, key: &Arc<K>, asker: &Asker<K>)
+        ensures tasks { KeepsTasks K.eq self.old self.new }
+        ensures asks { (q : K) (a : By K) → asks K.eq self.new q a ≡ (asks K.eq self.old q a && not (K.eq (arc_value key.now) q && is_by K.eq (by_of asker.now) a)) }
+        ensures room { KeepsRoom K.eq self.old self.new }
+    {
+        match asker {
+            Asker::Promise(number) => self.leave_by_promise(key, *number),
+            Asker::Task(asker) => self.leave_by_task(key, asker),
+        }
+    }
+
+    fn leave_by_promise(&mut self, key: &Arc<K>, number: u64)
+        ensures tasks { KeepsTasks K.eq self.old self.new }
+        ensures asks { (q : K) (a : By K) → asks K.eq self.new q a ≡ (asks K.eq self.old q a && not (K.eq (arc_value key.now) q && is_by K.eq (Promised number) a)) }
+        ensures room { KeepsRoom K.eq self.old self.new }
+    {
+        leave_promise(&mut self.places, &mut self.candidates, key, number);
+    }
+
+    fn leave_by_task(&mut self, key: &Arc<K>, asker: &Arc<K>)
+        ensures tasks { KeepsTasks K.eq self.old self.new }
+        ensures asks { (q : K) (a : By K) → asks K.eq self.new q a ≡ (asks K.eq self.old q a && not (K.eq (arc_value key.now) q && is_by K.eq (Tasked (arc_value asker.now)) a)) }
+        ensures room { KeepsRoom K.eq self.old self.new }
+    {
+        leave_task(&mut self.places, &mut self.candidates, key, asker);
+        drop_wait(&mut self.places, asker, key);
+    }
+
+    /// Takes one asking task away from a key, and gives its key; `None` exactly where no task asks for the key. It takes no memory.
+    pub fn take_asker(&mut self, key: &Arc<K>) -> Option<Arc<K>>
+        ensures tasks { KeepsTasks K.eq self.old self.new }
+        ensures asked { IfSome result (λ j. asks K.eq self.old (arc_value key.now) (Tasked (arc_value j)) ≡ true) }
+        ensures asks { IfSome result (λ j. (q : K) (a : By K) → asks K.eq self.new q a ≡ (asks K.eq self.old q a && not (K.eq (arc_value key.now) q && is_by K.eq (Tasked (arc_value j)) a))) }
+        ensures none { IfNone result (((j : K) → asks K.eq self.old (arc_value key.now) (Tasked j) ≡ false) × KeepsAsks K.eq self.old self.new) }
+        ensures room { KeepsRoom K.eq self.old self.new }
+    {
+        let Some(asker) = pop_asker(&mut self.places, &mut self.candidates, key) else {
+            return None;
+        };
+        drop_wait(&mut self.places, &asker, key);
+        Some(asker)
+    }
+
+    /// Notes that the task of the key has ended, and withdraws its own asks. It takes no memory.
+    pub fn ended(&mut self, key: &Arc<K>)
+        ensures tasks { (q : K) → task_at K.eq self.new q ≡ task_at K.eq self.old q }
+        ensures live { (q : K) → is_live K.eq self.new q ≡ (is_live K.eq self.old q && not (K.eq (arc_value key.now) q)) }
+        ensures asks { (q : K) (a : By K) → asks K.eq self.new q a ≡ (asks K.eq self.old q a && not (is_by K.eq (Tasked (arc_value key.now)) a)) }
+        ensures room { KeepsOtherRoom K.eq (arc_value key.now) self.old self.new }
+    {
+        let waits = end_task(&mut self.places, self.alloc, key);
+        withdraw(&mut self.places, &mut self.candidates, key, waits);
+    }
+
+    /// Takes one task out that has not ended and has no asker, and withdraws its own asks; `None` exactly where there is no such
+    /// task. Called until `None` it is the cascade (`drops_unheld`). It takes no memory.
+    ///
+    /// Each call takes a candidate, and those are only what lost its last asker or was made without one.
+    pub fn next_unasked(&mut self) -> Option<(Arc<K>, T)>
+        ensures some { IfSome result (λ r. Takes K.eq (asked_of K.eq self.old) (arc_value r.0) (asked_of K.eq self.new)) }
+        ensures task { IfSome result (λ r. task_at K.eq self.old (arc_value r.0) ≡ Some r.1) }
+        ensures tasks { IfSome result (λ r. (q : K) → task_at K.eq self.new q ≡ (if K.eq (arc_value r.0) q then None else task_at K.eq self.old q)) }
+        ensures room { IfSome result (λ r. KeepsOtherRoom K.eq (arc_value r.0) self.old self.new) }
+        ensures none { IfNone result (IsDone (asked_of K.eq self.old) × KeepsTasks K.eq self.old self.new × KeepsAsks K.eq self.old self.new × KeepsRoom K.eq self.old self.new) }
+    {
+        let Some((key, task, waits)) = pop_idle(&mut self.places, &mut self.candidates) else {
+            return None;
+        };
+        withdraw(&mut self.places, &mut self.candidates, &key, waits);
+        Some((key, task))
+    }
+
+    /// The task of the key, ended or not.
+    pub fn task(&self, key: &Arc<K>) -> Option<&T>
+        ensures { option_copied result ≡ task_at K.eq self.now (arc_value key.now) }
+    {
+        let place = self.places.get(key)?;
+        place.task.as_ref()
+    }
+
+    /// The task of the key, ended or not, to be changed. What is written changes this task alone.
+    pub fn task_mut(&mut self, key: &Arc<K>) -> Option<&mut T>
+        ensures* writes_back { sem 𝓛 (LendsTask K.row T.row K.eq K.hash_input self.entry (arc_value key.now) result) }
+        ensures value { option_copied_mut result ≡ task_at K.eq self.old (arc_value key.now) }
+    {
+        let place = self.places.get_mut(key)?;
+        place.task.as_mut()
+    }
+
+    /// Whether the key has a task that has not ended.
+    pub fn is_live(&self, key: &Arc<K>) -> bool
+        ensures { result ≡ is_live K.eq self.now (arc_value key.now) }
+    {
+        match self.places.get(key) {
+            Some(place) => is_running(place),
+            None => false,
+        }
+    }
+
+    /// The promises that ask for the key, each once, in no order.
+    pub fn promises(&self, key: &Arc<K>) -> &[u64]
+        ensures { (n : ℕ) → list_any (nat_eq n) result.now ≡ asks K.eq self.now (arc_value key.now) (Promised n) }
+    {
+        match self.places.get(key) {
+            Some(place) => place.promises.as_slice(),
+            None => &[],
+        }
+    }
+
+    /// The tasks that ask for the key, each once, in no order.
+    pub fn askers(&self, key: &Arc<K>) -> &[Arc<K>]
+        ensures { (j : K) → list_any (K.eq j) (map arc_value result.now) ≡ asks K.eq self.now (arc_value key.now) (Tasked j) }
+    {
+        match self.places.get(key) {
+            Some(place) => place.askers.as_slice(),
+            None => &[],
+        }
+    }
+
+    /// The keys that the task of the key waits for, each once, in no order. They are those that it asks for.
+    pub fn waits(&self, key: &Arc<K>) -> &[Arc<K>]
+        ensures keys { map arc_value result.now ≡ waits_at K.eq self.now (arc_value key.now) }
+        ensures asked { IsMirrored K.eq self.now }
+    {
+        match self.places.get(key) {
+            Some(place) => place.waits.as_slice(),
+            None => &[],
+        }
+    }
+}
