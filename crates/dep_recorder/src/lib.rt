@@ -2,6 +2,7 @@
 #![tactic(auto)]
 
 mod check;
+mod extended;
 mod laws;
 mod recorder;
 mod same;

@@ -13,8 +13,8 @@ use std::sync::Arc;
 /// The pairs of all batches lie in one vector.
 #[derive(Drop)]
 pub struct Trace<U: Universe> {
-    pairs: Vec<(Arc<U::Key>, Arc<U::Value>)>,
-    ends: Vec<usize>,
+    pub(crate) pairs: Vec<(Arc<U::Key>, Arc<U::Value>)>,
+    pub(crate) ends: Vec<usize>,
 }
 
 impl<U: Universe> Model for Trace<U> {
@@ -128,7 +128,7 @@ fn extend<K: Drop, V: Drop>(
 }
 
 /// Adds a pair. At an error the pairs are as before.
-fn push_pair<K: Drop, V: Drop>(
+pub(crate) fn push_pair<K: Drop, V: Drop>(
     pairs: &mut Vec<(Arc<K>, Arc<V>)>,
     key: &Arc<K>,
     value: &Arc<V>,

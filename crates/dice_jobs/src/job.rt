@@ -1,0 +1,173 @@
+//! Jobs.
+ghost use Rattle.std.specs.Prelude.{◌≡◌, ◌≢◌, [], length, IfOk, IfErr, Some};
+ghost use Rattle.dice_key.specs.declared.universe.Kind.TheVariants.{Injected};
+ghost use Rattle.dice_key.specs.Meaning.{Takes, next_of, resumed};
+ghost use Rattle.dice_key.specs.Lawful.{IsStep};
+ghost use Rattle.dice_jobs.specs.Jobs.{Computes, IsStepOf};
+ghost use Rattle.dice_jobs.specs.Shapes.{work_of};
+ghost use Rattle.dice_jobs.specs.Courses.{IsReady, IsEnding, RunEnds, CheckEnds};
+
+use crate::assignment::{Assignment, Earlier};
+use crate::name::JobName;
+use crate::parked::Course;
+use crate::step::{Ending, Step};
+use dep_recorder::{Check, Next, copied_keys};
+use dice_key::{Answers, Batch, Move, NoMemory, Universe, laws_of};
+use std::alloc::Global;
+use std::marker::Model;
+use std::sync::Arc;
+
+/// How a job goes on.
+#[derive(Drop)]
+pub(crate) enum Ready<U: Universe> {
+    /// A run begins.
+    Begin,
+    /// The run goes on with the answers to the batch that it last asked.
+    Resume(U::Run, Answers<U::Value>),
+    /// The check begins.
+    Check(Check<U>),
+    /// The check goes on with the answers to the batch that it wanted.
+    Feed(Check<U>, Answers<U::Value>),
+}
+
+/// A piece of work for a key at a version that is done outside the core: one step of a run, or of a check of an earlier value.
+///
+/// It says what it is for; what comes of it is a function of that, and [`Job::advance`] finds it.
+#[derive(Drop)]
+pub struct Job<U: Universe> {
+    pub(crate) assignment: Assignment<U>,
+    pub(crate) ready: Ready<U>,
+}
+
+impl<U: Universe> Model for Job<U> {
+    ghost use Rattle.dice_jobs.specs.Jobs.{Assigned};
+
+    ghost Value = { Assigned U.Key U.Value };
+
+    ghost use Rattle.dice_jobs.specs.Courses.{IsReady};
+
+    ghost view = { λ j. j.assignment };
+
+    ghost invariant = { λ j. IsReady U.meaning U.Value.eq U.running j.assignment j.ready };
+}
+
+impl<U: Universe> Job<U> {
+    /// A run of a key that is not injected, which has asked nothing yet. It takes no memory.
+    pub fn begin(alloc: Global, name: JobName<U>) -> Job<U>
+        requires { U.meaning.kind name.key ≢ Injected }
+        ensures { result ≡ record { name = name; answered = []; work = Computes } }
+    {
+        Job {
+            assignment: Assignment::new(alloc, name, None),
+            ready: Ready::Begin,
+        }
+    }
+
+    /// A check of an earlier value, which was fed nothing yet.
+    pub fn check(alloc: Global, name: JobName<U>, earlier: Earlier<U>) -> Result<Job<U>, NoMemory>
+        ensures { IfOk result (λ j. j ≡ record { name = name; answered = []; work = work_of (Some earlier) }) }
+    {
+        let check = Check::new(Arc::try_clone(&earlier.trace)?);
+        Ok(Job {
+            assignment: Assignment::new(alloc, name, Some(earlier)),
+            ready: Ready::Check(check),
+        })
+    }
+
+    /// What the job is for.
+    pub fn assignment(&self) -> &Assignment<U>
+        ensures { result.now ≡ self.now }
+    {
+        &self.assignment
+    }
+
+    /// The name of the job.
+    pub fn name(&self) -> &JobName<U>
+        ensures { result.now ≡ self.now.name }
+    {
+        self.assignment.name()
+    }
+
+    /// Does the work, up to the next batch that is wanted or to the end. Where memory is refused the job is given up, and its name
+    /// is handed back.
+    ///
+    /// It costs what the universe's move costs, or, for a check, a comparison of each answer.
+    pub fn advance(self, universe: &U) -> Result<Step<U>, JobName<U>>
+        ensures step { IfOk result (λ s. IsStepOf U.meaning U.Value.eq s self) }
+        ensures refused { IfErr result (λ n. n ≡ self.name) }
+    {
+        let Job { assignment, ready } = self;
+        match ending_of(universe, &assignment, ready) {
+            Ok(ending) => Ok(Step { assignment, ending }),
+            Err(NoMemory) => Err(assignment.into_name()),
+        }
+    }
+}
+
+/// What comes of a job that goes on so.
+fn ending_of<U: Universe>(
+    universe: &U,
+    assignment: &Assignment<U>,
+    ready: Ready<U>,
+) -> Result<Ending<U>, NoMemory>
+    requires { IsReady U.meaning U.Value.eq U.running assignment.now ready }
+    ensures { IfOk result (λ e. IsEnding U.meaning U.Value.eq U.running assignment.now e) }
+{
+    match ready {
+        Ready::Begin => begun(universe, assignment.name()),
+        Ready::Resume(run, answers) => resumed(universe, run, &answers),
+        Ready::Check(check) => checked(assignment.alloc(), check),
+        Ready::Feed(mut check, answers) => {
+            check.feed(answers);
+            checked(assignment.alloc(), check)
+        }
+    }
+}
+
+/// The first move of a run.
+fn begun<U: Universe>(universe: &U, name: &JobName<U>) -> Result<Ending<U>, NoMemory>
+    requires { U.meaning.kind name.now.key ≢ Injected }
+    ensures { IfOk result (λ e. RunEnds U.meaning U.running (record { key = name.now.key; version = name.now.version; answered = [] }) e) }
+{
+    let (run, step) = universe.begin(name.key(), name.version())?;
+    Ok(moved(run, step))
+}
+
+/// The next move of a run.
+fn resumed<U: Universe>(
+    universe: &U,
+    run: U::Run,
+    answers: &Answers<U::Value>,
+) -> Result<Ending<U>, NoMemory>
+    requires { Takes (next_of U.meaning (U.running run)) (length answers.now) }
+    ensures { IfOk result (λ e. RunEnds U.meaning U.running (resumed U.meaning (U.running run) answers.now) e) }
+{
+    let mut run = run;
+    let step = universe.resume(&mut run, answers)?;
+    Ok(moved(run, step))
+}
+
+/// A run with its move.
+fn moved<U: Universe>(run: U::Run, step: Move<U::Key, U::Value>) -> Ending<U>
+    requires { IsStep step (next_of U.meaning (U.running run)) }
+    ensures { RunEnds U.meaning U.running (U.running run) result }
+{
+    match step {
+        Move::Ask(batch) => Ending::Asks(batch, Course::Run(run)),
+        Move::Done(value) => Ending::Done(value),
+    }
+}
+
+/// What a check finds.
+fn checked<U: Universe>(alloc: Global, check: Check<U>) -> Result<Ending<U>, NoMemory>
+    ensures { IfOk result (λ e. CheckEnds U.Value.eq check e) }
+{
+    match check.next() {
+        Next::Want(wanted) => {
+            let batch = copied_keys(alloc, wanted)?;
+            Ok(Ending::Asks(batch, Course::Check(check)))
+        }
+        Next::Same => Ok(Ending::Same),
+        Next::Differs { dep, .. } => Ok(Ending::Differs(Arc::try_clone(dep)?)),
+    }
+}

@@ -1,0 +1,14 @@
+//! The jobs of an engine's core: what is done for a key outside the core, one step at a time.
+#![tactic(auto)]
+
+mod assignment;
+mod job;
+mod name;
+mod parked;
+mod step;
+
+pub use assignment::{Assignment, Earlier};
+pub use job::Job;
+pub use name::JobName;
+pub use parked::Parked;
+pub use step::{Report, Step};

@@ -1,0 +1,98 @@
+//! What comes of a job.
+ghost use Rattle.std.specs.Prelude.{◌≡◌, IsTrue, ◌↔◌};
+ghost use Rattle.dice_jobs.specs.Jobs.{outcome_of, IsExplained, waiting_after};
+
+use crate::assignment::Assignment;
+use crate::parked::{Course, Parked};
+use dice_key::{Batch, KeyRef, Universe, ValueRef};
+use std::marker::Model;
+use std::sync::Arc;
+
+/// What came of a job.
+#[derive(Drop)]
+pub enum Report<'a, K, V> {
+    /// It wants the answers to these keys.
+    Asks(&'a Batch<K>),
+    /// Its key has come to this value; the batches that were answered are the trace.
+    Done(&'a Arc<V>),
+    /// The check found all answers as they were.
+    Same,
+    /// The check found that the answer to this key has changed; those to all keys before it in the trace are as they were.
+    Differs(&'a Arc<K>),
+}
+
+/// What came of a job, with what goes on after it.
+#[derive(Drop)]
+pub(crate) enum Ending<U: Universe> {
+    Asks(Batch<U::Key>, Course<U>),
+    Done(ValueRef<U>),
+    Same,
+    Differs(KeyRef<U>),
+}
+
+/// A job that was advanced by one step, with what came of it.
+#[derive(Drop)]
+pub struct Step<U: Universe> {
+    pub(crate) assignment: Assignment<U>,
+    pub(crate) ending: Ending<U>,
+}
+
+impl<U: Universe> Model for Step<U> {
+    ghost use Rattle.dice_jobs.specs.Jobs.{Stepped};
+
+    ghost Value = { Stepped U.Key U.Value };
+
+    ghost use Rattle.dice_jobs.specs.Courses.{ended, IsEnding};
+
+    ghost view = { λ s. record { job = s.assignment; outcome = ended s.ending } };
+
+    ghost invariant = { λ s. IsEnding U.meaning U.Value.eq U.running s.assignment s.ending };
+}
+
+impl<U: Universe> Step<U> {
+    ghost use Rattle.dice_jobs.specs.Courses.{reported};
+
+    /// What the job is for.
+    pub fn assignment(&self) -> &Assignment<U>
+        ensures { result.now ≡ self.now.job }
+    {
+        &self.assignment
+    }
+
+    /// Whether it is a step of this assignment: of its name, answered batches and work. It takes no memory; it costs a comparison for
+    /// each key and each value.
+    pub fn is_of(&self, assignment: &Assignment<U>) -> bool
+        ensures { IsTrue result ↔ (self.now.job ≡ assignment.now) }
+    {
+        self.assignment.is_same(assignment)
+    }
+
+    /// What came of the job. It takes no memory.
+    pub fn report(&self) -> Report<'_, U::Key, U::Value>
+        ensures report { reported result ≡ self.now.outcome }
+        ensures outcome { self.now.outcome ≡ outcome_of U.meaning U.Value.eq self.now.job }
+        ensures explained { IsExplained self.now.job.work self.now.job.answered self.now.outcome }
+    {
+        match &self.ending {
+            Ending::Asks(batch, _) => Report::Asks(batch),
+            Ending::Done(value) => Report::Done(value),
+            Ending::Same => Report::Same,
+            Ending::Differs(dep) => Report::Differs(dep),
+        }
+    }
+
+    /// The job that waits, where it asks a batch; else `None`. It takes no memory.
+    pub fn into_parked(self) -> Option<Parked<U>>
+        ensures { result ≡ waiting_after self.job self.outcome }
+    {
+        let Step { assignment, ending } = self;
+        match ending {
+            Ending::Asks(batch, course) => Some(Parked {
+                assignment,
+                batch,
+                course,
+            }),
+            _ => None,
+        }
+    }
+}
