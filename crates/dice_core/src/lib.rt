@@ -1,0 +1,4 @@
+//! The core of an engine: one event machine without threads.
+#![tactic(auto)]
+
+mod task;
