@@ -69,6 +69,13 @@ module _ {K : Type 0} (eq : K → K → Bool) (equality : IsEquality eq) where
       by_test true e = inl (equality.same k q e)
       by_test false e = inr e
 
+  -- other keys are other both ways
+  pub other_way : (k q : K) → eq k q ≡ false → eq q k ≡ false
+  other_way k q n = elim (same_or_other q k) as (λ _. eq q k ≡ false) [
+    | inl i ↦ absurd (not_both (subst (λ y. eq y q ≡ true) i (equality.itself q)) n)
+    | inr o ↦ o
+  ]
+
   pub lives_here : (k : K) (b : Bool) (s u : Asked K) → Lives eq k b s u → u.live k ≡ b
   lives_here k b s u l = l k ∙ ap (λ c. cond c b (s.live k)) (equality.itself k)
 
