@@ -1,3 +1,4 @@
 pub mod Shapes
 pub mod Makes
 pub mod Stages
+pub mod Releases
