@@ -2,3 +2,4 @@ pub mod Shapes
 pub mod Makes
 pub mod Stages
 pub mod Releases
+pub mod Parks
