@@ -1,19 +1,19 @@
 -- A task is made: it computes, it has the value that was looked at, or it checks an earlier value.
-use Rattle.std.proofs.Common.{◌≡◌, ◌≢◌, ◌≤◌, ◌<◌, ◌⊎◌, inl, inr, ℕ, suc, Bool, true, false, not, ◌&&◌, ◌||◌, eqb, eq-eqb, List, [], ◌∷◌, length, Option, Some, None, refl, sym, ap, ◌∙◌, subst, cond, arith}
+use Rattle.std.proofs.Common.{◌≡◌, ◌≢◌, ◌≤◌, ◌⊎◌, inl, inr, ℕ, suc, Bool, true, false, ◌&&◌, ◌||◌, eqb, eq-eqb, List, [], ◌∷◌, length, Option, Some, None, refl, sym, ap, ◌∙◌, cond, arith}
 use Rattle.std.proofs.lemmas.Option.{none-some}
 use Rattle.dice_key.specs.Meaning.{Meaning, Answered}
 use Rattle.dice_key.specs.Lawful.{IsLawful, IsEquality}
 use Rattle.dice_key.specs.declared.universe.Kind.TheVariants.{Injected}
 use Rattle.dice_model.specs.Log.{Has}
 use Rattle.dice_model.specs.Asks.{Reaches}
-use Rattle.task_share.specs.Asked.{By, Promised, Tasked, Asked}
+use Rattle.task_share.specs.Asked.{Promised, Tasked, Asked}
 use Rattle.journal.specs.declared.event.Told.{Told}
 use Rattle.journal.specs.declared.event.Told.TheVariants.{Start, Keep}
 use Rattle.journal.specs.declared.event.Reason.{Reason}
-use Rattle.journal.specs.Events.{Decision, ByValue, ByCycle, names_by, commits_of, open_count, decided, asked_in_epoch, is_running, is_base}
+use Rattle.journal.specs.Events.{ByValue, names_by, commits_of, decided, asked_in_epoch, is_running, is_base}
 use Rattle.journal.specs.Law.{IsWanted, IsTrueCause, KeepsValue, IsAllowed}
-use Rattle.core_laws.specs.Tasks.{Standing, Works, Ended, WithValue, WithCycle, WithNothing, Work, Computes, Checks, IsReady, Phase, Task, goes_on, computes, value_in, is_going, is_computing, batch_of, value_of}
-use Rattle.core_laws.specs.Stands.{VersionStands, TaskStands, IsStanding, AtWork, WorkStands, WasSeen}
+use Rattle.core_laws.specs.Tasks.{Standing, Works, Ended, WithValue, WithCycle, WithNothing, Work, Computes, Checks, IsReady, Task, goes_on, value_in, is_going, is_computing, batch_of, value_of}
+use Rattle.core_laws.specs.Stands.{VersionStands, TaskStands, IsStanding, WorkStands, WasSeen}
 use Rattle.core_laws.specs.Changes.{Puts, SameAsks, Lives}
 use Rattle.core_laws.proofs.Shapes.{Shape, shape_of, other_way, asks_nothing, eased, put_each, put_fact, put_none, idle_batch, idle_computes, and_none, not_both}
 

@@ -1,6 +1,5 @@
 -- A task comes to wait for its next batch.
 use Rattle.std.proofs.Common.{◌≡◌, ◌≢◌, ◌⊎◌, inl, inr, ℕ, Bool, true, false, List, [], ◌∷◌, ◌++◌, Option, Some, None, refl, sym, ap, ◌∙◌, subst, append-nil, append_assoc}
-use Rattle.std.specs.List.{AllZip}
 use Rattle.std.proofs.lemmas.Option.{same_Some, none-some}
 use Rattle.dice_key.specs.Meaning.{Meaning, Answered, Asks}
 use Rattle.dice_key.specs.Lawful.{IsLawful, IsEquality}
@@ -9,7 +8,7 @@ use Rattle.dice_model.specs.Log.{Has}
 use Rattle.dice_model.specs.Eval.{HasValue}
 use Rattle.dice_model.specs.Asks.{AllTrue, Goes, AsksFor}
 use Rattle.dice_model.proofs.Alike.{goes_alike}
-use Rattle.task_share.specs.Asked.{By, Promised, Tasked, Asked, Leads, stays, asks_on, HasNoCircle}
+use Rattle.task_share.specs.Asked.{Promised, Tasked, Asked, Leads, stays, asks_on, HasNoCircle}
 use Rattle.journal.specs.declared.event.Told.{Told}
 use Rattle.journal.specs.Events.{Asking, commits_of, live_at, opened_at, is_running}
 use Rattle.journal.specs.Law.{AreValues}
@@ -122,13 +121,13 @@ module _ {K V : Type 0} (eq : K → K → Bool) (equality : IsEquality eq) (m : 
         ];
         batch = λ q l f d g. elim (same_or_other eq equality k q) as (λ _. (m.kind d ≡ Injected) ⊎ (u.asks d (Tasked q) ≡ true) ⊎ ((x : V) × (value_of (us d) ≡ Some x))) [
           | inl i ↦ (
-            let l_is : ks ≡ l = same_Some ks l (ap batch_of (sym here) ∙ subst (λ y. batch_of (us y) ≡ Some l) (sym i) f) in
-            elim (all d (subst (λ y. Has y d) (sym l_is) g)) as (λ _. (m.kind d ≡ Injected) ⊎ (u.asks d (Tasked q) ≡ true) ⊎ ((x : V) × (value_of (us d) ≡ Some x))) [
-              | inl j ↦ inl j
-              | inr (inl o) ↦ inr (inl (subst (λ y. u.asks d (Tasked y) ≡ true) i (parked.asked d o)))
-              | inr (inr x) ↦ inr (inr (x.0, value_stays d x.0 x.1))
-            ]
-          )
+              let l_is : ks ≡ l = same_Some ks l (ap batch_of (sym here) ∙ subst (λ y. batch_of (us y) ≡ Some l) (sym i) f) in
+              elim (all d (subst (λ y. Has y d) (sym l_is) g)) as (λ _. (m.kind d ≡ Injected) ⊎ (u.asks d (Tasked q) ≡ true) ⊎ ((x : V) × (value_of (us d) ≡ Some x))) [
+                | inl j ↦ inl j
+                | inr (inl o) ↦ inr (inl (subst (λ y. u.asks d (Tasked y) ≡ true) i (parked.asked d o)))
+                | inr (inr x) ↦ inr (inr (x.0, value_stays d x.0 x.1))
+              ]
+              )
           | inr n ↦ elim (h.batch q l (ap batch_of (sym (other q n)) ∙ f) d g) as (λ _. (m.kind d ≡ Injected) ⊎ (u.asks d (Tasked q) ≡ true) ⊎ ((x : V) × (value_of (us d) ≡ Some x))) [
             | inl j ↦ inl j
             | inr (inl o) ↦ inr (inl (parked.kept d (Tasked q) o))

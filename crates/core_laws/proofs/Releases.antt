@@ -1,5 +1,5 @@
 -- A task that has ended releases who asks for it.
-use Rattle.std.proofs.Common.{◌≡◌, ◌≢◌, ◌⊎◌, inl, inr, ℕ, Bool, true, false, not, ◌&&◌, List, [], ◌∷◌, ◌++◌, Option, Some, None, refl, sym, ap, ◌∙◌, subst}
+use Rattle.std.proofs.Common.{◌≡◌, ◌⊎◌, inl, inr, ℕ, Bool, true, false, not, ◌&&◌, List, [], ◌∷◌, ◌++◌, Option, Some, refl, sym, ap, ◌∙◌, subst}
 use Rattle.std.specs.List.{AllZip}
 use Rattle.dice_key.specs.Meaning.{Meaning, Answered}
 use Rattle.dice_key.specs.Lawful.{IsLawful, IsEquality}
@@ -9,10 +9,10 @@ use Rattle.dice_model.specs.Eval.{HasValue}
 use Rattle.task_share.specs.Asked.{By, Promised, Tasked, is_by, Asked}
 use Rattle.journal.specs.declared.event.Told.{Told}
 use Rattle.journal.specs.Events.{commits_of}
-use Rattle.core_laws.specs.Tasks.{Works, Work, IsReady, IsWaiting, Task, batch_of, value_of}
+use Rattle.core_laws.specs.Tasks.{Works, Work, IsReady, IsWaiting, Task, value_of}
 use Rattle.core_laws.specs.Stands.{VersionStands}
 use Rattle.core_laws.specs.Changes.{Puts, SameLives, Leaves}
-use Rattle.core_laws.proofs.Shapes.{same_or_other, leads_fewer, and_none, and_all, both_parts, not_both}
+use Rattle.core_laws.proofs.Shapes.{same_or_other, leads_fewer, and_none, both_parts, not_both}
 use Rattle.core_laws.proofs.Stages.{at_work, work_next, turned}
 
 module _ {K : Type 0} (eq : K → K → Bool) (k : K) (b : By K) (s u : Asked K) (left : Leaves eq k b s u) where
@@ -66,11 +66,11 @@ module _ {K V : Type 0} (eq : K → K → Bool) (equality : IsEquality eq) (m : 
   released_ready W s u ts us k j t w A ks xs h left same none e st z put =
       let a = at_work eq equality m law R v W s ts j t w (IsWaiting ks) A h e st in
       turned eq equality m law R v W s u ts us j t w (IsWaiting ks) IsReady A (A ++ record { keys = ks; values = xs } ∷ []) h e st
-          (record { undecided = a.undecided; work = work_next eq equality m law R v j w A ks xs a.work a.asks z; asks = tt }) refl put same
-          (left_fewer eq k (Tasked j) s u left)
-          (λ q i f. left_others eq k (Tasked j) s u left q (Promised i) refl f)
-          (λ q i n f. left_others eq k (Tasked j) s u left q (Tasked i) n f)
-          (λ q f. not_both f (none q))
+      (record { undecided = a.undecided; work = work_next eq equality m law R v j w A ks xs a.work a.asks z; asks = tt }) refl put same
+      (left_fewer eq k (Tasked j) s u left)
+      (λ q i f. left_others eq k (Tasked j) s u left q (Promised i) refl f)
+      (λ q i n f. left_others eq k (Tasked j) s u left q (Tasked i) n f)
+      (λ q f. not_both f (none q))
 
   -- all who asked for k were told of its end
   pub told : (W : List K) (s : Asked K) (ts : K → Option (Task K V)) (k : K) → VersionStands eq m R v (k ∷ W) s ts → ((j : K) → s.asks k (Tasked j) ≡ false) → VersionStands eq m R v W s ts

@@ -1,13 +1,13 @@
 -- What of a version speaks of no journal, and how a step that changes one task keeps it.
-use Rattle.std.proofs.Common.{◌≡◌, ◌≢◌, ◌⊎◌, inl, inr, ℕ, Bool, true, false, cond, not, ◌&&◌, ◌||◌, List, Option, Some, None, refl, sym, ap, ◌∙◌, subst}
+use Rattle.std.proofs.Common.{◌≡◌, ◌⊎◌, inl, inr, ℕ, Bool, true, false, cond, ◌&&◌, List, Option, Some, None, refl, sym, ap, ◌∙◌, subst}
 use Rattle.std.proofs.lemmas.Option.{same_Some, none-some}
 use Rattle.dice_key.specs.Meaning.{Meaning}
 use Rattle.dice_key.specs.Lawful.{IsEquality}
 use Rattle.dice_key.specs.declared.universe.Kind.TheVariants.{Injected}
 use Rattle.dice_model.specs.Log.{Has}
-use Rattle.task_share.specs.Asked.{By, Promised, Tasked, is_by, Asked, Leads, stays, asks_on, HasNoCircle}
+use Rattle.task_share.specs.Asked.{By, Tasked, Asked, Leads, stays, asks_on, HasNoCircle}
 use Rattle.journal.specs.declared.event.Told.{Told}
-use Rattle.core_laws.specs.Tasks.{Standing, Works, Ended, WithValue, WithCycle, WithNothing, Work, Computes, Checks, IsReady, IsOut, IsWaiting, Task, goes_on, computes, waits_for, value_in, is_going, is_computing, batch_of, value_of}
+use Rattle.core_laws.specs.Tasks.{Standing, Works, Ended, Task, goes_on, computes, waits_for, value_in, is_going, is_computing, batch_of, value_of}
 use Rattle.core_laws.specs.Stands.{VersionStands}
 use Rattle.core_laws.specs.Changes.{Puts, Lives}
 

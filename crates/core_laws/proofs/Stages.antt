@@ -1,5 +1,5 @@
 -- A task at work is taken, is brought back, and goes on with the answers to its next batch.
-use Rattle.std.proofs.Common.{◌≡◌, ◌≢◌, ◌⊎◌, inl, inr, ℕ, Bool, true, false, cond, List, [], ◌∷◌, ◌++◌, Option, Some, None, refl, sym, ap, ◌∙◌, subst}
+use Rattle.std.proofs.Common.{◌≡◌, inl, inr, ℕ, Bool, true, false, cond, List, [], ◌∷◌, ◌++◌, Option, Some, None, refl, sym, ap, ◌∙◌, subst}
 use Rattle.std.specs.List.{AllZip}
 use Rattle.std.proofs.lemmas.Option.{none-some}
 use Rattle.dice_key.specs.Meaning.{Meaning, Answered}
@@ -10,8 +10,8 @@ use Rattle.task_share.specs.Asked.{By, Promised, Tasked, Asked}
 use Rattle.journal.specs.declared.event.Told.{Told}
 use Rattle.journal.specs.Events.{commits_of, is_running}
 use Rattle.journal.specs.Law.{AreValues}
-use Rattle.core_laws.specs.Tasks.{Standing, Works, Work, Computes, Checks, Phase, IsReady, IsOut, IsWaiting, Task, computes, waits_for, value_in, is_going, is_computing, batch_of, value_of}
-use Rattle.core_laws.specs.Stands.{GoesAlong, IsNextOf, AsksNext, WorkStands, AtWork, IsStanding, TaskStands, VersionStands}
+use Rattle.core_laws.specs.Tasks.{Works, Work, Computes, Checks, Phase, IsReady, IsOut, IsWaiting, Task, computes, waits_for, value_in, is_going, is_computing, batch_of, value_of}
+use Rattle.core_laws.specs.Stands.{GoesAlong, AsksNext, WorkStands, AtWork, IsStanding, TaskStands, VersionStands}
 use Rattle.core_laws.specs.Changes.{Puts, SameAsks, SameLives, Lives}
 use Rattle.core_laws.proofs.Shapes.{shape_of, asks_nothing, eased, same_or_other, put_each, put_fact, put_none}
 
