@@ -1,1 +1,3 @@
 pub mod Indices
+pub mod Frames
+pub mod Elsewhere
