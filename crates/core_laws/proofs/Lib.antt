@@ -1,3 +1,5 @@
 pub mod Indices
 pub mod Frames
 pub mod Elsewhere
+pub mod Commits
+pub mod Opens
