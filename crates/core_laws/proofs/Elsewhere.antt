@@ -1,14 +1,14 @@
 -- What is told of the tasks of one version leaves all other versions as they were.
-use Rattle.std.proofs.Common.{◌≡◌, ◌≤◌, ℕ, suc, Bool, false, eqb, List, [], ◌∷◌, length, Option, refl, sym, arith, append-nil}
+use Rattle.std.proofs.Common.{◌≡◌, ◌≤◌, ℕ, suc, Bool, false, eqb, List, [], ◌∷◌, length, Option, refl, sym, ◌∙◌, arith, append-nil}
 use Rattle.dice_key.specs.Meaning.{Meaning}
 use Rattle.task_share.specs.Asked.{Asked}
 use Rattle.journal.specs.declared.event.Told.{Told}
 use Rattle.journal.specs.declared.event.Told.TheVariants.{Start, Keep, End, Cyclic, Drop, Lost}
-use Rattle.journal.specs.Events.{commits_of}
+use Rattle.journal.specs.Events.{open_count, commits_of}
 use Rattle.core_laws.specs.Tasks.{Task}
 use Rattle.core_laws.specs.Stands.{VersionStands, IsAtRest}
 use Rattle.core_laws.proofs.Indices.{base_more}
-use Rattle.core_laws.proofs.Frames.{Carries, SameLive, version_stays, rest_stays}
+use Rattle.core_laws.proofs.Frames.{Carries, SameLive, version_stays, rest_stays, same_promises}
 
 -- the event is one of a task, at another version
 abbrev pub IsElsewhere : {K V : Type 0} → ℕ → Told K V → Type 0
@@ -34,19 +34,28 @@ module _ {K V : Type 0} (eq : K → K → Bool) (m : Meaning K V) (R : List (Tol
   carries _ n = absurd n
 
   same_live : (e : Told K V) → IsElsewhere v e → SameLive R (e ∷ R) v
-  same_live (Start w q c) n = record { lives = λ i. refl; opens = λ i a h. refl; counted = λ h. h }
-  same_live (Keep w q b) n = record { lives = λ i. refl; opens = λ i a h. refl; counted = λ h. h }
-  same_live (End w q) n = record { lives = λ i. refl; opens = λ i a h. refl; counted = λ h. h }
-  same_live (Cyclic w q) n = record { lives = λ i. refl; opens = λ i a h. refl; counted = λ h. h }
-  same_live (Drop w q) n = record { lives = λ i. refl; opens = λ i a h. refl; counted = λ h. h }
-  same_live (Lost w q) n = record { lives = λ i. refl; opens = λ i a h. refl; counted = λ h. h }
+  same_live (Start w q c) n = record { lives = λ i. refl; opens = λ i a h. refl }
+  same_live (Keep w q b) n = record { lives = λ i. refl; opens = λ i a h. refl }
+  same_live (End w q) n = record { lives = λ i. refl; opens = λ i a h. refl }
+  same_live (Cyclic w q) n = record { lives = λ i. refl; opens = λ i a h. refl }
+  same_live (Drop w q) n = record { lives = λ i. refl; opens = λ i a h. refl }
+  same_live (Lost w q) n = record { lives = λ i. refl; opens = λ i a h. refl }
   same_live _ n = absurd n
+
+  same_count : (e : Told K V) → IsElsewhere v e → open_count (e ∷ R) v ≡ open_count R v
+  same_count (Start w q c) n = refl
+  same_count (Keep w q b) n = refl
+  same_count (End w q) n = refl
+  same_count (Cyclic w q) n = refl
+  same_count (Drop w q) n = refl
+  same_count (Lost w q) n = refl
+  same_count _ n = absurd n
 
   module _ (s : Asked K) (ts : K → Option (Task K V)) (e : Told K V) (n : IsElsewhere v e) where
     -- a version stands where it stood
     pub elsewhere : (W : List K) → VersionStands eq m R v W s ts → VersionStands eq m (e ∷ R) v W s ts
-    elsewhere W h = version_stays eq m R (e ∷ R) v (carries e n) (same_live e n) s ts W h
+    elsewhere W h = version_stays eq m R (e ∷ R) v (carries e n) s ts (same_promises eq m R (e ∷ R) v (same_live e n) W s ts h) W h
 
     -- a version at rest is at rest
     pub elsewhere_rests : IsAtRest eq m R v s ts → IsAtRest eq m (e ∷ R) v s ts
-    elsewhere_rests h = rest_stays eq m R (e ∷ R) v (carries e n) (same_live e n) s ts h
+    elsewhere_rests h = rest_stays eq m R (e ∷ R) v (carries e n) s ts (same_promises eq m R (e ∷ R) v (same_live e n) [] s ts h.stands) (λ z. sym (same_count e n) ∙ z) h

@@ -126,20 +126,23 @@ module _ {K V : Type 0} (eq : K → K → Bool) (m : Meaning K V) (R S : List (T
         leads_back a b stays = stays
         leads_back a b (asks_on {i = i} e l) = asks_on (sym (same i a) ∙ e) (leads_back i b l)
 
+module _ {K V : Type 0} (eq : K → K → Bool) (m : Meaning K V) (R S : List (Told K V)) (v : ℕ) (c : Carries eq R S v) (s : Asked K) (ts : K → Option (Task K V)) (p : Promises m S v s) where
+  -- with the same tasks and asks all goes on
+  pub version_stays : (W : List K) → VersionStands eq m R v W s ts → VersionStands eq m S v W s ts
+  version_stays W h = version_on eq m R S v c W s s ts h (λ q. refl) (λ d k. refl) p
+
+  -- and a version at rest is at rest
+  pub rest_stays : (open_count S v ≡ 0 → open_count R v ≡ 0) → IsAtRest eq m R v s ts → IsAtRest eq m S v s ts
+  rest_stays z h = record { stands = version_stays [] h.stands; tasked = h.tasked; wanted = h.wanted; closed = λ e. h.closed (z e) }
+
 -- S says of who asks at v what R says
 pub record SameLive {K V : Type 0} (R S : List (Told K V)) (v : ℕ) : Type 0 where
   pub lives : (i : ℕ) → live_at S i ≡ live_at R i
   pub opens : (i : ℕ) (a : Asking K) → live_at R i ≡ Some a → opened_at S v a.opened ≡ opened_at R v a.opened
-  pub counted : open_count S v ≡ 0 → open_count R v ≡ 0
 
-module _ {K V : Type 0} (eq : K → K → Bool) (m : Meaning K V) (R S : List (Told K V)) (v : ℕ) (c : Carries eq R S v) (l : SameLive R S v) (s : Asked K) (ts : K → Option (Task K V)) where
-  -- where nobody asks anew, all goes on
-  pub version_stays : (W : List K) → VersionStands eq m R v W s ts → VersionStands eq m S v W s ts
-  version_stays W h = version_on eq m R S v c W s s ts h (λ q. refl) (λ d k. refl) (record {
-    promised = λ k i e. (let p = h.promised k i e in (p.0, l.lives i ∙ p.1, l.opens i p.0 p.1 ∙ p.2, p.3));
-    promises = λ i a e o n. (let p : live_at R i ≡ Some a = sym (l.lives i) ∙ e in h.promises i a p (sym (l.opens i a p) ∙ o) n);
-  })
-
-  -- and so does a version at rest
-  pub rest_stays : IsAtRest eq m R v s ts → IsAtRest eq m S v s ts
-  rest_stays h = record { stands = version_stays [] h.stands; tasked = h.tasked; wanted = h.wanted; closed = λ z. h.closed (l.counted z) }
+-- then the promises are the same
+pub same_promises : {K V : Type 0} (eq : K → K → Bool) (m : Meaning K V) (R S : List (Told K V)) (v : ℕ) → SameLive R S v → (W : List K) (s : Asked K) (ts : K → Option (Task K V)) → VersionStands eq m R v W s ts → Promises m S v s
+same_promises eq m R S v l W s ts h = record {
+  promised = λ k i e. (let p = h.promised k i e in (p.0, l.lives i ∙ p.1, l.opens i p.0 p.1 ∙ p.2, p.3));
+  promises = λ i a e o n. (let p : live_at R i ≡ Some a = sym (l.lives i) ∙ e in h.promises i a p (sym (l.opens i a p) ∙ o) n);
+}

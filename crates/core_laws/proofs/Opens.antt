@@ -13,7 +13,7 @@ use Rattle.journal.proofs.Counts.{none_open}
 use Rattle.core_laws.specs.Tasks.{Task, batch_of}
 use Rattle.core_laws.specs.Stands.{IsAtRest}
 use Rattle.core_laws.proofs.Indices.{live_opened, opened_before}
-use Rattle.core_laws.proofs.Frames.{Carries, SameLive, rest_stays}
+use Rattle.core_laws.proofs.Frames.{Carries, SameLive, rest_stays, same_promises}
 
 module _ {K V : Type 0} (eq : K → K → Bool) (m : Meaning K V) (R : List (Told K V)) (lawful : IsLawfulBack eq m R) (v by w : ℕ) (s : Asked K) (ts : K → Option (Task K V)) where
   -- an Open that begins no epoch of v
@@ -37,7 +37,7 @@ module _ {K V : Type 0} (eq : K → K → Bool) (m : Meaning K V) (R : List (Tol
         by_version false e h = omega arith
 
     same_live : SameLive R (Open by w ∷ R) v
-    same_live = record { lives = λ i. refl; opens = λ i a h. (let o = live_opened eq m R i a lawful h in opened_before R by w v a.opened o.0 o.1); counted = λ h. (let a : open_count R v + one_if (eqb w v) ≡ 0 = h in omega arith) }
+    same_live = record { lives = λ i. refl; opens = λ i a h. (let o = live_opened eq m R i a lawful h in opened_before R by w v a.opened o.0 o.1) }
 
   -- an Open that begins the epoch of v
   module _ (n : begins R w v ≡ true) (h : IsAtRest eq m R v s ts) where
@@ -68,10 +68,13 @@ module _ {K V : Type 0} (eq : K → K → Bool) (m : Meaning K V) (R : List (Tol
       closed = λ z k. h.closed empty k;
     }
 
+  counted : open_count R v + one_if (eqb w v) ≡ 0 → open_count R v ≡ 0
+  counted z = omega arith
+
   -- a version at rest is at rest
   pub opened : IsAtRest eq m R v s ts → IsAtRest eq m (Open by w ∷ R) v s ts
   opened h = by_start (begins R w v) refl
     where
       by_start : (b : Bool) → begins R w v ≡ b → IsAtRest eq m (Open by w ∷ R) v s ts
       by_start true n = begun n h
-      by_start false n = rest_stays eq m R (Open by w ∷ R) v (carries n) (same_live n) s ts h
+      by_start false n = rest_stays eq m R (Open by w ∷ R) v (carries n) s ts (same_promises eq m R (Open by w ∷ R) v (same_live n) [] s ts h.stands) counted h
