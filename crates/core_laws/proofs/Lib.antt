@@ -3,3 +3,4 @@ pub mod Frames
 pub mod Elsewhere
 pub mod Commits
 pub mod Opens
+pub mod Asks
