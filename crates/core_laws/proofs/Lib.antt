@@ -4,3 +4,5 @@ pub mod Elsewhere
 pub mod Commits
 pub mod Opens
 pub mod Asks
+pub mod Leaves
+pub mod Closes
