@@ -6,3 +6,4 @@ pub mod Opens
 pub mod Asks
 pub mod Leaves
 pub mod Closes
+pub mod Empties
