@@ -8,7 +8,7 @@ use Rattle.dice_model.specs.Log.{Has, AreDistinct}
 use Rattle.dice_model.proofs.Finite.{few, has_or_not}
 use Rattle.task_share.specs.Asked.{By, Promised, Tasked, Asked, Leads, stays, asks_on, HasNoCircle, IsDone}
 use Rattle.journal.specs.declared.event.Told.{Told}
-use Rattle.journal.specs.Events.{opened_at, open_count}
+use Rattle.journal.specs.Events.{Asking, opened_at, open_count, live_at, decided, is_running}
 use Rattle.journal.specs.Law.{IsLawfulBack}
 use Rattle.journal.proofs.Lawful.{closes_open}
 use Rattle.journal.proofs.Counts.{none_open}
@@ -34,6 +34,29 @@ module _ {K : Type 0} (eq : K → K → Bool) (equality : IsEquality eq) (s : As
   pub none_live : (q : K) → s.live q ≡ true → ⊥
   none_live q v = climbs (length all) q [] (λ e g. elim g as (λ _. Leads s q e) [ inl i ↦ subst (Leads s q) i stays | inr b ↦ absurd b ])
       (λ e g. elim g as (λ _. s.live e ≡ true) [ inl i ↦ subst (λ y. s.live y ≡ true) i v | inr b ↦ absurd b ]) ((λ b. b), tt) (omega arith)
+
+module _ {K V : Type 0} (eq : K → K → Bool) (m : Meaning K V) (R : List (Told K V)) (v : ℕ) where
+  -- where no ask is live, nothing runs and nothing is decided, a version is at rest with no task and no ask
+  pub nobody_rests : ((i : ℕ) (a : Asking K) → live_at R i ≡ Some a → opened_at R v a.opened ≡ false) → ((k : K) → is_running eq R v k ≡ false) → (0 < open_count R v → (k : K) → decided eq R v k ≡ None) → IsAtRest eq m R v nobody (λ q. None)
+  nobody_rests unasked still fresh = record {
+    stands = record {
+      promised = λ k i e. absurd (both_ways false refl e);
+      promises = λ i a e o n. absurd (both_ways (opened_at R v a.opened) (unasked i a e) o);
+      waits = λ d k e. absurd (both_ways false refl e);
+      waiting = λ d k e. absurd (both_ways false refl e);
+      awaited = λ d k e. absurd (both_ways false refl e);
+      no_circle = λ k i e l. both_ways false refl e;
+      stuck = λ k ks e. absurd (none-some ks e);
+      batch = λ k ks e d q. absurd (none-some ks e);
+      live = λ k. refl;
+      each = λ k t e. absurd (none-some t e);
+      running = still;
+      fresh = λ k e n. fresh n k;
+    };
+    tasked = λ k a e. absurd (both_ways false refl e);
+    wanted = λ k e. absurd (both_ways false refl e);
+    closed = λ z k. refl;
+  }
 
 module _ {K V : Type 0} (eq : K → K → Bool) (equality : IsEquality eq) (m : Meaning K V) (R : List (Told K V)) (lawful : IsLawfulBack eq m R) (v : ℕ) (empty : open_count R v ≡ 0) (s : Asked K) (ts : K → Option (Task K V)) where
   -- what waits has not ended, and what runs has not
@@ -67,22 +90,8 @@ module _ {K V : Type 0} (eq : K → K → Bool) (equality : IsEquality eq) (m : 
 
     -- so the version is at rest with no task and no ask
     pub emptied : IsAtRest eq m R v nobody (λ q. None)
-    emptied = record {
-      stands = record {
-        promised = λ k i e. absurd (both_ways false refl e);
-        promises = λ i a e o n. absurd (both_ways (opened_at R v a.opened) (none_open v R (closes_open eq m R lawful) empty a.opened) o);
-        waits = λ d k e. absurd (both_ways false refl e);
-        waiting = λ d k e. absurd (both_ways false refl e);
-        awaited = λ d k e. absurd (both_ways false refl e);
-        no_circle = λ k i e l. both_ways false refl e;
-        stuck = λ k ks e. absurd (none-some ks e);
-        batch = λ k ks e d q. absurd (none-some ks e);
-        live = λ k. refl;
-        each = λ k t e. absurd (none-some t e);
-        running = λ k. h.running k ∙ stopped (ts k) (sym (h.live k) ∙ idle k);
-        fresh = λ k e n. absurd (let z = empty in omega arith);
-      };
-      tasked = λ k a e. absurd (both_ways false refl e);
-      wanted = λ k e. absurd (both_ways false refl e);
-      closed = λ z k. refl;
-    }
+    emptied = nobody_rests eq m R v (λ i a e. none_open v R (closes_open eq m R lawful) empty a.opened) (λ k. h.running k ∙ stopped (ts k) (sym (h.live k) ∙ idle k)) (λ n k. absurd (let z = empty in omega arith))
+
+-- before all events each version is at rest, with no task and no ask
+pub first_rests : {K V : Type 0} (eq : K → K → Bool) (m : Meaning K V) (v : ℕ) → IsAtRest eq m [] v nobody (λ q. None)
+first_rests eq m v = nobody_rests eq m [] v (λ i a e. refl) (λ k. refl) (λ n k. refl)

@@ -13,7 +13,7 @@ use Rattle.journal.specs.Events.{Asking, commits_of, open_count, opened_at, live
 use Rattle.journal.specs.Law.{AreValues}
 use Rattle.core_laws.specs.Tasks.{Work, Computes, Checks, Outcome, WithValue, WithCycle, WithNothing, Standing, Works, Ended, Task, batch_of}
 use Rattle.core_laws.specs.Stands.{lost_in_epoch, WasSeen, OutcomeStands, WorkStands, IsStanding, TaskStands, VersionStands, IsAtRest}
-use Rattle.core_laws.specs.Changes.{SameLives}
+use Rattle.core_laws.specs.Changes.{SameAsks, SameLives}
 
 -- S says of the tasks of v what R says
 pub record Carries {K V : Type 0} (eq : K → K → Bool) (R S : List (Told K V)) (v : ℕ) : Type 0 where
@@ -146,3 +146,17 @@ same_promises eq m R S v l W s ts h = record {
   promised = λ k i e. (let p = h.promised k i e in (p.0, l.lives i ∙ p.1, l.opens i p.0 p.1 ∙ p.2, p.3));
   promises = λ i a e o n. (let p : live_at R i ≡ Some a = sym (l.lives i) ∙ e in h.promises i a p (sym (l.opens i a p) ∙ o) n);
 }
+
+-- what holds is said of tasks and asks key by key
+module _ {K V : Type 0} (eq : K → K → Bool) (m : Meaning K V) (R : List (Told K V)) (v : ℕ) (s u : Asked K) (ts us : K → Option (Task K V)) (lives : SameLives s u) (asks : SameAsks eq s u) (tasks : (q : K) → us q ≡ ts q) where
+  same_asked : u ≡ s
+  same_asked = λ i. record { live = λ q. lives q i; asks = λ q a. asks q a i }
+
+  same_tasks : us ≡ ts
+  same_tasks = λ i q. tasks q i
+
+  pub version_same : (W : List K) → VersionStands eq m R v W s ts → VersionStands eq m R v W u us
+  version_same W h = subst (VersionStands eq m R v W u) (sym same_tasks) (subst (λ x. VersionStands eq m R v W x ts) (sym same_asked) h)
+
+  pub rest_same : IsAtRest eq m R v s ts → IsAtRest eq m R v u us
+  rest_same h = subst (IsAtRest eq m R v u) (sym same_tasks) (subst (λ x. IsAtRest eq m R v x ts) (sym same_asked) h)
