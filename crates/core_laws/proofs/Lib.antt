@@ -1,5 +1,14 @@
 pub mod Counts
 pub mod Turns
+pub mod Indices
+pub mod Frames
+pub mod Elsewhere
+pub mod Commits
+pub mod Opens
+pub mod Asks
+pub mod Leaves
+pub mod Closes
+pub mod Empties
 pub mod Shapes
 pub mod Makes
 pub mod Stages
