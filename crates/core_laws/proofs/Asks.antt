@@ -90,7 +90,7 @@ module _ {K V : Type 0} (eq : K → K → Bool) (equality : IsEquality eq) (m : 
     }
 
     -- an Ask at v itself
-    pub asked : SameLives s u → (m.kind k ≡ Injected → SameAsks eq s u) → (m.kind k ≢ Injected → Joins eq k (Promised (length R)) s u) → VersionStands eq m (Ask by t k ∷ R) v W u ts
+    pub asked : SameLives eq s u → (m.kind k ≡ Injected → SameAsks eq s u) → (m.kind k ≢ Injected → Joins eq k (Promised (length R)) s u) → VersionStands eq m (Ask by t k ∷ R) v W u ts
     asked lives stays joins = elim (injected_or_not m k) as (λ _. VersionStands eq m (Ask by t k ∷ R) v W u ts) [
       | inl d ↦ version_on eq m R (Ask by t k ∷ R) v (carries eq R by t k v) W s u ts h lives (λ q j. stays d q (Tasked j)) (asked_injected d (stays d))
       | inr n ↦ version_on eq m R (Ask by t k ∷ R) v (carries eq R by t k v) W s u ts h lives (λ d j. joins n d (Tasked j) ∙ or_none (s.asks d (Tasked j)) _ (and_right (eq k d) false refl)) (asked_computed (joins n))

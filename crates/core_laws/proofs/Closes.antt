@@ -39,7 +39,7 @@ module _ {K V : Type 0} (eq : K → K → Bool) (R : List (Told K V)) (by t : �
 
 module _ {K V : Type 0} (eq : K → K → Bool) (m : Meaning K V) (R : List (Told K V)) (v by t : ℕ) where
   -- a Close of any transaction, where its promises are gone
-  pub closed : (W : List K) (s u : Asked K) (ts : K → Option (Task K V)) → VersionStands eq m R v W s ts → SameLives s u → ((q : K) (a : By K) → u.asks q a ≡ (s.asks q a && not (is_promise_in R t a))) → VersionStands eq m (Close by t ∷ R) v W u ts
+  pub closed : (W : List K) (s u : Asked K) (ts : K → Option (Task K V)) → VersionStands eq m R v W s ts → SameLives eq s u → ((q : K) (a : By K) → u.asks q a ≡ (s.asks q a && not (is_promise_in R t a))) → VersionStands eq m (Close by t ∷ R) v W u ts
   closed W s u ts h lives leave = version_on eq m R (Close by t ∷ R) v (carries eq R by t v) W s u ts h lives
       (λ d j. leave d (Tasked j) ∙ and_not_none (s.asks d (Tasked j)))
       (record {

@@ -36,7 +36,7 @@ module _ {K V : Type 0} (eq : K → K → Bool) (R : List (Told K V)) (by i : �
 
 module _ {K V : Type 0} (eq : K → K → Bool) (equality : IsEquality eq) (m : Meaning K V) (R : List (Told K V)) (v by i : ℕ) (a : Asking K) (live_is : live_at R i ≡ Some a) where
   -- a Leave at v itself
-  pub left : (W : List K) (s u : Asked K) (ts : K → Option (Task K V)) → VersionStands eq m R v W s ts → SameLives s u → Leaves eq a.key (Promised i) s u → VersionStands eq m (Leave by i ∷ R) v W u ts
+  pub left : (W : List K) (s u : Asked K) (ts : K → Option (Task K V)) → VersionStands eq m R v W s ts → SameLives eq s u → Leaves eq a.key (Promised i) s u → VersionStands eq m (Leave by i ∷ R) v W u ts
   left W s u ts h lives leave = version_on eq m R (Leave by i ∷ R) v (carries eq R by i v) W s u ts h lives
       (λ d j. leave d (Tasked j) ∙ and_not_none (s.asks d (Tasked j)) _ (and_right (eq a.key d) false refl))
       (record {

@@ -42,15 +42,7 @@ module _ {K : Type 0} (eq : K → K → Bool) where
     pub asked : (d : K) → Has ds d → u.asks d (Tasked k) ≡ true
     pub only : (q : K) (a : By K) → u.asks q a ≡ true → (s.asks q a ≡ true) ⊎ (Has ds q × (a ≡ Tasked k))
 
-  -- the task of k has not ended, or has; so do the others as before
-  abbrev pub Lives : K → Bool → Asked K → Asked K → Type 0
-  Lives k b s u = (q : K) → u.live q ≡ cond (eq k q) b (s.live q)
-
 module _ {K : Type 0} where
-  -- the same tasks have not ended
-  abbrev pub SameLives : Asked K → Asked K → Type 0
-  SameLives s u = (q : K) → u.live q ≡ s.live q
-
   -- no tasks and no asks
   abbrev pub nobody : Asked K
   nobody = record { live = λ q. false; asks = λ q a. false }
