@@ -1,5 +1,5 @@
 -- The tasks of the version that a call works on, and the desk: the journal, and which tasks are ready, which are out, and how many are at work.
-use Rattle.std.specs.Prelude.{◌≡◌, ◌⊎◌, ◌+◌, ◌*◌, ◌≤◌, ℕ, Bool, true, List, [], ◌∷◌, length, reverse, Option, Some, None}
+use Rattle.std.specs.Prelude.{◌≡◌, ◌⊎◌, ◌+◌, ◌-◌, ◌*◌, ◌≤◌, ℕ, Bool, true, List, [], ◌∷◌, ◌++◌, length, reverse, Option, Some, None}
 use Rattle.std.specs.Option.{option_map}
 use Rattle.std.specs.Arc.{arc_value}
 use Rattle.dice_key.specs.Meaning.{Meaning}
@@ -8,16 +8,18 @@ use Rattle.task_share.specs.Seen.{Share, task_at, is_live, asked_of}
 use Rattle.journal.specs.declared.event.Told.{Told}
 use Rattle.journal.specs.Law.{IsWanted}
 use Rattle.core_laws.specs.Tasks.{Task}
-use Rattle.core_laws.specs.Desk.{World, Desk, is_out, with_version, AreAll, Stand}
+use Rattle.core_laws.specs.Desk.{World, Desk, is_out, with_version, AreAll, Loses, Stand}
 use Rattle.dice_core.specs.Helds.{Held, task_of}
 
 -- what contracts see of the desk: the journal's events; the tasks that are ready, and those that are out, each by its version and key; how many
--- tasks are at work; how many events there is room for; and how many more tasks may become ready, and how many may be made, without memory
+-- tasks are at work; the keys whose tasks ended and whose askers are still to be told; how many events there is room for; and how many more tasks
+-- may become ready, and how many may be made, without memory
 pub record DeskSeen (K V : Type 0) : Type 0 where
   pub events : List (Told K V)
   pub ready : List (ℕ × K)
   pub out : List (ℕ × K)
   pub live : ℕ
+  pub ended : List K
   pub spare : ℕ
   pub ready_room : ℕ
   pub live_room : ℕ
@@ -37,6 +39,77 @@ pub record Stays {X : Type 0} (xs ys : List X) : Type 0 where
   pub kept : (x : X) → Has xs x → Has ys x
   pub only : (x : X) → Has ys x → Has xs x
   pub distinct : AreDistinct ys
+
+-- the desk with one more event
+abbrev pub with_event : {K V : Type 0} → DeskSeen K V → Told K V → DeskSeen K V
+with_event d e = record d { events = d.events ++ e ∷ []; spare = d.spare - 1 }
+
+-- one more task, or one fewer, is at work
+abbrev pub with_made : {K V : Type 0} → DeskSeen K V → DeskSeen K V
+with_made d = record d { live = d.live + 1; live_room = d.live_room - 1 }
+
+abbrev pub with_ended : {K V : Type 0} → DeskSeen K V → DeskSeen K V
+with_ended d = record d { live = d.live - 1; live_room = d.live_room + 1 }
+
+-- a key is put on the list of those whose tasks ended
+abbrev pub with_told_next : {K V : Type 0} → DeskSeen K V → K → DeskSeen K V
+with_told_next d k = record d { ended = d.ended ++ k ∷ []; live_room = d.live_room - 1 }
+
+-- all but the ready and the out tasks is as it was
+pub record KeepsDesk {K V : Type 0} (d e : DeskSeen K V) : Type 0 where
+  pub events : e.events ≡ d.events
+  pub live : e.live ≡ d.live
+  pub ended : e.ended ≡ d.ended
+  pub spare : e.spare ≡ d.spare
+  pub live_room : e.live_room ≡ d.live_room
+
+-- nothing but the room changes
+pub record KeepsHands {K V : Type 0} (d e : DeskSeen K V) : Type 0 where
+  pub events : e.events ≡ d.events
+  pub ready : e.ready ≡ d.ready
+  pub out : e.out ≡ d.out
+  pub live : e.live ≡ d.live
+  pub ended : e.ended ≡ d.ended
+
+-- the last of the ready tasks goes out
+pub record Takes {K V : Type 0} (p : ℕ × K) (d e : DeskSeen K V) : Type 0 where
+  pub ready : d.ready ≡ e.ready ++ p ∷ []
+  pub out : Gains p d.out e.out
+  pub count : length e.out ≡ length d.out + 1
+  pub room : e.ready_room ≡ d.ready_room
+  pub rest : KeepsDesk d e
+
+-- a task that is out becomes ready again
+pub record Returns {K V : Type 0} (p : ℕ × K) (d e : DeskSeen K V) : Type 0 where
+  pub ready : e.ready ≡ d.ready ++ p ∷ []
+  pub out : Loses p d.out e.out
+  pub count : length e.out + 1 ≡ length d.out
+  pub room : e.ready_room ≡ d.ready_room
+  pub rest : KeepsDesk d e
+
+-- a task that is out is out no more: it waits, or has ended
+pub record Leaves {K V : Type 0} (p : ℕ × K) (d e : DeskSeen K V) : Type 0 where
+  pub ready : e.ready ≡ d.ready
+  pub out : Loses p d.out e.out
+  pub count : length e.out + 1 ≡ length d.out
+  pub room : e.ready_room ≡ d.ready_room
+  pub rest : KeepsDesk d e
+
+-- a task that was neither ready nor out becomes ready
+pub record Readies {K V : Type 0} (p : ℕ × K) (d e : DeskSeen K V) : Type 0 where
+  pub ready : e.ready ≡ d.ready ++ p ∷ []
+  pub out : Stays d.out e.out
+  pub count : length e.out ≡ length d.out
+  pub room : e.ready_room + 1 ≡ d.ready_room
+  pub rest : KeepsDesk d e
+
+-- a ready task is ready no more: it has ended
+pub record Unreadies {K V : Type 0} (p : ℕ × K) (d e : DeskSeen K V) : Type 0 where
+  pub ready : Loses p d.ready e.ready
+  pub out : Stays d.out e.out
+  pub count : length e.out ≡ length d.out
+  pub room : e.ready_room ≡ d.ready_room
+  pub rest : KeepsDesk d e
 
 -- the room that was made ahead is still there
 pub record KeepsDeskRoom {K V : Type 0} (d e : DeskSeen K V) : Type 0 where

@@ -1,2 +1,4 @@
 pub mod Helds
 pub mod Hands
+pub mod Loads
+pub mod Shelves

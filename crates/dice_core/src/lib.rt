@@ -1,4 +1,6 @@
 //! The core of an engine: one event machine without threads.
 #![tactic(auto)]
 
+mod desk;
+mod shelf;
 mod task;
