@@ -1,5 +1,7 @@
 -- A list of things whose places are distinct, the first r of which are one part, and the others another.
-use Rattle.std.proofs.Common.{◌≡◌, ◌⊎◌, inl, inr, ℕ, zero, suc, ◌+◌, ◌-◌, ◌<◌, ◌≤◌, Bool, true, false, List, [], ◌∷◌, ◌++◌, length, map, take, drop, set, get_or, slice_get, Some, refl, sym, ap, ◌∙◌, subst, arith, length-append}
+use Rattle.std.proofs.Common.{◌≡◌, ◌⊎◌, inl, inr, ℕ, zero, suc, ◌+◌, ◌-◌, ◌<◌, ◌≤◌, Bool, true, false, List, [], ◌∷◌, ◌++◌, length, map, take, drop, set, get_or, slice_get, Option, Some, None, refl, sym, ap, ◌∙◌, subst, arith, length-append}
+use Rattle.std.specs.Prelude.{IfSome, IfNone}
+use Rattle.std.specs.Option.{is_some}
 use Rattle.std.specs.List.{swap, swap_remove, IsDistinct, AllByRecursion, Contains, list_any, position}
 use Rattle.std.specs.List.Sorted.{IsPermutation}
 use Rattle.std.proofs.lemmas.Bool.{false≢true, true≢false, or_left, or_right, cases_lt}
@@ -39,7 +41,7 @@ module _ {X Y : Type 0} (f : X → Y) where
   same_places xs ys p = same_order (map f xs) (map f ys) (IsPermutation-map f xs ys p)
 
   -- the whole by its two parts
-  parts : (r : ℕ) (xs : List X) → map f (take r xs) ++ map f (drop r xs) ≡ map f xs
+  pub parts : (r : ℕ) (xs : List X) → map f (take r xs) ++ map f (drop r xs) ≡ map f xs
   parts r xs = sym (map-append f (take r xs) (drop r xs)) ∙ ap (map f) (take-append-drop r xs)
 
   -- things that are apart by a test that says yes to things of one place have distinct places
@@ -149,3 +151,25 @@ module _ {X Y : Type 0} (f : X → Y) where
       let rest : map f (drop r xs) ≡ p ∷ map f (drop (r + 1) xs) = ap (map f) (drop_more xs r d l) in
       let whole : (map f (take r xs) ++ p ∷ []) ++ map f (drop (r + 1) xs) ≡ map f xs = ap (λ l. l ++ map f (drop (r + 1) xs)) (sym front) ∙ parts (r + 1) xs in
       (front, rw rest (goes_over (map f (take r xs)) (map f (drop (r + 1) xs)) p (subst AreDistinct (sym whole) u)))
+
+  -- the index that a search by a test of a place gives
+  pub index_some : (t : X → Bool) (p : Y) → ((x : X) → t x ≡ true → f x ≡ p) → (xs : List X) (o : Option ℕ) → o ≡ position t xs → IfSome o (λ i. i < length xs) → IfSome o (λ i. (x : X) × (slice_get xs i ≡ Some x) × (f x ≡ p))
+  index_some t p means xs None e w = tt
+  index_some t p means xs (Some i) e w = found_there t p means xs i w (sym e)
+
+  pub index_none : (t : X → Bool) (p : Y) → ((x : X) → f x ≡ p → t x ≡ true) → (xs : List X) (o : Option ℕ) → is_some o ≡ list_any t xs → IfNone o (Has (map f xs) p → ⊥)
+  index_none t p yes xs None e = λ h. none_there t p yes xs (sym e) h
+  index_none t p yes xs (Some i) e = tt
+
+  -- what stands in the first part has an index there
+  pub stands_before : (xs : List X) (r i : ℕ) (d : X) → i < length xs → AreDistinct (map f xs) → Has (map f (take r xs)) (f (get_or xs i d)) → i < r
+  stands_before xs r i d l u h = elim (cases_lt i r) [
+    inl q ↦ q
+    | inr b ↦ absurd (apart (map f (take r xs)) (map f (drop r xs)) (f (get_or xs i d)) (subst AreDistinct (sym (parts r xs)) u) h (has_later xs r i d b l)) ]
+    where
+      has_later : (ys : List X) (n j : ℕ) (x : X) → n ≤ j → j < length ys → Has (map f (drop n ys)) (f (get_or ys j x))
+      has_later [] n j x b m = absurd (omega arith)
+      has_later (y ∷ ys) zero zero x b m = inl refl
+      has_later (y ∷ ys) (suc n) zero x b m = absurd (omega arith)
+      has_later (y ∷ ys) zero (suc j) x b m = inr (has_later ys zero j x (omega arith) (omega arith))
+      has_later (y ∷ ys) (suc n) (suc j) x b m = has_later ys n j x (omega arith) (omega arith)
