@@ -44,14 +44,14 @@ module _ {X Y : Type 0} (f : X → Y) where
   pub parts : (r : ℕ) (xs : List X) → map f (take r xs) ++ map f (drop r xs) ≡ map f xs
   parts r xs = sym (map-append f (take r xs) (drop r xs)) ∙ ap (map f) (take-append-drop r xs)
 
-  -- things that are apart by a test that says yes to things of one place have distinct places
+  -- things that are apart by a test that says says to things of one place have distinct places
   pub distinct_places : (e : X → X → Bool) → ((x y : X) → f x ≡ f y → e x y ≡ true) → (xs : List X) → IsDistinct e xs → AreDistinct (map f xs)
-  distinct_places e yes [] d = tt
-  distinct_places e yes (x ∷ xs) d = (λ h. clash xs (IsDistinct-head e x xs d) h, distinct_places e yes xs (IsDistinct-tail e x xs d))
+  distinct_places e says [] d = tt
+  distinct_places e says (x ∷ xs) d = (λ h. clash xs (IsDistinct-head e x xs d) h, distinct_places e says xs (IsDistinct-tail e x xs d))
     where
       clash : (ys : List X) → AllByRecursion (λ y. e x y ≡ false) ys → Has (map f ys) (f x) → ⊥
       clash [] a h = h
-      clash (y ∷ ys) a (inl q) = false≢true (sym a.0 ∙ yes x y (sym q))
+      clash (y ∷ ys) a (inl q) = false≢true (sym a.0 ∙ says x y (sym q))
       clash (y ∷ ys) a (inr h) = clash ys a.1 h
 
   -- the first r + 1 after the exchange of the i-th and the r-th
@@ -74,9 +74,9 @@ module _ {X Y : Type 0} (f : X → Y) where
 
   -- where no thing passes a test that says yes to each thing of a place, none has that place
   pub none_there : (t : X → Bool) (p : Y) → ((x : X) → f x ≡ p → t x ≡ true) → (xs : List X) → list_any t xs ≡ false → Has (map f xs) p → ⊥
-  none_there t p yes [] n h = h
-  none_there t p yes (x ∷ xs) n (inl q) = true≢false (sym (or_left (t x) (list_any t xs) (yes x q)) ∙ n)
-  none_there t p yes (x ∷ xs) n (inr h) = none_there t p yes xs (by_cases (list_any t xs) refl) h
+  none_there t p says [] n h = h
+  none_there t p says (x ∷ xs) n (inl q) = true≢false (sym (or_left (t x) (list_any t xs) (says x q)) ∙ n)
+  none_there t p says (x ∷ xs) n (inr h) = none_there t p says xs (by_cases (list_any t xs) refl) h
     where
       by_cases : (b : Bool) → list_any t xs ≡ b → list_any t xs ≡ false
       by_cases true q = absurd (true≢false (sym (or_right (t x) (list_any t xs) q) ∙ n))
@@ -158,8 +158,8 @@ module _ {X Y : Type 0} (f : X → Y) where
   index_some t p means xs (Some i) e w = found_there t p means xs i w (sym e)
 
   pub index_none : (t : X → Bool) (p : Y) → ((x : X) → f x ≡ p → t x ≡ true) → (xs : List X) (o : Option ℕ) → is_some o ≡ list_any t xs → IfNone o (Has (map f xs) p → ⊥)
-  index_none t p yes xs None e = λ h. none_there t p yes xs (sym e) h
-  index_none t p yes xs (Some i) e = tt
+  index_none t p says xs None e = λ h. none_there t p says xs (sym e) h
+  index_none t p says xs (Some i) e = tt
 
   -- what stands in the first part has an index there
   pub stands_before : (xs : List X) (r i : ℕ) (d : X) → i < length xs → AreDistinct (map f xs) → Has (map f (take r xs)) (f (get_or xs i d)) → i < r

@@ -1,5 +1,6 @@
 -- A task's parts at each step.
 use Rattle.std.proofs.Common.{◌≡◌, ◌⊎◌, inl, inr, Bool, true, false, List, [], ◌∷◌, ◌++◌, length, Option, Some, None, refl, sym, ap, ◌∙◌, subst}
+use Rattle.std.specs.Prelude.{IfSome, IfNone}
 use Rattle.std.proofs.lemmas.Option.{none-some, same_Some}
 use Rattle.std.proofs.lemmas.Bool.{false≢true}
 use Rattle.dice_jobs.specs.Jobs.{Name, Assigned, Waits, Work, Computes, Checks, answered_more}
@@ -57,6 +58,10 @@ module _ {K V : Type 0} where
   pub seen_at_work : (n : Name K) (a : Assigned K V) (p : Phase K) (h : Held K V) → a.name ≡ n → record { name = n; standing = works a p } ≡ h → h ≡ held_of a p
   seen_at_work n a p h e v = sym v ∙ held_is a n p e
 
+  -- the key of a task that is seen
+  pub key_seen : (n : Name K) (s : Standing K V) (h : Held K V) → record { name = n; standing = s } ≡ h → n.key ≡ h.name.key
+  key_seen n s h v = ap (λ (z : Held K V). z.name.key) v
+
 module _ {U K V R : Type 0} (n : Name K) where
   -- a load that is seen as out
   pub away_is : (load : Load U K V R) (s : TaskState K V) (a : Assigned K V) → IsLoaded n load s → record { name = n; standing = standing_of load s } ≡ held_of a IsOut → IsLoaded {U = U} {K = K} {V = V} {R = R} n (Away a) s
@@ -112,6 +117,32 @@ module _ {U K V R : Type 0} (n : Name K) where
   job_seen load s h a l v (inr e) =
       let m = subst (λ (z : Load U K V R). IsLoaded n z s) e l in
       (IsOut, seen_at_work n a IsOut h m.0 ((λ i. record { name = n; standing = standing_of (sym e i) s }) ∙ v))
+
+  -- what is seen to go on does so in memory
+  pub goes_seen : (load : Load U K V R) (s : TaskState K V) (h : Held K V) → record { name = n; standing = standing_of load s } ≡ h → goes_on h.standing ≡ true → goes_on (standing_of load s) ≡ true
+  goes_seen load s h v e = ap (λ (z : Held K V). goes_on z.standing) v ∙ e
+
+  -- a task that is seen as out keeps what its job is for
+  pub kept_away : (load : Load U K V R) (s : TaskState K V) (h : Held K V) (a : Assigned K V) → record { name = n; standing = standing_of load s } ≡ h → h ≡ held_of a IsOut → (b : Assigned K V) × (load ≡ Away b)
+  kept_away (Job j b) s h a v e = absurd (let q : Works (doing b.work) IsReady b.answered ≡ Works (doing a.work) IsOut a.answered = λ i. ((v ∙ e) i).standing in cc)
+  kept_away (Away b) s h a v e = (b, refl)
+  kept_away (Parked p) s h a v e = absurd (let q : Works (doing p.job.work) (IsWaiting p.keys) p.job.answered ≡ Works (doing a.work) IsOut a.answered = λ i. ((v ∙ e) i).standing in cc)
+  kept_away Nothing s h a v e = absurd (let q : standing_of {U = U} {K = K} {V = V} {R = R} Nothing s ≡ Works (doing a.work) IsOut a.answered = λ i. ((v ∙ e) i).standing in cc)
+
+  -- the copies of a task's key, of a task at work
+  pub copies_of : (o : Option (Spare U K V R)) (k : K) → HasCopies n.key o → n.key ≡ k → IfSome o (AreCopies k)
+  copies_of None k h e = tt
+  copies_of (Some x) k h e = (h.0 ∙ e, h.1 ∙ e)
+
+  pub has_copies : (o : Option (Spare U K V R)) → HasCopies n.key o → IfNone o ⊥
+  has_copies None h = h
+  has_copies (Some x) h = tt
+
+  -- a load that keeps what the job that is out is for is seen as that job out
+  pub away_seen : (load : Load U K V R) (s : TaskState K V) (h : Held K V) (own : Assigned K V) → IsLoaded n load s → record { name = n; standing = standing_of load s } ≡ h → load ≡ Away own → h ≡ held_of own IsOut
+  away_seen load s h own l v e =
+      let m = subst (λ (z : Load U K V R). IsLoaded n z s) e l in
+      seen_at_work n own IsOut h m.0 ((λ i. record { name = n; standing = standing_of (sym e i) s }) ∙ v)
 
 module _ (U R : Type 0) {K V : Type 0} (n : Name K) where
   -- the job is taken
