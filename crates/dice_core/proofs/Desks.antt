@@ -32,6 +32,10 @@ module _ {K : Type 0} where
   goes_first n [] l u = absurd (omega (arith, l))
   goes_first n (k ∷ ks) l u = let g = goes_out place_of (k ∷ ks) n k l u in (place_of (get_or (k ∷ ks) n k), g.0, g.1)
 
+has_some : {X : Type 0} (xs : List X) (x : X) → Has xs x → 0 < length xs
+has_some [] x h = absurd h
+has_some (y ∷ xs) x h = omega arith
+
 module _ {K V : Type 0} where
   -- the desk after the last of the ready tasks was taken
   pub taken_is : (n : ℕ) (ks : List (ReadyTask K)) (w d : DeskSeen K V) → w ≡ d → IsLaid n ks → w.ready ≡ ready_of n ks → w.out ≡ out_of n ks → 0 < length d.ready → (p : ℕ × K) × Takes p d (record w { ready = ready_of (n - 1) ks; out = out_of (n - 1) ks })
@@ -63,3 +67,14 @@ module _ {K V : Type 0} where
       elim (has_either (ready_of n ks) (out_of n ks) p (subst (λ (l : List (ℕ × K)). Has l p) (sym (parts place_of n ks)) h)) [
         inl x ↦ a (subst (λ (l : List (ℕ × K)). Has l p) dr x)
         | inr y ↦ b (subst (λ (l : List (ℕ × K)). Has l p) dq y) ]
+
+  -- where a task is ready, some are
+  pub some_ready : (n : ℕ) (ks : List (ReadyTask K)) (w d : DeskSeen K V) (p : ℕ × K) → w ≡ d → IsLaid n ks → w.ready ≡ ready_of n ks → Has d.ready p → (0 < n) × (n - 1 < length ks) × Has (ready_of (n - 1 + 1) ks) p
+  some_ready n ks w d p v l wr h =
+      let there : Has (ready_of n ks) p = subst (λ (z : List (ℕ × K)). Has z p) (sym (ap (λ (z : DeskSeen K V). z.ready) v) ∙ wr) h in
+      let some = has_some (ready_of n ks) p there in
+      let count = count_ready n ks l.bound in
+      let bound : n ≤ length ks = l.bound in
+      let b : 0 < n = omega (arith, some, count) in
+      let m : n ≡ n - 1 + 1 = omega (arith, b) in
+      (b, omega (arith, b, bound), subst (λ (i : ℕ). Has (ready_of i ks) p) m there)

@@ -19,6 +19,10 @@ use Rattle.dice_core.specs.Shelves.{place_of}
 use Rattle.dice_core.proofs.Lists.{distinct_right, loses_first, has_left, has_right}
 use Rattle.dice_core.proofs.Parts.{goes_back, goes_away, goes_last, comes_first, stands_after, stands_before, none_there, parts}
 
+one_fails : (a b : Bool) → (a ≡ true → ⊥) → b ≡ false → (a || b) ≡ false
+one_fails true b h e = absurd (h refl)
+one_fails false b h e = e
+
 module _ {X Y : Type 0} (f : X → Y) where
   pub found_at : (xs : List X) (i : ℕ) (x : X) → slice_get xs i ≡ Some x → (i < length xs) × (x ≡ get_or xs i x)
   found_at xs i x e = let l = slice_get_within xs i x e in (l, same_Some _ _ (sym e ∙ slice_get-get_or xs i x l))
@@ -62,11 +66,7 @@ module _ {X Y : Type 0} (f : X → Y) where
   -- where nothing has the place, no test of it passes
   pub none_passes : (t : X → Bool) (p : Y) → ((x : X) → t x ≡ true → f x ≡ p) → (xs : List X) → (Has (map f xs) p → ⊥) → list_any t xs ≡ false
   none_passes t p means [] n = refl
-  none_passes t p means (x ∷ xs) n = by_test (t x) refl
-    where
-      by_test : (b : Bool) → t x ≡ b → t x || list_any t xs ≡ false
-      by_test true q = absurd (n (inl (means x q)))
-      by_test false q = ap (λ b. b || list_any t xs) q ∙ none_passes t p means xs (λ h. n (inr h))
+  none_passes t p means (x ∷ xs) n = one_fails (t x) (list_any t xs) (λ q. n (inl (means x q))) (none_passes t p means xs (λ h. n (inr h)))
 
   pub put_in_is : (xs ys zs : List X) (r l : ℕ) (x : X) → r ≤ length xs → l ≡ length xs → ys ≡ xs ++ x ∷ [] → zs ≡ swap ys l r → AreDistinct (map f ys) → AreDistinct (map f zs) → (map f (take (r + 1) zs) ≡ map f (take r xs) ++ f x ∷ []) × Stays (map f (drop r xs)) (map f (drop (r + 1) zs))
   put_in_is xs ys zs r l x b e k m u v =

@@ -1,4 +1,4 @@
-use Rattle.std.proofs.Common.{arith, ap, ◌∙◌, length, map, subst}
+use Rattle.std.proofs.Common.{ℕ, arith, ap, ◌∙◌, length, map, subst}
 use Rattle.std.specs.Prelude.{IfNone}
 use Rattle.std.specs.Arc.{arc_value}
 use Rattle.std.proofs.lemmas.List.Edits.{length-swap}
@@ -25,7 +25,7 @@ returns-in-Some g c =
     let s = c.in-Some.ensures.some in
     let xs = c.args.shelf.now.keys in
     let ys = c.swap_indices.new.self.keys in
-    let p = (c.args.version, arc_value c.args.key.now) in
+    let p : ℕ × g.row.U-Key.Denot = (c.args.version, arc_value c.args.key.now) in
     let a = found_after place_of xs c.args.ready c.in-Some.index s.0 p c.requires.distinct c.requires.out s.1 s.2 in
     let v : AreDistinct (map place_of ys) = distinct_places place_of (ready_eq eq c.laws_of.ensures.keys) (same_place eq c.laws_of.ensures.keys) ys c.swap_indices.ensures.unique in
     let b = put_back_is place_of xs ys c.args.ready c.in-Some.index s.0 p c.requires.distinct c.requires.out s.1 s.2 c.swap_indices.ensures.keys v in

@@ -1,4 +1,4 @@
-use Rattle.std.proofs.Common.{◌≡◌, arith, ◌∙◌, Some, map}
+use Rattle.std.proofs.Common.{ℕ, ◌≡◌, arith, ◌∙◌, Some, map}
 use Rattle.std.specs.Arc.{arc_value}
 use Rattle.std.specs.List.{swap_remove}
 use Rattle.dice_model.specs.Log.{AreDistinct}
@@ -14,7 +14,7 @@ returns-in-Some g c =
     let s = c.in-Some.ensures.some in
     let xs = c.args.shelf.now.keys in
     let ys = c.swap_remove_index.new.self.keys in
-    let p = (c.args.version, arc_value c.args.key.now) in
+    let p : ℕ × g.row.U-Key.Denot = (c.args.version, arc_value c.args.key.now) in
     let a = found_after place_of xs c.args.ready c.in-Some.index s.0 p c.requires.distinct c.requires.out s.1 s.2 in
     let o : c.swap_remove_index.result ≡ Some s.0 = c.swap_remove_index.ensures.key ∙ s.1 in
     let k : ys ≡ swap_remove xs c.in-Some.index s.0 = at_some _ c.swap_remove_index.result s.0 o c.swap_remove_index.ensures.keys in

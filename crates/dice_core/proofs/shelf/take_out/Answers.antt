@@ -1,4 +1,4 @@
-use Rattle.std.proofs.Common.{◌≡◌, ◌<◌, ◌+◌, arith, ap, ◌∙◌, sym, Some, get_or, slice_get, length, map, subst}
+use Rattle.std.proofs.Common.{ℕ, ◌≡◌, ◌<◌, ◌+◌, arith, ap, ◌∙◌, sym, Some, get_or, slice_get, length, map, subst}
 use Rattle.std.specs.Arc.{arc_value}
 use Rattle.std.specs.List.{swap_remove}
 use Rattle.std.proofs.lemmas.Option.{slice_get-get_or}
@@ -23,7 +23,7 @@ returns-in-Some g c =
     let xs = c.args.shelf.now.keys in
     let ys = c.swap_indices.new.self.keys in
     let zs = c.swap_remove_index.new.self.keys in
-    let p = (c.args.version, arc_value c.args.key.now) in
+    let p : ℕ × g.row.U-Key.Denot = (c.args.version, arc_value c.args.key.now) in
     let m : length ys ≡ length xs = ap length c.swap_indices.ensures.keys ∙ length-swap xs c.in-Some.index r in
     let long : r < length ys = omega (arith, m, c.requires.bound) in
     let y = get_or ys r s.0 in
