@@ -1,8 +1,8 @@
 -- What the calls on a desk do to what contracts see of it.
-use Rattle.std.proofs.Common.{◌≡◌, ℕ, ◌+◌, ◌-◌, ◌<◌, ◌≤◌, List, [], ◌∷◌, ◌++◌, length, map, take, drop, get_or, slice_get, Option, Some, None, Bor, inl, inr, refl, sym, ap, ◌∙◌, subst, arith, length-drop, length-map}
+use Rattle.std.proofs.Common.{◌≡◌, ℕ, ◌+◌, ◌-◌, ◌<◌, ◌≤◌, List, [], ◌∷◌, ◌++◌, length, map, take, drop, get_or, slice_get, Option, Some, None, Bor, inl, inr, refl, sym, ap, ◌∙◌, subst, arith, length-drop}
 use Rattle.std.specs.Prelude.{IfSome}
 use Rattle.std.specs.Option.{option_copied}
-use Rattle.std.proofs.lemmas.List.{length-take-le, take_more, map-append}
+use Rattle.std.proofs.lemmas.List.{length-map, length-take-le, take_more, map-append}
 use Rattle.dice_model.specs.Log.{Has, AreDistinct}
 use Rattle.dice_core.specs.declared.shelf.ReadyTask.{ReadyTask}
 use Rattle.dice_core.specs.Hands.{DeskSeen, Gains, Takes}

@@ -11,10 +11,10 @@ overflow_sub-self g c =
 
 pub take_out-requires-clause-bound : goal.take_out-requires-clause-bound
 take_out-requires-clause-bound g c =
-    let p : ℕ × g.row.U-Key.Denot = (c.args.version, arc_value c.args.key.now) in
+    λ κ l. let p : ℕ × g.row.U-Key.Denot = (c.args.version, arc_value c.args.key.now) in
     (some_ready c.self.inside.ready c.self.inside.at_hand.keys _ c.args.self.now p c.self.view_is c.self.invariant.0 refl c.requires).1
 
 pub take_out-requires-clause-ready : goal.take_out-requires-clause-ready
 take_out-requires-clause-ready g c =
-    let p : ℕ × g.row.U-Key.Denot = (c.args.version, arc_value c.args.key.now) in
+    λ κ l. let p : ℕ × g.row.U-Key.Denot = (c.args.version, arc_value c.args.key.now) in
     (some_ready c.self.inside.ready c.self.inside.at_hand.keys _ c.args.self.now p c.self.view_is c.self.invariant.0 refl c.requires).2
