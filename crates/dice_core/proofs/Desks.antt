@@ -4,8 +4,9 @@ use Rattle.std.specs.Prelude.{IfSome}
 use Rattle.std.specs.Option.{option_copied}
 use Rattle.std.proofs.lemmas.List.{length-map, length-take-le, take_more, map-append}
 use Rattle.dice_model.specs.Log.{Has, AreDistinct}
+use Rattle.core_laws.specs.Desk.{Loses}
 use Rattle.dice_core.specs.declared.shelf.ReadyTask.{ReadyTask}
-use Rattle.dice_core.specs.Hands.{DeskSeen, Gains, Takes}
+use Rattle.dice_core.specs.Hands.{DeskSeen, Gains, Stays, Takes, Unreadies}
 use Rattle.dice_core.specs.Shelves.{place_of, ready_of, out_of, IsLaid}
 use Rattle.dice_core.proofs.Laid.{found_at}
 use Rattle.dice_core.proofs.Lists.{has_either}
@@ -78,3 +79,19 @@ module _ {K V : Type 0} where
       let b : 0 < n = omega (arith, some, count) in
       let m : n ≡ n - 1 + 1 = omega (arith, b) in
       (b, omega (arith, b, bound), subst (λ (i : ℕ). Has (ready_of i ks) p) m there)
+
+  -- the desk after a ready task has ended
+  pub unreadied_is : (n : ℕ) (ks ls : List (ReadyTask K)) (w d : DeskSeen K V) (p : ℕ × K) → w ≡ d → IsLaid n ks → w.ready ≡ ready_of n ks → w.out ≡ out_of n ks → Has d.ready p → Loses p (ready_of (n - 1 + 1) ks) (ready_of (n - 1) ls) → Stays (out_of (n - 1 + 1) ks) (out_of (n - 1) ls) → length ls + 1 ≡ length ks → Unreadies p d (record w { ready = ready_of (n - 1) ls; out = out_of (n - 1) ls })
+  unreadied_is n ks ls w d p v l wr wo h a b c =
+      let s = some_ready n ks w d p v l wr h in
+      let bound : n ≤ length ks = l.bound in
+      let m : n - 1 + 1 ≡ n = omega (arith, s.0) in
+      let dr : ready_of n ks ≡ d.ready = sym wr ∙ ap (λ (z : DeskSeen K V). z.ready) v in
+      let dq : out_of n ks ≡ d.out = sym wo ∙ ap (λ (z : DeskSeen K V). z.out) v in
+      record {
+        ready = subst (λ (z : List (ℕ × K)). Loses p z (ready_of (n - 1) ls)) (ap (λ i. ready_of i ks) m ∙ dr) a;
+        out = subst (λ (z : List (ℕ × K)). Stays z (out_of (n - 1) ls)) (ap (λ i. out_of i ks) m ∙ dq) b;
+        count = omega (arith, count_out (n - 1) ls, ap length (sym dq) ∙ count_out n ks, c, s.0, bound);
+        room = ap (λ (z : DeskSeen K V). z.ready_room) v;
+        rest = record { events = ap (λ (z : DeskSeen K V). z.events) v; live = ap (λ (z : DeskSeen K V). z.live) v; ended = ap (λ (z : DeskSeen K V). z.ended) v; spare = ap (λ (z : DeskSeen K V). z.spare) v; live_room = ap (λ (z : DeskSeen K V). z.live_room) v };
+      }
