@@ -58,6 +58,9 @@ module _ {K V : Type 0} where
   pub seen_at_work : (n : Name K) (a : Assigned K V) (p : Phase K) (h : Held K V) → a.name ≡ n → record { name = n; standing = works a p } ≡ h → h ≡ held_of a p
   seen_at_work n a p h e v = sym v ∙ held_is a n p e
 
+  pub same_out : (a b : Assigned K V) → a ≡ b → held_of a IsOut ≡ held_of b IsOut
+  same_out a b e = λ i. held_of (e i) IsOut
+
   -- the key of a task that is seen
   pub key_seen : (n : Name K) (s : Standing K V) (h : Held K V) → record { name = n; standing = s } ≡ h → n.key ≡ h.name.key
   key_seen n s h v = ap (λ (z : Held K V). z.name.key) v
