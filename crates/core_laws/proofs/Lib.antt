@@ -1,1 +1,3 @@
 pub mod OfKey
+pub mod Held
+pub mod Ends

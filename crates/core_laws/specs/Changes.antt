@@ -10,13 +10,17 @@ module _ {K V : Type 0} (eq : K → K → Bool) where
   Puts k o ts us = (q : K) → us q ≡ cond (eq k q) o (ts q)
 
 module _ {K : Type 0} (eq : K → K → Bool) where
-  -- whether the task of k has not ended is this; all others stay
-  abbrev pub Lives : K → Bool → Asked K → Asked K → Type 0
-  Lives k b s u = (q : K) → u.live q ≡ cond (eq k q) b (s.live q)
-
   -- the same asks
   abbrev pub SameAsks : Asked K → Asked K → Type 0
   SameAsks s u = (q : K) (a : By K) → u.asks q a ≡ s.asks q a
+
+  -- the same keys live
+  abbrev pub SameLives : Asked K → Asked K → Type 0
+  SameLives s u = (q : K) → u.live q ≡ s.live q
+
+  -- k lives or not, as b says; all other keys as they did
+  abbrev pub Lives : K → Bool → Asked K → Asked K → Type 0
+  Lives k b s u = (q : K) → u.live q ≡ cond (eq k q) b (s.live q)
 
   -- one asker more
   abbrev pub Joins : K → By K → Asked K → Asked K → Type 0
