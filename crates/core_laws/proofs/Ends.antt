@@ -15,10 +15,10 @@ use Rattle.journal.specs.declared.event.Told.{Told}
 use Rattle.journal.specs.declared.event.Told.TheVariants.{Start, Keep, End, Lost}
 use Rattle.journal.specs.declared.event.Reason.TheVariants.{Differs}
 use Rattle.journal.specs.Events.{ByValue, commits_of, decided, open_count, is_running}
-use Rattle.journal.specs.Law.{AreValues, IsAllowed, IsWanted}
-use Rattle.core_laws.specs.Tasks.{Work, Computes, Checks, Phase, IsReady, IsOut, IsWaiting, Outcome, WithValue, WithCycle, WithNothing, Standing, Works, Ended, Task, goes_on, computes, value_in, is_going, is_computing, batch_of, value_of}
+use Rattle.journal.specs.Law.{AreValues, DiffersFirst, IsAllowed, IsWanted, KeepsValue, Backs}
+use Rattle.core_laws.specs.Tasks.{Work, Computes, Checks, Phase, IsReady, IsOut, IsWaiting, Outcome, WithValue, WithCycle, WithNothing, Standing, Works, Ended, Task, goes_on, computes, waits_for, value_in, is_going, is_computing, batch_of, value_of}
 use Rattle.core_laws.specs.Stands.{GoesAlong, lost_in_epoch, OutcomeStands, AtWork, IsStanding, TaskStands, VersionStands}
-use Rattle.core_laws.specs.Changes.{Puts, SameAsks, SameLives, Lives, Withdraws}
+use Rattle.core_laws.specs.Changes.{Puts, SameAsks, SameLives, Lives, Withdraws, ChangesFirst}
 use Rattle.core_laws.proofs.OfKey.{true_or_false, no_circle_fewer, asked_before, asked_by_another, promise_stays, others_stay, LeavesOthers, named, start_leaves, keep_leaves, end_leaves, lost_leaves, task_with, task_on}
 
 -- a task at work has no value yet
@@ -119,3 +119,177 @@ module _ {K V : Type 0} (eq : K → K → Bool) (equality : IsEquality eq) (m : 
     running = running_on;
     fresh = fresh_on;
   }
+
+-- a task at work that waits for no batch goes on with other work, and waits for none
+module _ {K V : Type 0} (eq : K → K → Bool) (equality : IsEquality eq) (m : Meaning K V) (R S : List (Told K V)) (v : ℕ) (k : K) (f : LeavesOthers eq R S v k)
+    (W : List K) (s u : Asked K) (ts us : K → Option (Task K V)) (h : VersionStands eq m R v W s ts)
+    (t : Task K V) (there : ts k ≡ Some t) (working : goes_on t.standing ≡ true) (waited : waits_for t.standing ≡ None) (d : Standing K V) (works : goes_on d ≡ true) (waits : waits_for d ≡ None)
+    (sa : SameAsks eq s u) (sl : SameLives eq s u) (p : Puts eq k (Some (record { born = t.born; standing = d })) ts us)
+    (now : IsStanding eq m S v k d) (runs : is_running eq S v k ≡ computes d) where
+  turned_here : (q : K) → eq k q ≡ true → us q ≡ Some (record { born = t.born; standing = d })
+  turned_here = put_here eq equality k (Some (record { born = t.born; standing = d })) ts us p
+
+  turned_others : (q : K) → eq k q ≡ false → us q ≡ ts q
+  turned_others = put_others eq equality k (Some (record { born = t.born; standing = d })) ts us p
+
+  there_at : (q : K) → eq k q ≡ true → ts q ≡ Some t
+  there_at q y = subst (λ x. ts x ≡ Some t) (equality.same k q y) there
+
+  -- who waits afterwards is another, and waited before
+  turned_waits : (j : K) (ks : List K) → batch_of (us j) ≡ Some ks → batch_of (ts j) ≡ Some ks
+  turned_waits j ks e = elim (true_or_false (eq k j)) as (λ _. batch_of (ts j) ≡ Some ks) [
+    | inl y ↦ absurd (none-some ks (sym (ap batch_of (turned_here j y) ∙ waits) ∙ e))
+    | inr n ↦ sym (ap batch_of (turned_others j n)) ∙ e
+  ]
+
+  -- who waited before waits still
+  waited_still : (j : K) (ks : List K) → batch_of (ts j) ≡ Some ks → batch_of (us j) ≡ Some ks
+  waited_still j ks e = elim (true_or_false (eq k j)) as (λ _. batch_of (us j) ≡ Some ks) [
+    | inl y ↦ absurd (none-some ks (sym (ap batch_of (there_at j y) ∙ waited) ∙ e))
+    | inr n ↦ ap batch_of (turned_others j n) ∙ e
+  ]
+
+  turned_value : (q : K) (x : V) → value_of (ts q) ≡ Some x → value_of (us q) ≡ Some x
+  turned_value q x e = elim (true_or_false (eq k q)) as (λ _. value_of (us q) ≡ Some x) [
+    | inl y ↦ absurd (none-some x (sym (ap value_of (there_at q y) ∙ no_value_at_work t.standing working) ∙ e))
+    | inr n ↦ ap value_of (turned_others q n) ∙ e
+  ]
+
+  asked_still : (q : K) (a : By K) → s.asks q a ≡ true → u.asks q a ≡ true
+  asked_still q a e = sa q a ∙ e
+
+  asked_then : (q : K) (a : By K) → u.asks q a ≡ true → s.asks q a ≡ true
+  asked_then q a e = sym (sa q a) ∙ e
+
+  turned_awaited : (q j : K) → u.asks q (Tasked j) ≡ true → (u.live q ≡ true) ⊎ Has W q
+  turned_awaited q j e = elim (h.awaited q j (asked_then q (Tasked j) e)) as (λ _. (u.live q ≡ true) ⊎ Has W q) [ inl a ↦ inl (sl q ∙ a) | inr b ↦ inr b ]
+
+  turned_batch : (j : K) (ks : List K) → batch_of (us j) ≡ Some ks → (q : K) → Has ks q → (m.kind q ≡ Injected) ⊎ (u.asks q (Tasked j) ≡ true) ⊎ ((x : V) × (value_of (us q) ≡ Some x))
+  turned_batch j ks e q i = elim (h.batch j ks (turned_waits j ks e) q i) as (λ _. (m.kind q ≡ Injected) ⊎ (u.asks q (Tasked j) ≡ true) ⊎ ((x : V) × (value_of (us q) ≡ Some x))) [
+    | inl z ↦ inl z
+    | inr (inl z) ↦ inr (inl (asked_still q (Tasked j) z))
+    | inr (inr z) ↦ inr (inr (z.0, turned_value q z.0 z.1))
+  ]
+
+  turned_live : (q : K) → u.live q ≡ is_going (us q)
+  turned_live q = elim (true_or_false (eq k q)) as (λ _. u.live q ≡ is_going (us q)) [
+    | inl y ↦ sl q ∙ (h.live q ∙ (ap is_going (there_at q y) ∙ (working ∙ sym (ap is_going (turned_here q y) ∙ works))))
+    | inr n ↦ sl q ∙ (h.live q ∙ sym (ap is_going (turned_others q n)))
+  ]
+
+  turned_each : (q : K) (r : Task K V) → us q ≡ Some r → TaskStands eq m S v q r
+  turned_each q r e = elim (true_or_false (eq k q)) as (λ _. TaskStands eq m S v q r) [
+    | inl y ↦ subst (λ x. TaskStands eq m S v x r) (equality.same k q y)
+        (subst (TaskStands eq m S v k) (same_Some (record { born = t.born; standing = d }) r (sym (turned_here q y) ∙ e)) (task_with eq m R S v k f k t d (h.each k t there) now))
+    | inr n ↦ task_on eq m R S v k f q r n (h.each q r (sym (turned_others q n) ∙ e))
+  ]
+
+  turned_running : (q : K) → is_running eq S v q ≡ is_computing (us q)
+  turned_running q = elim (true_or_false (eq k q)) as (λ _. is_running eq S v q ≡ is_computing (us q)) [
+    | inl y ↦ subst (λ x. is_running eq S v x ≡ computes d) (equality.same k q y) runs ∙ sym (ap is_computing (turned_here q y))
+    | inr n ↦ f.runs q n ∙ (h.running q ∙ sym (ap is_computing (turned_others q n)))
+  ]
+
+  turned_fresh : (q : K) → us q ≡ None → 0 < open_count S v → decided eq S v q ≡ None
+  turned_fresh q e c = elim (true_or_false (eq k q)) as (λ _. decided eq S v q ≡ None) [
+    | inl y ↦ absurd (none-some _ (sym e ∙ turned_here q y))
+    | inr n ↦ f.decides q n ∙ h.fresh q (sym (turned_others q n) ∙ e) (rw f.count at c)
+  ]
+
+  pub task_turns : VersionStands eq m S v W u us
+  task_turns = record {
+    promised = λ q i e. (let a = h.promised q i (asked_then q (Promised i) e) in (a.0, f.live i ∙ a.1, f.opened a.0.opened ∙ a.2, a.3));
+    promises = λ i a e at c. asked_still a.key (Promised i) (h.promises i a (sym (f.live i) ∙ e) (sym (f.opened a.opened) ∙ at) c);
+    waits = λ q j e. rw f.commits (h.waits q j (asked_then q (Tasked j) e));
+    waiting = λ q j e. (let a = h.waiting q j (asked_then q (Tasked j) e) in (a.0, waited_still j a.0 a.1, a.2));
+    awaited = turned_awaited;
+    no_circle = no_circle_fewer s u asked_then h.no_circle;
+    stuck = λ j ks e. (let a = h.stuck j ks (turned_waits j ks e) in (a.0, asked_still a.0 (Tasked j) a.1));
+    batch = turned_batch;
+    live = turned_live;
+    each = turned_each;
+    running = turned_running;
+    fresh = turned_fresh;
+  }
+
+module _ {K V : Type 0} where
+  -- answers to all batches of a trace that are those of the trace
+  pub same_batches : (T A : List (Answered K V)) → GoesAlong T A → map (λ a. a.values) A ≡ map (λ b. b.values) T → A ≡ T
+  same_batches [] [] g e = refl
+  same_batches [] (a ∷ A) g e = absurd g
+  same_batches (b ∷ T) [] g e = cc
+  same_batches (b ∷ T) (a ∷ A) g e =
+      let z : a.values ∷ map (λ a. a.values) A ≡ b.values ∷ map (λ b. b.values) T = e in
+      let x : a.values ≡ b.values = cc in
+      let y : map (λ a. a.values) A ≡ map (λ b. b.values) T = cc in
+      let r = same_batches T A g.1 y in
+      let i : a ≡ b = λ i. record { keys = g.0 i; values = x i } in
+      λ j. i j ∷ r j
+
+  no_batches : (A : List (Answered K V)) → map (λ a. a.values) A ≡ [] → A ≡ []
+  no_batches [] e = refl
+  no_batches (a ∷ A) e = let z : a.values ∷ map (λ a. a.values) A ≡ [] = e in cc
+
+  -- answers to the first batches of a trace that are those of the trace but for the last
+  changed_batches : (before later : List (Answered K V)) (b : Answered K V) (ys : List V) (A : List (Answered K V)) → GoesAlong (before ++ b ∷ later) A → map (λ a. a.values) A ≡ map (λ b. b.values) before ++ ys ∷ [] → A ≡ before ++ record { keys = b.keys; values = ys } ∷ []
+  changed_batches [] later b ys [] g e = let z : [] ≡ ys ∷ [] = e in cc
+  changed_batches [] later b ys (a ∷ A) g e =
+      let z : a.values ∷ map (λ a. a.values) A ≡ ys ∷ [] = e in
+      let x : a.values ≡ ys = cc in
+      let y : map (λ a. a.values) A ≡ [] = cc in
+      let r = no_batches A y in
+      λ j. record { keys = g.0 j; values = x j } ∷ r j
+  changed_batches (c ∷ cs) later b ys [] g e = let z : [] ≡ c.values ∷ (map (λ b. b.values) cs ++ ys ∷ []) = e in cc
+  changed_batches (c ∷ cs) later b ys (a ∷ A) g e =
+      let z : a.values ∷ map (λ a. a.values) A ≡ c.values ∷ (map (λ b. b.values) cs ++ ys ∷ []) = e in
+      let x : a.values ≡ c.values = cc in
+      let y : map (λ a. a.values) A ≡ map (λ b. b.values) cs ++ ys ∷ [] = cc in
+      let r = changed_batches cs later b ys A g.1 y in
+      λ j. record { keys = g.0 j; values = x j } ∷ r j
+
+zip_split : {X Y : Type 0} (P : X → Y → Type 0) (ks ls : List X) (d : X) (xs ys : List Y) (y : Y) → length ks ≡ length xs → AllZip P (ks ++ d ∷ ls) (xs ++ y ∷ ys) → AllZip P ks xs × P d y
+zip_split P [] ls d [] ys y e z = (tt, z.0)
+zip_split P [] ls d (x ∷ xs) ys y e z = let l : length (x ∷ xs) ≡ suc (length xs) = refl in absurd (omega arith)
+zip_split P (k ∷ ks) ls d [] ys y e z = let l : length (k ∷ ks) ≡ suc (length ks) = refl in absurd (omega arith)
+zip_split P (k ∷ ks) ls d (x ∷ xs) ys y e z =
+    let a : length (k ∷ ks) ≡ suc (length ks) = refl in
+    let b : length (x ∷ xs) ≡ suc (length xs) = refl in
+    let r = zip_split P ks ls d xs ys y (omega arith) z.1 in
+    ((z.0, r.0), r.1)
+
+module _ {K V : Type 0} (eq : K → K → Bool) (m : Meaning K V) (C : List (List (K × V))) (v : ℕ) where
+  pub all_true : (A : List (Answered K V)) → AreValues eq m C v A → AllTrue (HasValue eq m C v) A
+  all_true [] h = tt
+  all_true (a ∷ A) h = (h.0, all_true A h.1)
+
+  pub last_values : (A : List (Answered K V)) (b : Answered K V) → AreValues eq m C v (A ++ b ∷ []) → AreValues eq m C v A × AllZip (HasValue eq m C v) b.keys b.values
+  last_values [] b h = (tt, h.0)
+  last_values (a ∷ A) b h = let r = last_values A b h.1 in ((h.0, r.0), r.1)
+
+module _ {K V : Type 0} (eq : K → K → Bool) (equality : IsEquality eq) (m : Meaning K V) (law : IsLawful m) (R : List (Told K V)) (v : ℕ)
+    (W : List K) (s u : Asked K) (ts us : K → Option (Task K V)) (h : VersionStands eq m R v W s ts) (k : K) (t : Task K V) (there : ts k ≡ Some t) where
+  at_work : (w : Work K V) (p : Phase K) (A : List (Answered K V)) → t.standing ≡ Works w p A → AtWork eq m R v k w p A
+  at_work w p A e = subst (IsStanding eq m R v k) e (h.each k t there).standing
+
+  runs_as : (d : Standing K V) → t.standing ≡ d → is_running eq R v k ≡ computes d
+  runs_as d e = h.running k ∙ (ap is_computing there ∙ ap computes e)
+
+  -- a run that is done: its End is allowed, and its task ends with its value
+  pub ends : (A : List (Answered K V)) (x : V) → t.standing ≡ Works Computes IsOut A → m.next k A v ≡ Ends x → IsWanted eq m R v k → Withdraws eq k s u → Lives eq k false s u → Puts eq k (Some (record { born = t.born; standing = Ended (WithValue x) })) ts us
+      → IsAllowed eq m R (End v k) × VersionStands eq m (End v k ∷ R) v (k ∷ W) u us × HasValue eq m (commits_of R) v k x × IsTrace eq m (commits_of R) v k A x
+  ends A x e done wanted w l p = (
+    (wanted, runs_as (Works Computes IsOut A) e, a.undecided, (x, value)),
+    task_ends eq equality m R (End v k ∷ R) v k (end_leaves eq equality R v k) W s u ts us h t there (ap goes_on e) (WithValue x) w l p
+        (value, ap (λ b. cond b (Some ByValue) (decided eq R v k)) (named eq equality v k)) (ap (λ b. not b && is_running eq R v k) (named eq equality v k)),
+    value,
+    record { computed = c; goes = a.work; ends = done },
+  )
+    where
+      a : AtWork eq m R v k Computes IsOut A
+      a = at_work Computes IsOut A e
+
+      c : m.kind k ≢ Injected
+      c = (h.each k t there).computed
+
+      value : HasValue eq m (commits_of R) v k x
+      value = trace_value eq m (commits_of R) v law k A x c a.work done
