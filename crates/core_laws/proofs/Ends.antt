@@ -7,7 +7,7 @@ use Rattle.dice_key.specs.Lawful.{IsLawful, IsEquality}
 use Rattle.dice_key.specs.declared.universe.Kind.TheVariants.{Injected}
 use Rattle.dice_model.specs.Log.{Has}
 use Rattle.dice_model.specs.Eval.{HasValue}
-use Rattle.dice_model.specs.Asks.{AllTrue, IsTrace}
+use Rattle.dice_model.specs.Asks.{AllTrue, Goes, IsTrace}
 use Rattle.dice_model.proofs.Traces.{trace_value}
 use Rattle.dice_model.proofs.Alike.{same_answers}
 use Rattle.task_share.specs.Asked.{By, Promised, Tasked, Asked}
@@ -17,7 +17,7 @@ use Rattle.journal.specs.declared.event.Reason.TheVariants.{Differs}
 use Rattle.journal.specs.Events.{ByValue, commits_of, decided, open_count, is_running}
 use Rattle.journal.specs.Law.{AreValues, DiffersFirst, IsAllowed, IsWanted, KeepsValue, Backs}
 use Rattle.core_laws.specs.Tasks.{Work, Computes, Checks, Phase, IsReady, IsOut, IsWaiting, Outcome, WithValue, WithCycle, WithNothing, Standing, Works, Ended, Task, goes_on, computes, waits_for, value_in, is_going, is_computing, batch_of, value_of}
-use Rattle.core_laws.specs.Stands.{GoesAlong, lost_in_epoch, OutcomeStands, AtWork, IsStanding, TaskStands, VersionStands}
+use Rattle.core_laws.specs.Stands.{GoesAlong, lost_in_epoch, WasSeen, OutcomeStands, AtWork, IsStanding, TaskStands, VersionStands}
 use Rattle.core_laws.specs.Changes.{Puts, SameAsks, SameLives, Lives, Withdraws, ChangesFirst}
 use Rattle.core_laws.proofs.OfKey.{true_or_false, no_circle_fewer, asked_before, asked_by_another, promise_stays, others_stay, LeavesOthers, named, start_leaves, keep_leaves, end_leaves, lost_leaves, task_with, task_on}
 
@@ -32,6 +32,14 @@ module _ {K V : Type 0} (eq : K → K → Bool) (equality : IsEquality eq) (k : 
 
   pub put_others : (q : K) → eq k q ≡ false → us q ≡ ts q
   put_others q e = p q ∙ ap (λ b. cond b o (ts q)) e
+
+-- the key of a task at work is undecided
+pub undecided_at_work : {K V : Type 0} (eq : K → K → Bool) (m : Meaning K V) (R : List (Told K V)) (v : ℕ) (k : K) (t : Task K V) → goes_on t.standing ≡ true → TaskStands eq m R v k t → decided eq R v k ≡ None
+undecided_at_work {K} {V} eq m R v k t e h = by_standing t.standing e h.standing
+  where
+    by_standing : (d : Standing K V) → goes_on d ≡ true → IsStanding eq m R v k d → decided eq R v k ≡ None
+    by_standing (Works w p A) e i = i.undecided
+    by_standing (Ended o) e i = cc
 
 -- a task at work ends, by an event of its key or beside one, and its asks are withdrawn
 module _ {K V : Type 0} (eq : K → K → Bool) (equality : IsEquality eq) (m : Meaning K V) (R S : List (Told K V)) (v : ℕ) (k : K) (f : LeavesOthers eq R S v k)
@@ -293,3 +301,92 @@ module _ {K V : Type 0} (eq : K → K → Bool) (equality : IsEquality eq) (m : 
 
       value : HasValue eq m (commits_of R) v k x
       value = trace_value eq m (commits_of R) v law k A x c a.work done
+
+  -- a check whose answers are all those of its trace: its Keep is allowed, and its task ends with the earlier value
+  pub keeps : (T A : List (Answered K V)) (x : V) (b : ℕ) → t.standing ≡ Works (Checks x T b) IsOut A → A ≡ T → IsWanted eq m R v k → Withdraws eq k s u → Lives eq k false s u → Puts eq k (Some (record { born = t.born; standing = Ended (WithValue x) })) ts us
+      → IsAllowed eq m R (Keep v k b) × VersionStands eq m (Keep v k b ∷ R) v (k ∷ W) u us × HasValue eq m (commits_of R) v k x × IsTrace eq m (commits_of R) v k A x
+  keeps T A x b e same wanted w l p = (
+    (wanted, (a.undecided, runs_as (Works (Checks x T b) IsOut A) e), record { base = seen.base; value = x; here = found.2; there = seen.same; lasts = inr seen.lasts }),
+    task_ends eq equality m R (Keep v k b ∷ R) v k (keep_leaves eq equality R v k b) W s u ts us h t there (ap goes_on e) (WithValue x) w l p
+        (found.2, ap (λ b. cond b (Some ByValue) (decided eq R v k)) (named eq equality v k)) (runs_as (Works (Checks x T b) IsOut A) e),
+    found.2,
+    subst (λ B. IsTrace eq m (commits_of R) v k B x) (sym same) (record { computed = c; goes = found.0; ends = found.1 }),
+  )
+    where
+      a : AtWork eq m R v k (Checks x T b) IsOut A
+      a = at_work (Checks x T b) IsOut A e
+
+      seen : WasSeen eq m R k x T b
+      seen = a.work.0
+
+      c : m.kind k ≢ Injected
+      c = (h.each k t there).computed
+
+      found : Goes eq m (commits_of R) v k [] T × (m.next k T v ≡ Ends x) × HasValue eq m (commits_of R) v k x
+      found = same_answers eq m law (commits_of R) (commits_of R) seen.finished v k T x c seen.traced.goes seen.traced.ends seen.lasts (all_true eq m (commits_of R) v T (subst (AreValues eq m (commits_of R) v) same a.work.2))
+
+  -- a check with a changed answer: its Start is allowed, with that cause, and its task computes
+  pub differs : (T A : List (Answered K V)) (x : V) (b : ℕ) (d : K) → t.standing ≡ Works (Checks x T b) IsOut A → ChangesFirst T A d → IsWanted eq m R v k → SameAsks eq s u → SameLives eq s u → Puts eq k (Some (record { born = t.born; standing = Works Computes IsReady [] })) ts us
+      → IsAllowed eq m R (Start v k (Differs b d)) × VersionStands eq m (Start v k (Differs b d) ∷ R) v W u us
+  differs T A x b d e f wanted sa sl p = (
+    (wanted, (a.undecided, runs_as (Works (Checks x T b) IsOut A) e), (seen.base, seen.finished, backs, cause)),
+    task_turns eq equality m R (Start v k (Differs b d) ∷ R) v k (start_leaves eq equality R v k (Differs b d)) W s u ts us h t there (ap goes_on e) (ap waits_for e) (Works Computes IsReady []) refl refl sa sl p
+        (record { undecided = a.undecided; work = tt; asks = tt }) (ap (λ b. b || is_running eq R v k) (named eq equality v k)),
+  )
+    where
+      a : AtWork eq m R v k (Checks x T b) IsOut A
+      a = at_work (Checks x T b) IsOut A e
+
+      seen : WasSeen eq m R k x T b
+      seen = a.work.0
+
+      c : m.kind k ≢ Injected
+      c = (h.each k t there).computed
+
+      backs : Backs eq m R seen.finished b k
+      backs = record { base = seen.finished_base; below = seen.below; alike = record { value = x; first = trace_value eq m (commits_of R) seen.finished law k T x c seen.traced.goes seen.traced.ends; second = seen.same } }
+
+      last : Answered K V
+      last = record { keys = f.batch.keys; values = f.answers }
+
+      split : AreValues eq m (commits_of R) v f.before × AllZip (HasValue eq m (commits_of R) v) f.batch.keys f.answers
+      split = last_values eq m (commits_of R) v f.before last (subst (AreValues eq m (commits_of R) v) (changed_batches f.before f.later f.batch f.answers A (subst (λ B. GoesAlong B A) f.trace_is a.work.1) f.answered) a.work.2)
+
+      first : AllZip (HasValue eq m (commits_of R) v) f.keys_before f.same × HasValue eq m (commits_of R) v d f.now
+      first = zip_split (HasValue eq m (commits_of R) v) f.keys_before f.keys_later d f.same f.now_later f.now f.counted
+          (subst (λ xs. AllZip (HasValue eq m (commits_of R) v) (f.keys_before ++ d ∷ f.keys_later) xs) f.answers_are (subst (λ ks. AllZip (HasValue eq m (commits_of R) v) ks f.answers) f.keys_are split.1))
+
+      cause : DiffersFirst eq m (commits_of R) seen.finished v k d
+      cause = record {
+        computed = c;
+        before = f.before;
+        batch = f.batch;
+        later = f.later;
+        goes = subst (Goes eq m (commits_of R) seen.finished k []) f.trace_is seen.traced.goes;
+        value = x;
+        ends = subst (λ B. m.next k B seen.finished ≡ Ends x) f.trace_is seen.traced.ends;
+        agreed = split.0;
+        keys_before = f.keys_before;
+        keys_later = f.keys_later;
+        values_before = f.same;
+        values_later = f.was_later;
+        was = f.was;
+        now = f.now;
+        keys = f.keys_are;
+        values = f.values_are;
+        agreed_first = first.0;
+        has = first.1;
+        other = f.changed;
+      }
+
+  -- a task that is given up: its Lost is allowed, and its task ends with nothing
+  pub loses : goes_on t.standing ≡ true → IsWanted eq m R v k → Withdraws eq k s u → Lives eq k false s u → Puts eq k (Some (record { born = t.born; standing = Ended WithNothing })) ts us
+      → IsAllowed eq m R (Lost v k) × VersionStands eq m (Lost v k ∷ R) v (k ∷ W) u us
+  loses going wanted w l p = (
+    (wanted, undecided),
+    task_ends eq equality m R (Lost v k ∷ R) v k (lost_leaves eq equality R v k) W s u ts us h t there going WithNothing w l p
+        (ap (λ b. b || lost_in_epoch eq R v k) (named eq equality v k), undecided) (ap (λ b. not b && is_running eq R v k) (named eq equality v k)),
+  )
+    where
+      undecided : decided eq R v k ≡ None
+      undecided = undecided_at_work eq m R v k t going (h.each k t there)
