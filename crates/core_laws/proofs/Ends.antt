@@ -17,7 +17,7 @@ use Rattle.journal.specs.declared.event.Reason.TheVariants.{Differs}
 use Rattle.journal.specs.Events.{ByValue, commits_of, decided, open_count, is_running}
 use Rattle.journal.specs.Law.{AreValues, DiffersFirst, IsAllowed, IsWanted, KeepsValue, Backs}
 use Rattle.core_laws.specs.Tasks.{Work, Computes, Checks, Phase, IsReady, IsOut, IsWaiting, Outcome, WithValue, WithCycle, WithNothing, Standing, Works, Ended, Task, goes_on, computes, waits_for, value_in, is_going, is_computing, batch_of, value_of}
-use Rattle.core_laws.specs.Stands.{GoesAlong, lost_in_epoch, WasSeen, OutcomeStands, AtWork, IsStanding, TaskStands, VersionStands}
+use Rattle.core_laws.specs.Stands.{GoesAlong, IsNextOf, lost_in_epoch, WasSeen, OutcomeStands, AtWork, IsStanding, TaskStands, VersionStands}
 use Rattle.core_laws.specs.Changes.{Puts, SameAsks, SameLives, Lives, Withdraws, ChangesFirst}
 use Rattle.core_laws.proofs.OfKey.{true_or_false, no_circle_fewer, asked_before, asked_by_another, promise_stays, others_stay, LeavesOthers, named, start_leaves, keep_leaves, end_leaves, lost_leaves, task_with, task_on}
 
@@ -234,6 +234,18 @@ module _ {K V : Type 0} where
       let i : a ≡ b = λ i. record { keys = g.0 i; values = x i } in
       λ j. i j ∷ r j
 
+  -- answers to the first batches of a trace that are those of the trace
+  pub same_front : (before rest A : List (Answered K V)) → GoesAlong (before ++ rest) A → map (λ a. a.values) A ≡ map (λ b. b.values) before → A ≡ before
+  same_front [] rest [] g e = refl
+  same_front [] rest (a ∷ A) g e = let z : a.values ∷ map (λ a. a.values) A ≡ [] = e in cc
+  same_front (b ∷ bs) rest [] g e = let z : [] ≡ b.values ∷ map (λ b. b.values) bs = e in cc
+  same_front (b ∷ bs) rest (a ∷ A) g e =
+      let z : a.values ∷ map (λ a. a.values) A ≡ b.values ∷ map (λ b. b.values) bs = e in
+      let x : a.values ≡ b.values = cc in
+      let y : map (λ a. a.values) A ≡ map (λ b. b.values) bs = cc in
+      let r = same_front bs rest A g.1 y in
+      λ j. record { keys = g.0 j; values = x j } ∷ r j
+
   no_batches : (A : List (Answered K V)) → map (λ a. a.values) A ≡ [] → A ≡ []
   no_batches [] e = refl
   no_batches (a ∷ A) e = let z : a.values ∷ map (λ a. a.values) A ≡ [] = e in cc
@@ -264,6 +276,12 @@ zip_split P (k ∷ ks) ls d (x ∷ xs) ys y e z =
     let b : length (x ∷ xs) ≡ suc (length xs) = refl in
     let r = zip_split P ks ls d xs ys y (omega arith) z.1 in
     ((z.0, r.0), r.1)
+
+-- after answers that are those of a trace's first batches, the trace's next batch is asked
+pub next_of_trace : {K V : Type 0} (eq : K → K → Bool) (m : Meaning K V) (T A before after : List (Answered K V)) (b : Answered K V) → GoesAlong T A → T ≡ before ++ b ∷ after → map (λ a. a.values) A ≡ map (λ b. b.values) before → IsNextOf eq m T A b.keys
+next_of_trace eq m T A before after b g e same =
+    let r = same_front before (b ∷ after) A (subst (λ B. GoesAlong B A) e g) same in
+    record { batch = b; later = after; trace_is = e ∙ ap (λ B. B ++ b ∷ after) (sym r); keys_are = refl }
 
 module _ {K V : Type 0} (eq : K → K → Bool) (m : Meaning K V) (C : List (List (K × V))) (v : ℕ) where
   pub all_true : (A : List (Answered K V)) → AreValues eq m C v A → AllTrue (HasValue eq m C v) A
@@ -303,9 +321,9 @@ module _ {K V : Type 0} (eq : K → K → Bool) (equality : IsEquality eq) (m : 
       value = trace_value eq m (commits_of R) v law k A x c a.work done
 
   -- a check whose answers are all those of its trace: its Keep is allowed, and its task ends with the earlier value
-  pub keeps : (T A : List (Answered K V)) (x : V) (b : ℕ) → t.standing ≡ Works (Checks x T b) IsOut A → A ≡ T → IsWanted eq m R v k → Withdraws eq k s u → Lives eq k false s u → Puts eq k (Some (record { born = t.born; standing = Ended (WithValue x) })) ts us
+  pub keeps : (T A : List (Answered K V)) (x : V) (b : ℕ) → t.standing ≡ Works (Checks x T b) IsOut A → map (λ a. a.values) A ≡ map (λ b. b.values) T → IsWanted eq m R v k → Withdraws eq k s u → Lives eq k false s u → Puts eq k (Some (record { born = t.born; standing = Ended (WithValue x) })) ts us
       → IsAllowed eq m R (Keep v k b) × VersionStands eq m (Keep v k b ∷ R) v (k ∷ W) u us × HasValue eq m (commits_of R) v k x × IsTrace eq m (commits_of R) v k A x
-  keeps T A x b e same wanted w l p = (
+  keeps T A x b e equal wanted w l p = (
     (wanted, (a.undecided, runs_as (Works (Checks x T b) IsOut A) e), record { base = seen.base; value = x; here = found.2; there = seen.same; lasts = inr seen.lasts }),
     task_ends eq equality m R (Keep v k b ∷ R) v k (keep_leaves eq equality R v k b) W s u ts us h t there (ap goes_on e) (WithValue x) w l p
         (found.2, ap (λ b. cond b (Some ByValue) (decided eq R v k)) (named eq equality v k)) (runs_as (Works (Checks x T b) IsOut A) e),
@@ -318,6 +336,9 @@ module _ {K V : Type 0} (eq : K → K → Bool) (equality : IsEquality eq) (m : 
 
       seen : WasSeen eq m R k x T b
       seen = a.work.0
+
+      same : A ≡ T
+      same = same_batches T A a.work.1 equal
 
       c : m.kind k ≢ Injected
       c = (h.each k t there).computed

@@ -1,3 +1,4 @@
 pub mod OfKey
 pub mod Held
 pub mod Ends
+pub mod Cycles
