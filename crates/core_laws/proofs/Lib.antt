@@ -2,3 +2,5 @@ pub mod OfKey
 pub mod Held
 pub mod Ends
 pub mod Cycles
+pub mod Drops
+pub mod Rest

@@ -1,0 +1,101 @@
+-- Between the engine's calls; and where nothing can be taken and nothing is out, nothing is at work.
+use Rattle.std.proofs.Common.{◌≡◌, ◌<◌, ◌+◌, ◌⊎◌, inl, inr, ℕ, zero, suc, Bool, true, false, cond, ◌&&◌, ◌||◌, List, [], ◌∷◌, length, Option, Some, None, refl, sym, ap, ◌∙◌, subst, arith}
+use Rattle.dice_key.specs.Meaning.{Meaning, Answered}
+use Rattle.dice_key.specs.Lawful.{IsEquality}
+use Rattle.dice_model.specs.Log.{Has, AreDistinct}
+use Rattle.dice_model.proofs.Finite.{few, has_or_not}
+use Rattle.task_share.specs.Asked.{By, Tasked, is_by, Asked, Leads, stays, asks_on, HasNoCircle, IsDone, Takes}
+use Rattle.journal.specs.declared.event.Told.{Told}
+use Rattle.journal.specs.Events.{open_count}
+use Rattle.core_laws.specs.Tasks.{Work, Phase, IsReady, IsOut, IsWaiting, Standing, Works, Ended, Task, goes_on, waits_for, is_going, batch_of}
+use Rattle.core_laws.specs.Stands.{VersionStands, IsAtRest}
+use Rattle.core_laws.specs.Changes.{Puts, Joins, Parks}
+use Rattle.core_laws.proofs.OfKey.{true_or_false, and_left, asked_before}
+use Rattle.core_laws.proofs.Ends.{put_here, put_others}
+use Rattle.core_laws.proofs.Drops.{going_task}
+
+-- whoever is asked for has a task
+abbrev pub AreTasked : {K V : Type 0} → Asked K → (K → Option (Task K V)) → Type 0
+AreTasked {K} {V} s ts = (k : K) (a : By K) → s.asks k a ≡ true → (t : Task K V) × (ts k ≡ Some t)
+
+-- the parts of rest
+pub rests : {K V : Type 0} (eq : K → K → Bool) (m : Meaning K V) (R : List (Told K V)) (v : ℕ) (s : Asked K) (ts : K → Option (Task K V)) → VersionStands eq m R v [] s ts → AreTasked s ts → IsDone s → (open_count R v ≡ 0 → (k : K) → ts k ≡ None) → IsAtRest eq m R v s ts
+rests eq m R v s ts h a d c = record { stands = h; tasked = a; wanted = d; closed = c }
+
+module _ {K V : Type 0} (eq : K → K → Bool) (equality : IsEquality eq) (s u : Asked K) (ts us : K → Option (Task K V)) (a : AreTasked s ts) (k : K) where
+  -- a task that is put there leaves each task there
+  put_tasked : (t : Task K V) → Puts eq k (Some t) ts us → (q : K) (r : Task K V) → ts q ≡ Some r → (r' : Task K V) × (us q ≡ Some r')
+  put_tasked t p q r e = elim (true_or_false (eq k q)) as (λ _. (r' : Task K V) × (us q ≡ Some r')) [
+    | inl y ↦ (t, put_here eq equality k (Some t) ts us p q y)
+    | inr n ↦ (r, put_others eq equality k (Some t) ts us p q n ∙ e)
+  ]
+
+  -- a task is put there, and there are no more asks than before: as where one ends, computes, or is told an answer
+  pub tasked_on_put : (t : Task K V) → Puts eq k (Some t) ts us → ((q : K) (b : By K) → u.asks q b ≡ true → s.asks q b ≡ true) → AreTasked u us
+  tasked_on_put t p fewer q b e = let r = a q b (fewer q b e) in put_tasked t p q r.0 r.1
+
+  -- one that nobody asks for is taken out
+  pub tasked_on_drop : Takes eq s k u → Puts eq k None ts us → AreTasked u us
+  tasked_on_drop w p q b e =
+      let f = asked_before eq k s u w.asks q b e in
+      elim (true_or_false (eq k q)) as (λ _. (r : Task K V) × (us q ≡ Some r)) [
+        | inl y ↦ absurd (let z : s.asks k b ≡ true = subst (λ x. s.asks x b ≡ true) (sym (equality.same k q y)) f in let i : true ≡ false = sym z ∙ w.unasked b in cc)
+        | inr n ↦ (let r = a q b f in (r.0, put_others eq equality k None ts us p q n ∙ r.1))
+      ]
+
+  -- a key that has a task is asked for
+  pub tasked_on_join : (b : By K) (t : Task K V) → ts k ≡ Some t → Joins eq k b s u → AreTasked u ts
+  tasked_on_join b t there j q c e = elim (true_or_false (s.asks q c)) as (λ _. (r : Task K V) × (ts q ≡ Some r)) [
+    | inl y ↦ a q c y
+    | inr n ↦ (t, subst (λ x. ts x ≡ Some t) (equality.same k q (and_left (eq k q) (is_by eq b c) (sym (j q c ∙ ap (λ x. x || (eq k q && is_by eq b c)) n) ∙ e))) there)
+  ]
+
+  -- the task of k asks for keys that have tasks
+  pub tasked_on_park : (ds : List K) (t : Task K V) → Puts eq k (Some t) ts us → ((d : K) → Has ds d → (r : Task K V) × (ts d ≡ Some r)) → Parks eq k ds s u → AreTasked u us
+  tasked_on_park ds t p have parks q c e = elim (parks.only q c e) as (λ _. (r : Task K V) × (us q ≡ Some r)) [
+    | inl y ↦ (let r = a q c y in put_tasked t p q r.0 r.1)
+    | inr y ↦ (let r = have q y.0 in put_tasked t p q r.0 r.1)
+  ]
+
+module _ {K : Type 0} where
+  leads_more : (s : Asked K) (a b c : K) → Leads s a b → s.asks c (Tasked b) ≡ true → Leads s a c
+  leads_more s a b c stays e = asks_on e stays
+  leads_more s a b c (asks_on {i = i} d l) e = asks_on d (leads_more s i b c l e)
+
+  module _ (eq : K → K → Bool) (equality : IsEquality eq) (s : Asked K) (all : List K) (finite : (q : K) → s.live q ≡ true → Has all q) (free : HasNoCircle s)
+      (waits : (q : K) → s.live q ≡ true → (i : K) × (s.asks i (Tasked q) ≡ true) × (s.live i ≡ true)) where
+    descends : (n : ℕ) (q : K) (path : List K) → ((e : K) → Has (q ∷ path) e → Leads s e q) → ((e : K) → Has (q ∷ path) e → s.live e ≡ true) → AreDistinct (q ∷ path) → length all < length (q ∷ path) + n → ⊥
+    descends zero q path l v d room = let z = few (q ∷ path) all d (λ e h. finite e (v e h)) in omega arith
+    descends (suc n) q path l v d room =
+        let w = waits q (v q (inl refl)) in
+        elim (has_or_not eq equality (q ∷ path) w.0) as (λ _. ⊥) [
+          | inl found ↦ free q w.0 w.1 (l w.0 found)
+          | inr fresh ↦ descends n w.0 (q ∷ path)
+              (λ x h. elim h as (λ _. Leads s x w.0) [ inl i ↦ subst (λ y. Leads s y w.0) i stays | inr g ↦ leads_more s x q w.0 (l x g) w.1 ])
+              (λ x h. elim h as (λ _. s.live x ≡ true) [ inl i ↦ subst (λ y. s.live y ≡ true) i w.2 | inr g ↦ v x g ])
+              (fresh, d) (let z : length (w.0 ∷ q ∷ path) ≡ suc (length (q ∷ path)) = refl in omega arith)
+        ]
+
+    -- where each task at work waits for one at work, none is at work
+    pub stands_still : (q : K) → s.live q ≡ true → ⊥
+    stands_still q v = descends (length all) q [] (λ e g. elim g as (λ _. Leads s e q) [ inl i ↦ subst (λ y. Leads s y q) i stays | inr b ↦ absurd b ])
+        (λ e g. elim g as (λ _. s.live e ≡ true) [ inl i ↦ subst (λ y. s.live y ≡ true) i v | inr b ↦ absurd b ]) ((λ b. b), tt) (let z : length (q ∷ []) ≡ 1 = refl in omega arith)
+
+-- where no task can be taken and none is out, none is at work
+pub quiet : {K V : Type 0} (eq : K → K → Bool) (equality : IsEquality eq) (m : Meaning K V) (R : List (Told K V)) (v : ℕ) (s : Asked K) (ts : K → Option (Task K V)) → VersionStands eq m R v [] s ts
+    → ((k : K) (t : Task K V) (w : Work K V) (A : List (Answered K V)) → ts k ≡ Some t → t.standing ≡ Works w IsReady A → ⊥) → ((k : K) (t : Task K V) (w : Work K V) (A : List (Answered K V)) → ts k ≡ Some t → t.standing ≡ Works w IsOut A → ⊥)
+    → (all : List K) → ((q : K) → s.live q ≡ true → Has all q) → (k : K) → s.live k ≡ true → ⊥
+quiet {K} {V} eq equality m R v s ts h ready out all finite k l = stands_still eq equality s all finite h.no_circle waits k l
+  where
+    waiting : (q : K) (t : Task K V) → ts q ≡ Some t → (d : Standing K V) → t.standing ≡ d → goes_on d ≡ true → (ks : List K) × (batch_of (ts q) ≡ Some ks)
+    waiting q t there (Works w IsReady A) e g = absurd (ready q t w A there e)
+    waiting q t there (Works w IsOut A) e g = absurd (out q t w A there e)
+    waiting q t there (Works w (IsWaiting ks) A) e g = (ks, ap batch_of there ∙ ap waits_for e)
+    waiting q t there (Ended o) e g = cc
+
+    waits : (q : K) → s.live q ≡ true → (i : K) × (s.asks i (Tasked q) ≡ true) × (s.live i ≡ true)
+    waits q e =
+        let t = going_task (ts q) (sym (h.live q) ∙ e) in
+        let b = waiting q t.0 t.1 t.0.standing refl t.2 in
+        let d = h.stuck q b.0 b.1 in
+        (d.0, d.1, elim (h.awaited d.0 q d.1) as (λ _. s.live d.0 ≡ true) [ inl y ↦ y | inr y ↦ absurd y ])
