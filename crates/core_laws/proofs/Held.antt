@@ -1,5 +1,5 @@
 -- What is held is wanted: a chain of asks leads from a promise to each task at work.
-use Rattle.std.proofs.Common.{◌≡◌, ◌<◌, ◌+◌, ◌⊎◌, inl, inr, ℕ, zero, suc, Bool, true, false, List, [], ◌∷◌, length, Option, Some, None, refl, sym, ap, ◌∙◌, subst, arith}
+use Rattle.std.proofs.Common.{◌≡◌, ◌<◌, ◌+◌, ◌⊎◌, inl, inr, ℕ, zero, suc, Bool, true, false, cond, List, [], ◌∷◌, length, Option, Some, None, refl, sym, ap, ◌∙◌, subst, arith, eq-eqb}
 use Rattle.dice_key.specs.Meaning.{Meaning}
 use Rattle.dice_key.specs.Lawful.{IsEquality}
 use Rattle.dice_model.specs.Log.{Has, AreDistinct}
@@ -7,12 +7,13 @@ use Rattle.dice_model.specs.Asks.{AsksFor, Reaches, here, through}
 use Rattle.dice_model.proofs.Finite.{few, has_or_not}
 use Rattle.task_share.specs.Asked.{By, Promised, Tasked, Asked, Held, by_promise, by_task, Leads, stays, asks_on, HasNoCircle, AskersLive, IsDone}
 use Rattle.journal.specs.declared.event.Told.{Told}
-use Rattle.journal.specs.declared.event.Told.TheVariants.{Start, Keep, End, Cyclic, Drop, Lost}
+use Rattle.journal.specs.declared.event.Told.TheVariants.{Ask, Start, Keep, End, Cyclic, Drop, Lost}
 use Rattle.journal.specs.declared.event.Reason.{Reason}
-use Rattle.journal.specs.Events.{commits_of}
-use Rattle.journal.specs.Law.{IsWanted}
+use Rattle.journal.specs.Events.{Asking, commits_of, opened_at, open_count, live_at, asked_in_epoch}
+use Rattle.journal.specs.Law.{IsWanted, IsLawfulBack}
 use Rattle.core_laws.specs.Tasks.{Task, Standing, Works, Ended, Work, Phase, IsReady, IsOut, IsWaiting, is_going, batch_of}
 use Rattle.core_laws.specs.Stands.{VersionStands, IsAtRest}
+use Rattle.core_laws.proofs.Indices.{live_asked, live_counts}
 
 module _ {K : Type 0} (eq : K → K → Bool) (equality : IsEquality eq) (s : Asked K) (done : IsDone s) (free : HasNoCircle s) (living : AskersLive s) (all : List K) (finite : (q : K) → s.live q ≡ true → Has all q) where
   rises : (n : ℕ) (q : K) (path : List K) → ((e : K) → Has (q ∷ path) e → Leads s q e) → ((e : K) → Has (q ∷ path) e → s.live e ≡ true) → AreDistinct (q ∷ path) → length all < length (q ∷ path) + n → Held s q
@@ -95,3 +96,22 @@ module _ {K V : Type 0} (eq : K → K → Bool) (m : Meaning K V) where
     -- between the engine's calls each task at work is wanted
     pub all_wanted : IsEquality eq → (s : Asked K) (ts : K → Option (Task K V)) → IsAtRest eq m R v s ts → (all : List K) → ((q : K) → s.live q ≡ true → Has all q) → (k : K) → s.live k ≡ true → IsWanted eq m R v k
     all_wanted equality s ts h all finite k l = held_wanted [] s ts h.stands k (climbs eq equality s h.wanted h.stands.no_circle (askers_live [] s ts h.stands) all finite k l)
+
+  -- what is wanted is reached by a key that was asked for in the epoch, and a transaction is open
+  pub wanted_once : IsEquality eq → (R : List (Told K V)) (v : ℕ) (k : K) → IsLawfulBack eq m R → IsWanted eq m R v k → (once : K) × (asked_in_epoch eq R v once ≡ true) × Reaches eq m (commits_of R) v once k × (0 < open_count R v)
+  wanted_once equality R v k lawful w = (
+    w.asking.key,
+    live_asked eq equality m R v w.ask w.asking lawful w.live w.at,
+    w.reaches,
+    live_counts eq m R v w.ask w.asking lawful w.live w.at,
+  )
+
+  -- the key of a new ask is wanted
+  pub wanted_asked : (R : List (Told K V)) (v by t : ℕ) (k : K) → opened_at R v t ≡ true → IsWanted eq m (Ask by t k ∷ R) v k
+  wanted_asked R v by t k o = record {
+    ask = length R;
+    asking = record { by = by; opened = t; key = k };
+    live = ap (λ b. cond b (Some (record { by = by; opened = t; key = k })) (live_at R (length R))) (eq-eqb (length R) (length R) refl);
+    at = o;
+    reaches = here;
+  }

@@ -1,3 +1,4 @@
+pub mod Indices
 pub mod OfKey
 pub mod Held
 pub mod Ends
