@@ -13,25 +13,29 @@ use Rattle.journal.specs.Law.{IsAllowed}
 use Rattle.core_laws.specs.Tasks.{Task, goes_on, is_going, is_computing, batch_of, value_of}
 use Rattle.core_laws.specs.Stands.{TaskStands, VersionStands}
 use Rattle.core_laws.specs.Changes.{Puts}
-use Rattle.core_laws.proofs.OfKey.{true_or_false, and_false, no_circle_fewer, asked_before, asked_by_another, promise_stays, others_stay, LeavesOthers, named, drop_leaves, task_on}
-use Rattle.core_laws.proofs.Ends.{no_value_at_work, undecided_at_work, put_here, put_others}
+use Rattle.core_laws.proofs.Shapes.{and_none, and_all, not_both, leads_fewer, same_or_other, put_here, put_other}
+use Rattle.core_laws.proofs.OfKey.{asked_before, asked_by_another, promise_stays, others_stay, LeavesOthers, named, drop_leaves, task_on}
+use Rattle.core_laws.proofs.Ends.{no_value_at_work, undecided_at_work}
 
 -- what is at work is a task
 pub going_task : {K V : Type 0} (o : Option (Task K V)) → is_going o ≡ true → (t : Task K V) × (o ≡ Some t) × (goes_on t.standing ≡ true)
 going_task None e = cc
 going_task (Some t) e = (t, refl, e)
 
-and_true : (a b : Bool) → b ≡ true → (a && b) ≡ a
-and_true true b e = e
-and_true false b e = refl
+-- who is asked for is not taken
+pub asked_stays : {K : Type 0} (eq : K → K → Bool) (equality : IsEquality eq) (k : K) (s u : Asked K) → Takes eq s k u → (q : K) (a : By K) → s.asks q a ≡ true → eq k q ≡ false
+asked_stays eq equality k s u w q a e = elim (same_or_other eq equality k q) as (λ _. eq k q ≡ false) [
+  | inl i ↦ absurd (not_both (subst (λ x. s.asks x a ≡ true) (sym i) e) (w.unasked a))
+  | inr n ↦ n
+]
 
 module _ {K V : Type 0} (eq : K → K → Bool) (equality : IsEquality eq) (m : Meaning K V) (R : List (Told K V)) (v : ℕ)
     (W : List K) (s u : Asked K) (ts us : K → Option (Task K V)) (h : VersionStands eq m R v W s ts) (k : K) (w : Takes eq s k u) (p : Puts eq k None ts us) where
-  here : (q : K) → eq k q ≡ true → us q ≡ None
+  here : us k ≡ None
   here = put_here eq equality k None ts us p
 
   others : (q : K) → eq k q ≡ false → us q ≡ ts q
-  others = put_others eq equality k None ts us p
+  others = put_other eq equality k None ts us p
 
   taken : (t : Task K V) × (ts k ≡ Some t) × (goes_on t.standing ≡ true)
   taken = going_task (ts k) (sym (h.live k) ∙ w.taken)
@@ -42,31 +46,24 @@ module _ {K V : Type 0} (eq : K → K → Bool) (equality : IsEquality eq) (m : 
   undecided : decided eq R v k ≡ None
   undecided = undecided_at_work eq m R v k taken.0 taken.2 (h.each k taken.0 taken.1)
 
-  -- who is asked for is not dropped
-  asked_stays : (q : K) (a : By K) → s.asks q a ≡ true → eq k q ≡ false
-  asked_stays q a e = elim (true_or_false (eq k q)) as (λ _. eq k q ≡ false) [
-    | inl y ↦ absurd (let z : s.asks k a ≡ true = subst (λ x. s.asks x a ≡ true) (sym (equality.same k q y)) e in let f : true ≡ false = sym z ∙ w.unasked a in cc)
-    | inr n ↦ n
-  ]
-
   live_others : (q : K) → eq k q ≡ false → u.live q ≡ s.live q
-  live_others q n = w.live q ∙ and_true (s.live q) (not (eq k q)) (ap not n)
+  live_others q n = w.live q ∙ (ap (λ b. s.live q && not b) n ∙ and_all (s.live q))
 
   awaited_on : (d j : K) → u.asks d (Tasked j) ≡ true → (u.live d ≡ true) ⊎ Has W d
   awaited_on d j e = elim (h.awaited d j (before d (Tasked j) e)) as (λ _. (u.live d ≡ true) ⊎ Has W d) [
-    | inl a ↦ inl (live_others d (asked_stays d (Tasked j) (before d (Tasked j) e)) ∙ a)
+    | inl a ↦ inl (live_others d (asked_stays eq equality k s u w d (Tasked j) (before d (Tasked j) e)) ∙ a)
     | inr b ↦ inr b
   ]
 
   waits_still : (j : K) (ks : List K) → batch_of (us j) ≡ Some ks → (eq k j ≡ false) × (batch_of (ts j) ≡ Some ks)
-  waits_still j ks e = elim (true_or_false (eq k j)) as (λ _. (eq k j ≡ false) × (batch_of (ts j) ≡ Some ks)) [
-    | inl y ↦ absurd (none-some ks (sym (ap batch_of (here j y)) ∙ e))
+  waits_still j ks e = elim (same_or_other eq equality k j) as (λ _. (eq k j ≡ false) × (batch_of (ts j) ≡ Some ks)) [
+    | inl i ↦ absurd (none-some ks (sym (ap batch_of (subst (λ y. us y ≡ None) i here)) ∙ e))
     | inr n ↦ (n, sym (ap batch_of (others j n)) ∙ e)
   ]
 
   value_still : (d : K) (x : V) → value_of (ts d) ≡ Some x → value_of (us d) ≡ Some x
-  value_still d x e = elim (true_or_false (eq k d)) as (λ _. value_of (us d) ≡ Some x) [
-    | inl y ↦ absurd (none-some x (sym (ap value_of (subst (λ q. ts q ≡ Some taken.0) (equality.same k d y) taken.1) ∙ no_value_at_work taken.0.standing taken.2) ∙ e))
+  value_still d x e = elim (same_or_other eq equality k d) as (λ _. value_of (us d) ≡ Some x) [
+    | inl i ↦ absurd (none-some x (sym (ap value_of (subst (λ q. ts q ≡ Some taken.0) i taken.1) ∙ no_value_at_work taken.0.standing taken.2) ∙ e))
     | inr n ↦ ap value_of (others d n) ∙ e
   ]
 
@@ -80,26 +77,26 @@ module _ {K V : Type 0} (eq : K → K → Bool) (equality : IsEquality eq) (m : 
       ]
 
   live_on : (q : K) → u.live q ≡ is_going (us q)
-  live_on q = elim (true_or_false (eq k q)) as (λ _. u.live q ≡ is_going (us q)) [
-    | inl y ↦ w.live q ∙ (and_false (s.live q) (not (eq k q)) (ap not y) ∙ sym (ap is_going (here q y)))
+  live_on q = elim (same_or_other eq equality k q) as (λ _. u.live q ≡ is_going (us q)) [
+    | inl i ↦ subst (λ y. u.live y ≡ is_going (us y)) i (w.live k ∙ (ap (λ b. s.live k && not b) (equality.itself k) ∙ (and_none (s.live k) ∙ sym (ap is_going here))))
     | inr n ↦ live_others q n ∙ (h.live q ∙ sym (ap is_going (others q n)))
   ]
 
   each_on : (q : K) (r : Task K V) → us q ≡ Some r → TaskStands eq m (Drop v k ∷ R) v q r
-  each_on q r e = elim (true_or_false (eq k q)) as (λ _. TaskStands eq m (Drop v k ∷ R) v q r) [
-    | inl y ↦ absurd (none-some r (sym (here q y) ∙ e))
+  each_on q r e = elim (same_or_other eq equality k q) as (λ _. TaskStands eq m (Drop v k ∷ R) v q r) [
+    | inl i ↦ absurd (none-some r (sym (subst (λ y. us y ≡ None) i here) ∙ e))
     | inr n ↦ task_on eq m R (Drop v k ∷ R) v k (drop_leaves eq equality R v k) q r n (h.each q r (sym (others q n) ∙ e))
   ]
 
   running_on : (q : K) → is_running eq (Drop v k ∷ R) v q ≡ is_computing (us q)
-  running_on q = elim (true_or_false (eq k q)) as (λ _. is_running eq (Drop v k ∷ R) v q ≡ is_computing (us q)) [
-    | inl y ↦ subst (λ x. is_running eq (Drop v k ∷ R) v x ≡ false) (equality.same k q y) (ap (λ b. not b && is_running eq R v k) (named eq equality v k)) ∙ sym (ap is_computing (here q y))
+  running_on q = elim (same_or_other eq equality k q) as (λ _. is_running eq (Drop v k ∷ R) v q ≡ is_computing (us q)) [
+    | inl i ↦ subst (λ y. is_running eq (Drop v k ∷ R) v y ≡ is_computing (us y)) i (ap (λ b. not b && is_running eq R v k) (named eq equality v k) ∙ sym (ap is_computing here))
     | inr n ↦ (drop_leaves eq equality R v k).runs q n ∙ (h.running q ∙ sym (ap is_computing (others q n)))
   ]
 
   fresh_on : (q : K) → us q ≡ None → 0 < open_count R v → decided eq R v q ≡ None
-  fresh_on q e c = elim (true_or_false (eq k q)) as (λ _. decided eq R v q ≡ None) [
-    | inl y ↦ subst (λ x. decided eq R v x ≡ None) (equality.same k q y) undecided
+  fresh_on q e c = elim (same_or_other eq equality k q) as (λ _. decided eq R v q ≡ None) [
+    | inl i ↦ subst (λ y. decided eq R v y ≡ None) i undecided
     | inr n ↦ h.fresh q (sym (others q n) ∙ e) c
   ]
 
@@ -109,7 +106,7 @@ module _ {K V : Type 0} (eq : K → K → Bool) (equality : IsEquality eq) (m : 
     record {
       undecided = undecided;
       unasked = λ i a e at y. (let z : s.asks a.key (Promised i) ≡ true = h.promises i a e at (λ c. (h.each k taken.0 taken.1).computed (subst (λ x. m.kind x ≡ Injected) y c)) in
-          let x : s.asks k (Promised i) ≡ true = subst (λ q. s.asks q (Promised i) ≡ true) y z in let f : true ≡ false = sym x ∙ w.unasked (Promised i) in cc);
+          not_both (subst (λ q. s.asks q (Promised i) ≡ true) y z) (w.unasked (Promised i)));
       once = (h.each k taken.0 taken.1).once;
       asked = (h.each k taken.0 taken.1).asked;
       reaches = (h.each k taken.0 taken.1).reached;
@@ -121,7 +118,7 @@ module _ {K V : Type 0} (eq : K → K → Bool) (equality : IsEquality eq) (m : 
       waits = λ d j e. h.waits d j (before d (Tasked j) e);
       waiting = λ d j e. (let a = h.waiting d j (before d (Tasked j) e) in (a.0, ap batch_of (others j (asked_by_another eq k s u w.asks d j e)) ∙ a.1, a.2));
       awaited = awaited_on;
-      no_circle = no_circle_fewer s u before h.no_circle;
+      no_circle = λ a i e l. h.no_circle a i (before i (Tasked a) e) (leads_fewer s u before i a l);
       stuck = λ j ks e. (let a = waits_still j ks e in let d = h.stuck j ks a.1 in (d.0, others_stay eq k s u w.asks d.0 j a.0 d.1));
       batch = batch_on;
       live = live_on;

@@ -19,19 +19,13 @@ use Rattle.journal.specs.Law.{AreValues, DiffersFirst, IsAllowed, IsWanted, Keep
 use Rattle.core_laws.specs.Tasks.{Work, Computes, Checks, Phase, IsReady, IsOut, IsWaiting, Outcome, WithValue, WithCycle, WithNothing, Standing, Works, Ended, Task, goes_on, computes, waits_for, value_in, is_going, is_computing, batch_of, value_of}
 use Rattle.core_laws.specs.Stands.{GoesAlong, IsNextOf, lost_in_epoch, WasSeen, OutcomeStands, AtWork, IsStanding, TaskStands, VersionStands}
 use Rattle.core_laws.specs.Changes.{Puts, SameAsks, SameLives, Lives, Withdraws, ChangesFirst}
-use Rattle.core_laws.proofs.OfKey.{true_or_false, no_circle_fewer, asked_before, asked_by_another, promise_stays, others_stay, LeavesOthers, named, start_leaves, keep_leaves, end_leaves, lost_leaves, task_with, task_on}
+use Rattle.core_laws.proofs.Shapes.{not_both, same_or_other, put_each, put_fact, put_none, Shape, shape_of, asks_nothing, eased}
+use Rattle.core_laws.proofs.OfKey.{asked_before, asked_by_another, promise_stays, others_stay, LeavesOthers, named, start_leaves, keep_leaves, end_leaves, lost_leaves, task_with, task_on}
 
 -- a task at work has no value yet
 pub no_value_at_work : {K V : Type 0} (d : Standing K V) → goes_on d ≡ true → value_in d ≡ None
 no_value_at_work (Works w p A) e = refl
 no_value_at_work (Ended o) e = cc
-
-module _ {K V : Type 0} (eq : K → K → Bool) (equality : IsEquality eq) (k : K) (o : Option (Task K V)) (ts us : K → Option (Task K V)) (p : Puts eq k o ts us) where
-  pub put_here : (q : K) → eq k q ≡ true → us q ≡ o
-  put_here q e = p q ∙ ap (λ b. cond b o (ts q)) e
-
-  pub put_others : (q : K) → eq k q ≡ false → us q ≡ ts q
-  put_others q e = p q ∙ ap (λ b. cond b o (ts q)) e
 
 -- the key of a task at work is undecided
 pub undecided_at_work : {K V : Type 0} (eq : K → K → Bool) (m : Meaning K V) (R : List (Told K V)) (v : ℕ) (k : K) (t : Task K V) → goes_on t.standing ≡ true → TaskStands eq m R v k t → decided eq R v k ≡ None
@@ -41,184 +35,55 @@ undecided_at_work {K} {V} eq m R v k t e h = by_standing t.standing e h.standing
     by_standing (Works w p A) e i = i.undecided
     by_standing (Ended o) e i = cc
 
--- a task at work ends, by an event of its key or beside one, and its asks are withdrawn
+-- a task at work is put elsewhere, so that it waits for nothing and its key asks for nothing, by an event of its key or beside one
 module _ {K V : Type 0} (eq : K → K → Bool) (equality : IsEquality eq) (m : Meaning K V) (R S : List (Told K V)) (v : ℕ) (k : K) (f : LeavesOthers eq R S v k)
-    (W : List K) (s u : Asked K) (ts us : K → Option (Task K V)) (h : VersionStands eq m R v W s ts)
-    (t : Task K V) (there : ts k ≡ Some t) (working : goes_on t.standing ≡ true) (o : Outcome K V)
-    (w : Withdraws eq k s u) (l : Lives eq k false s u) (p : Puts eq k (Some (record { born = t.born; standing = Ended o })) ts us)
-    (now : OutcomeStands eq m S v k o) (stops : is_running eq S v k ≡ false) where
-  here : (q : K) → eq k q ≡ true → us q ≡ Some (record { born = t.born; standing = Ended o })
-  here = put_here eq equality k (Some (record { born = t.born; standing = Ended o })) ts us p
-
-  others : (q : K) → eq k q ≡ false → us q ≡ ts q
-  others = put_others eq equality k (Some (record { born = t.born; standing = Ended o })) ts us p
-
-  before : (q : K) (a : By K) → u.asks q a ≡ true → s.asks q a ≡ true
-  before = asked_before eq k s u w
-
-  awaited_on : (d j : K) → u.asks d (Tasked j) ≡ true → (u.live d ≡ true) ⊎ Has (k ∷ W) d
-  awaited_on d j e = elim (true_or_false (eq k d)) as (λ _. (u.live d ≡ true) ⊎ Has (k ∷ W) d) [
-    | inl y ↦ inr (inl (equality.same k d y))
-    | inr n ↦ elim (h.awaited d j (before d (Tasked j) e)) as (λ _. (u.live d ≡ true) ⊎ Has (k ∷ W) d) [
-      | inl a ↦ inl (l d ∙ (ap (λ b. cond b false (s.live d)) n ∙ a))
-      | inr b ↦ inr (inr b)
-    ]
-  ]
-
-  -- a task that waits afterwards is another, and waited before
-  waits_still : (j : K) (ks : List K) → batch_of (us j) ≡ Some ks → (eq k j ≡ false) × (batch_of (ts j) ≡ Some ks)
-  waits_still j ks e = elim (true_or_false (eq k j)) as (λ _. (eq k j ≡ false) × (batch_of (ts j) ≡ Some ks)) [
-    | inl y ↦ absurd (none-some ks (sym (ap batch_of (here j y)) ∙ e))
-    | inr n ↦ (n, sym (ap batch_of (others j n)) ∙ e)
-  ]
-
-  value_still : (d : K) (x : V) → value_of (ts d) ≡ Some x → value_of (us d) ≡ Some x
-  value_still d x e = elim (true_or_false (eq k d)) as (λ _. value_of (us d) ≡ Some x) [
-    | inl y ↦ absurd (none-some x (sym (ap value_of (subst (λ q. ts q ≡ Some t) (equality.same k d y) there) ∙ no_value_at_work t.standing working) ∙ e))
-    | inr n ↦ ap value_of (others d n) ∙ e
-  ]
-
-  batch_on : (j : K) (ks : List K) → batch_of (us j) ≡ Some ks → (d : K) → Has ks d → (m.kind d ≡ Injected) ⊎ (u.asks d (Tasked j) ≡ true) ⊎ ((x : V) × (value_of (us d) ≡ Some x))
-  batch_on j ks e d i =
-      let a = waits_still j ks e in
-      elim (h.batch j ks a.1 d i) as (λ _. (m.kind d ≡ Injected) ⊎ (u.asks d (Tasked j) ≡ true) ⊎ ((x : V) × (value_of (us d) ≡ Some x))) [
-        | inl z ↦ inl z
-        | inr (inl z) ↦ inr (inl (others_stay eq k s u w d j a.0 z))
-        | inr (inr z) ↦ inr (inr (z.0, value_still d z.0 z.1))
-      ]
-
-  live_on : (q : K) → u.live q ≡ is_going (us q)
-  live_on q = elim (true_or_false (eq k q)) as (λ _. u.live q ≡ is_going (us q)) [
-    | inl y ↦ l q ∙ (ap (λ b. cond b false (s.live q)) y ∙ sym (ap is_going (here q y)))
-    | inr n ↦ l q ∙ (ap (λ b. cond b false (s.live q)) n ∙ (h.live q ∙ sym (ap is_going (others q n))))
-  ]
-
-  each_on : (q : K) (r : Task K V) → us q ≡ Some r → TaskStands eq m S v q r
-  each_on q r e = elim (true_or_false (eq k q)) as (λ _. TaskStands eq m S v q r) [
-    | inl y ↦ subst (λ x. TaskStands eq m S v x r) (equality.same k q y)
-        (subst (TaskStands eq m S v k) (same_Some (record { born = t.born; standing = Ended o }) r (sym (here q y) ∙ e)) (task_with eq m R S v k f k t (Ended o) (h.each k t there) now))
-    | inr n ↦ task_on eq m R S v k f q r n (h.each q r (sym (others q n) ∙ e))
-  ]
-
-  running_on : (q : K) → is_running eq S v q ≡ is_computing (us q)
-  running_on q = elim (true_or_false (eq k q)) as (λ _. is_running eq S v q ≡ is_computing (us q)) [
-    | inl y ↦ subst (λ x. is_running eq S v x ≡ false) (equality.same k q y) stops ∙ sym (ap is_computing (here q y))
-    | inr n ↦ f.runs q n ∙ (h.running q ∙ sym (ap is_computing (others q n)))
-  ]
-
-  fresh_on : (q : K) → us q ≡ None → 0 < open_count S v → decided eq S v q ≡ None
-  fresh_on q e c = elim (true_or_false (eq k q)) as (λ _. decided eq S v q ≡ None) [
-    | inl y ↦ absurd (none-some _ (sym e ∙ here q y))
-    | inr n ↦ f.decides q n ∙ h.fresh q (sym (others q n) ∙ e) (rw f.count at c)
-  ]
-
-  pub task_ends : VersionStands eq m S v (k ∷ W) u us
-  task_ends = record {
-    promised = λ q i e. (let a = h.promised q i (before q (Promised i) e) in (a.0, f.live i ∙ a.1, f.opened a.0.opened ∙ a.2, a.3));
-    promises = λ i a e at c. promise_stays eq k s u w a.key i (h.promises i a (sym (f.live i) ∙ e) (sym (f.opened a.opened) ∙ at) c);
-    waits = λ d j e. rw f.commits (h.waits d j (before d (Tasked j) e));
-    waiting = λ d j e. (let a = h.waiting d j (before d (Tasked j) e) in (a.0, ap batch_of (others j (asked_by_another eq k s u w d j e)) ∙ a.1, a.2));
-    awaited = awaited_on;
-    no_circle = no_circle_fewer s u before h.no_circle;
-    stuck = λ j ks e. (let a = waits_still j ks e in let d = h.stuck j ks a.1 in (d.0, others_stay eq k s u w d.0 j a.0 d.1));
-    batch = batch_on;
-    live = live_on;
-    each = each_on;
-    running = running_on;
-    fresh = fresh_on;
+    (W : List K) (s u : Asked K) (ts us : K → Option (Task K V)) (h : VersionStands eq m R v W s ts) (t : Task K V) (there : ts k ≡ Some t) where
+  -- the parts that are read in the journal
+  task_put : (d : Standing K V) (X : List K) → Puts eq k (Some (record { born = t.born; standing = d })) ts us → IsStanding eq m S v k d → is_running eq S v k ≡ computes d
+      → ((q : K) (a : By K) → u.asks q a ≡ true → s.asks q a ≡ true) → ((q : K) (i : ℕ) → s.asks q (Promised i) ≡ true → u.asks q (Promised i) ≡ true) → Shape m X u us → VersionStands eq m S v X u us
+  task_put d X p now runs fewer promise_on shape = record {
+    promised = λ q i e. (let a = h.promised q i (fewer q (Promised i) e) in (a.0, f.live i ∙ a.1, f.opened a.0.opened ∙ a.2, a.3));
+    promises = λ i a e at c. promise_on a.key i (h.promises i a (sym (f.live i) ∙ e) (sym (f.opened a.opened) ∙ at) c);
+    waits = λ q j e. rw f.commits (h.waits q j (fewer q (Tasked j) e));
+    waiting = shape.waiting;
+    awaited = shape.awaited;
+    no_circle = shape.no_circle;
+    stuck = shape.stuck;
+    batch = shape.batch;
+    live = shape.live;
+    each = put_each eq equality k (record { born = t.born; standing = d }) ts us p (TaskStands eq m S v) (task_with eq m R S v k f k t d (h.each k t there) now) (λ q r n e. task_on eq m R S v k f q r n (h.each q r e));
+    running = put_fact eq equality k (record { born = t.born; standing = d }) ts us p (λ q o. is_running eq S v q ≡ is_computing o) runs (λ q n. f.runs q n ∙ h.running q);
+    fresh = λ q e c. (let a = put_none eq equality k (record { born = t.born; standing = d }) ts us p q e in f.decides q a.0 ∙ h.fresh q a.1 (rw f.count at c));
   }
 
--- a task at work that waits for no batch goes on with other work, and waits for none
-module _ {K V : Type 0} (eq : K → K → Bool) (equality : IsEquality eq) (m : Meaning K V) (R S : List (Told K V)) (v : ℕ) (k : K) (f : LeavesOthers eq R S v k)
-    (W : List K) (s u : Asked K) (ts us : K → Option (Task K V)) (h : VersionStands eq m R v W s ts)
-    (t : Task K V) (there : ts k ≡ Some t) (working : goes_on t.standing ≡ true) (waited : waits_for t.standing ≡ None) (d : Standing K V) (works : goes_on d ≡ true) (waits : waits_for d ≡ None)
-    (sa : SameAsks eq s u) (sl : SameLives eq s u) (p : Puts eq k (Some (record { born = t.born; standing = d })) ts us)
-    (now : IsStanding eq m S v k d) (runs : is_running eq S v k ≡ computes d) where
-  turned_here : (q : K) → eq k q ≡ true → us q ≡ Some (record { born = t.born; standing = d })
-  turned_here = put_here eq equality k (Some (record { born = t.born; standing = d })) ts us p
+  module _ (working : goes_on t.standing ≡ true) where
+    no_value : (d : Standing K V) (x : V) → value_of (ts k) ≡ Some x → (y : V) × (value_in d ≡ Some y)
+    no_value d x e = absurd (none-some x (sym (ap value_of there ∙ no_value_at_work t.standing working) ∙ e))
 
-  turned_others : (q : K) → eq k q ≡ false → us q ≡ ts q
-  turned_others = put_others eq equality k (Some (record { born = t.born; standing = d })) ts us p
+    -- one more key whose askers are to be told
+    wider : Shape m W s ts → Shape m (k ∷ W) s ts
+    wider i = record { waiting = i.waiting; awaited = λ q j e. elim (i.awaited q j e) as (λ _. (s.live q ≡ true) ⊎ Has (k ∷ W) q) [ inl a ↦ inl a | inr b ↦ inr (inr b) ]; no_circle = i.no_circle; stuck = i.stuck; batch = i.batch; live = i.live }
 
-  there_at : (q : K) → eq k q ≡ true → ts q ≡ Some t
-  there_at q y = subst (λ x. ts x ≡ Some t) (equality.same k q y) there
+    -- it ends, and its asks are withdrawn
+    pub task_ends : (o : Outcome K V) → Withdraws eq k s u → Lives eq k false s u → Puts eq k (Some (record { born = t.born; standing = Ended o })) ts us → OutcomeStands eq m S v k o → is_running eq S v k ≡ false → VersionStands eq m S v (k ∷ W) u us
+    task_ends o w l p now stops = task_put (Ended o) (k ∷ W) p now stops (asked_before eq k s u w) (promise_stays eq k s u w)
+        (eased eq equality m (k ∷ W) s u ts us k (record { born = t.born; standing = Ended o }) (wider (shape_of eq m R v W s ts h)) p l (asked_before eq k s u w) (λ q i n a. others_stay eq k s u w q i n a)
+            (λ q a. not_both (equality.itself k) (asked_by_another eq k s u w q k a)) refl (λ i a. inr (inl refl)) (no_value (Ended o)))
 
-  -- who waits afterwards is another, and waited before
-  turned_waits : (j : K) (ks : List K) → batch_of (us j) ≡ Some ks → batch_of (ts j) ≡ Some ks
-  turned_waits j ks e = elim (true_or_false (eq k j)) as (λ _. batch_of (ts j) ≡ Some ks) [
-    | inl y ↦ absurd (none-some ks (sym (ap batch_of (turned_here j y) ∙ waits) ∙ e))
-    | inr n ↦ sym (ap batch_of (turned_others j n)) ∙ e
-  ]
+    -- it goes on with other work
+    pub task_turns : (d : Standing K V) → waits_for t.standing ≡ None → goes_on d ≡ true → waits_for d ≡ None → SameAsks eq s u → SameLives eq s u → Puts eq k (Some (record { born = t.born; standing = d })) ts us → IsStanding eq m S v k d → is_running eq S v k ≡ computes d → VersionStands eq m S v W u us
+    task_turns d waited works waits sa sl p now runs = task_put d W p now runs asked_then (λ q i e. sa q (Promised i) ∙ e)
+        (eased eq equality m W s u ts us k (record { born = t.born; standing = d }) (shape_of eq m R v W s ts h) p lives asked_then (λ q i n e. sa q (Tasked i) ∙ e)
+            (λ q a. asks_nothing eq m R v W s ts h k (ap batch_of there ∙ waited) q (asked_then q (Tasked k) a)) waits (λ i a. inl works) (no_value d))
+      where
+        asked_then : (q : K) (a : By K) → u.asks q a ≡ true → s.asks q a ≡ true
+        asked_then q a e = sym (sa q a) ∙ e
 
-  -- who waited before waits still
-  waited_still : (j : K) (ks : List K) → batch_of (ts j) ≡ Some ks → batch_of (us j) ≡ Some ks
-  waited_still j ks e = elim (true_or_false (eq k j)) as (λ _. batch_of (us j) ≡ Some ks) [
-    | inl y ↦ absurd (none-some ks (sym (ap batch_of (there_at j y) ∙ waited) ∙ e))
-    | inr n ↦ ap batch_of (turned_others j n) ∙ e
-  ]
-
-  turned_value : (q : K) (x : V) → value_of (ts q) ≡ Some x → value_of (us q) ≡ Some x
-  turned_value q x e = elim (true_or_false (eq k q)) as (λ _. value_of (us q) ≡ Some x) [
-    | inl y ↦ absurd (none-some x (sym (ap value_of (there_at q y) ∙ no_value_at_work t.standing working) ∙ e))
-    | inr n ↦ ap value_of (turned_others q n) ∙ e
-  ]
-
-  asked_still : (q : K) (a : By K) → s.asks q a ≡ true → u.asks q a ≡ true
-  asked_still q a e = sa q a ∙ e
-
-  asked_then : (q : K) (a : By K) → u.asks q a ≡ true → s.asks q a ≡ true
-  asked_then q a e = sym (sa q a) ∙ e
-
-  turned_awaited : (q j : K) → u.asks q (Tasked j) ≡ true → (u.live q ≡ true) ⊎ Has W q
-  turned_awaited q j e = elim (h.awaited q j (asked_then q (Tasked j) e)) as (λ _. (u.live q ≡ true) ⊎ Has W q) [ inl a ↦ inl (sl q ∙ a) | inr b ↦ inr b ]
-
-  turned_batch : (j : K) (ks : List K) → batch_of (us j) ≡ Some ks → (q : K) → Has ks q → (m.kind q ≡ Injected) ⊎ (u.asks q (Tasked j) ≡ true) ⊎ ((x : V) × (value_of (us q) ≡ Some x))
-  turned_batch j ks e q i = elim (h.batch j ks (turned_waits j ks e) q i) as (λ _. (m.kind q ≡ Injected) ⊎ (u.asks q (Tasked j) ≡ true) ⊎ ((x : V) × (value_of (us q) ≡ Some x))) [
-    | inl z ↦ inl z
-    | inr (inl z) ↦ inr (inl (asked_still q (Tasked j) z))
-    | inr (inr z) ↦ inr (inr (z.0, turned_value q z.0 z.1))
-  ]
-
-  turned_live : (q : K) → u.live q ≡ is_going (us q)
-  turned_live q = elim (true_or_false (eq k q)) as (λ _. u.live q ≡ is_going (us q)) [
-    | inl y ↦ sl q ∙ (h.live q ∙ (ap is_going (there_at q y) ∙ (working ∙ sym (ap is_going (turned_here q y) ∙ works))))
-    | inr n ↦ sl q ∙ (h.live q ∙ sym (ap is_going (turned_others q n)))
-  ]
-
-  turned_each : (q : K) (r : Task K V) → us q ≡ Some r → TaskStands eq m S v q r
-  turned_each q r e = elim (true_or_false (eq k q)) as (λ _. TaskStands eq m S v q r) [
-    | inl y ↦ subst (λ x. TaskStands eq m S v x r) (equality.same k q y)
-        (subst (TaskStands eq m S v k) (same_Some (record { born = t.born; standing = d }) r (sym (turned_here q y) ∙ e)) (task_with eq m R S v k f k t d (h.each k t there) now))
-    | inr n ↦ task_on eq m R S v k f q r n (h.each q r (sym (turned_others q n) ∙ e))
-  ]
-
-  turned_running : (q : K) → is_running eq S v q ≡ is_computing (us q)
-  turned_running q = elim (true_or_false (eq k q)) as (λ _. is_running eq S v q ≡ is_computing (us q)) [
-    | inl y ↦ subst (λ x. is_running eq S v x ≡ computes d) (equality.same k q y) runs ∙ sym (ap is_computing (turned_here q y))
-    | inr n ↦ f.runs q n ∙ (h.running q ∙ sym (ap is_computing (turned_others q n)))
-  ]
-
-  turned_fresh : (q : K) → us q ≡ None → 0 < open_count S v → decided eq S v q ≡ None
-  turned_fresh q e c = elim (true_or_false (eq k q)) as (λ _. decided eq S v q ≡ None) [
-    | inl y ↦ absurd (none-some _ (sym e ∙ turned_here q y))
-    | inr n ↦ f.decides q n ∙ h.fresh q (sym (turned_others q n) ∙ e) (rw f.count at c)
-  ]
-
-  pub task_turns : VersionStands eq m S v W u us
-  task_turns = record {
-    promised = λ q i e. (let a = h.promised q i (asked_then q (Promised i) e) in (a.0, f.live i ∙ a.1, f.opened a.0.opened ∙ a.2, a.3));
-    promises = λ i a e at c. asked_still a.key (Promised i) (h.promises i a (sym (f.live i) ∙ e) (sym (f.opened a.opened) ∙ at) c);
-    waits = λ q j e. rw f.commits (h.waits q j (asked_then q (Tasked j) e));
-    waiting = λ q j e. (let a = h.waiting q j (asked_then q (Tasked j) e) in (a.0, waited_still j a.0 a.1, a.2));
-    awaited = turned_awaited;
-    no_circle = no_circle_fewer s u asked_then h.no_circle;
-    stuck = λ j ks e. (let a = h.stuck j ks (turned_waits j ks e) in (a.0, asked_still a.0 (Tasked j) a.1));
-    batch = turned_batch;
-    live = turned_live;
-    each = turned_each;
-    running = turned_running;
-    fresh = turned_fresh;
-  }
+        lives : Lives eq k (goes_on d) s u
+        lives q = elim (same_or_other eq equality k q) as (λ _. u.live q ≡ cond (eq k q) (goes_on d) (s.live q)) [
+          | inl i ↦ subst (λ x. u.live x ≡ cond (eq k x) (goes_on d) (s.live x)) i (sl k ∙ (h.live k ∙ (ap is_going there ∙ (working ∙ (sym works ∙ sym (ap (λ b. cond b (goes_on d) (s.live k)) (equality.itself k)))))))
+          | inr n ↦ sl q ∙ sym (ap (λ b. cond b (goes_on d) (s.live q)) n)
+        ]
 
 module _ {K V : Type 0} where
   -- answers to all batches of a trace that are those of the trace
@@ -351,7 +216,7 @@ module _ {K V : Type 0} (eq : K → K → Bool) (equality : IsEquality eq) (m : 
       → IsAllowed eq m R (Start v k (Differs b d)) × VersionStands eq m (Start v k (Differs b d) ∷ R) v W u us
   differs T A x b d e f wanted sa sl p = (
     (wanted, (a.undecided, runs_as (Works (Checks x T b) IsOut A) e), (seen.base, seen.finished, backs, cause)),
-    task_turns eq equality m R (Start v k (Differs b d) ∷ R) v k (start_leaves eq equality R v k (Differs b d)) W s u ts us h t there (ap goes_on e) (ap waits_for e) (Works Computes IsReady []) refl refl sa sl p
+    task_turns eq equality m R (Start v k (Differs b d) ∷ R) v k (start_leaves eq equality R v k (Differs b d)) W s u ts us h t there (ap goes_on e) (Works Computes IsReady []) (ap waits_for e) refl refl sa sl p
         (record { undecided = a.undecided; work = tt; asks = tt }) (ap (λ b. b || is_running eq R v k) (named eq equality v k)),
   )
     where

@@ -1,4 +1,5 @@
 pub mod Indices
+pub mod Shapes
 pub mod OfKey
 pub mod Held
 pub mod Ends

@@ -1,5 +1,6 @@
 -- What an event of one key at a version leaves of all else there.
 use Rattle.std.proofs.Common.{◌≡◌, ◌≢◌, ◌≤◌, ◌⊎◌, inl, inr, ℕ, suc, Bool, true, false, cond, not, ◌&&◌, ◌||◌, eqb, List, [], ◌∷◌, length, Option, Some, None, refl, sym, ap, ◌∙◌, subst, arith, eq-eqb}
+use Rattle.std.proofs.lemmas.Bool.{and_parts, and_right, or_right, not-true}
 use Rattle.dice_key.specs.Meaning.{Meaning, Answered}
 use Rattle.dice_key.specs.Lawful.{IsEquality}
 use Rattle.task_share.specs.Asked.{By, Promised, Tasked, is_by, Asked, Leads, stays, asks_on, HasNoCircle}
@@ -10,49 +11,16 @@ use Rattle.journal.specs.Events.{ByValue, ByCycle, names_by, commits_of, opened_
 use Rattle.core_laws.specs.Tasks.{Work, Computes, Checks, Outcome, WithValue, WithCycle, WithNothing, Standing, Works, Ended, Task}
 use Rattle.core_laws.specs.Stands.{lost_in_epoch, WasSeen, CycleStands, OutcomeStands, WorkStands, AtWork, IsStanding, TaskStands}
 use Rattle.core_laws.specs.Changes.{Withdraws}
-
-pub and_left : (a b : Bool) → (a && b) ≡ true → a ≡ true
-and_left true b e = refl
-and_left false b e = e
-
-pub and_right : (a b : Bool) → (a && b) ≡ true → b ≡ true
-and_right true b e = e
-and_right false b e = cc
-
-pub or_right : (a b : Bool) → b ≡ true → (a || b) ≡ true
-or_right true b e = refl
-or_right false b e = e
-
-pub not_true : (b : Bool) → not b ≡ true → b ≡ false
-not_true true e = sym e
-not_true false e = refl
-
-pub true_or_false : (b : Bool) → (b ≡ true) ⊎ (b ≡ false)
-true_or_false true = inl refl
-true_or_false false = inr refl
-
-pub and_false : (a b : Bool) → b ≡ false → (a && b) ≡ false
-and_false true b e = e
-and_false false b e = refl
-
-module _ {K : Type 0} where
-  -- with fewer asks fewer chains lead
-  leads_fewer : (s u : Asked K) → ((q : K) (a : By K) → u.asks q a ≡ true → s.asks q a ≡ true) → (a b : K) → Leads u a b → Leads s a b
-  leads_fewer s u f a b stays = stays
-  leads_fewer s u f a b (asks_on {i = i} e l) = asks_on (f i (Tasked a) e) (leads_fewer s u f i b l)
-
-  -- with fewer asks no circle comes
-  pub no_circle_fewer : (s u : Asked K) → ((q : K) (a : By K) → u.asks q a ≡ true → s.asks q a ≡ true) → HasNoCircle s → HasNoCircle u
-  no_circle_fewer s u f n k i e l = n k i (f i (Tasked k) e) (leads_fewer s u f i k l)
+use Rattle.core_laws.proofs.Shapes.{other_way}
 
 module _ {K : Type 0} (eq : K → K → Bool) (k : K) (s u : Asked K) (w : Withdraws eq k s u) where
   -- who asks after the withdrawal asked before
   pub asked_before : (q : K) (a : By K) → u.asks q a ≡ true → s.asks q a ≡ true
-  asked_before q a e = and_left (s.asks q a) (not (is_by eq (Tasked k) a)) (sym (w q a) ∙ e)
+  asked_before q a e = (and_parts (s.asks q a) (not (is_by eq (Tasked k) a)) (sym (w q a) ∙ e)).0
 
   -- and is not the task whose asks are withdrawn
   pub asked_by_another : (q j : K) → u.asks q (Tasked j) ≡ true → eq k j ≡ false
-  asked_by_another q j e = not_true (eq k j) (and_right (s.asks q (Tasked j)) (not (eq k j)) (sym (w q (Tasked j)) ∙ e))
+  asked_by_another q j e = not-true (eq k j) (and_parts (s.asks q (Tasked j)) (not (eq k j)) (sym (w q (Tasked j)) ∙ e)).1
 
   pub promise_stays : (q : K) (i : ℕ) → s.asks q (Promised i) ≡ true → u.asks q (Promised i) ≡ true
   promise_stays q i e = w q (Promised i) ∙ ap (λ b. b && true) e
@@ -61,15 +29,8 @@ module _ {K : Type 0} (eq : K → K → Bool) (k : K) (s u : Asked K) (w : Withd
   others_stay q j n e = w q (Tasked j) ∙ (ap (λ b. b && not (eq k j)) e ∙ ap not n)
 
 module _ {K : Type 0} (eq : K → K → Bool) (equality : IsEquality eq) where
-  pub other_way : (k q : K) → eq k q ≡ false → eq q k ≡ false
-  other_way k q n = by_test (eq q k) refl
-    where
-      by_test : (b : Bool) → eq q k ≡ b → eq q k ≡ false
-      by_test true e = absurd (let s = equality.same q k e in let a : eq k q ≡ true = subst (λ x. eq k x ≡ true) (sym s) (equality.itself k) in let b : true ≡ false = sym a ∙ n in cc)
-      by_test false e = e
-
   unnamed : (v : ℕ) (k q : K) → eq k q ≡ false → names_by eq v k v q ≡ false
-  unnamed v k q n = and_false (eqb v v) (eq q k) (other_way k q n)
+  unnamed v k q n = and_right (eqb v v) (eq q k) (other_way eq equality k q n)
 
   -- an event of a key names it
   pub named : (v : ℕ) (k : K) → names_by eq v k v k ≡ true

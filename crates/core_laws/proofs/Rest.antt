@@ -1,5 +1,6 @@
 -- Between the engine's calls; and where nothing can be taken and nothing is out, nothing is at work.
 use Rattle.std.proofs.Common.{◌≡◌, ◌<◌, ◌+◌, ◌⊎◌, inl, inr, ℕ, zero, suc, Bool, true, false, cond, ◌&&◌, ◌||◌, List, [], ◌∷◌, length, Option, Some, None, refl, sym, ap, ◌∙◌, subst, arith}
+use Rattle.std.proofs.lemmas.Bool.{and_parts, cases_Bool}
 use Rattle.dice_key.specs.Meaning.{Meaning, Answered}
 use Rattle.dice_key.specs.Lawful.{IsEquality}
 use Rattle.dice_model.specs.Log.{Has, AreDistinct}
@@ -10,9 +11,9 @@ use Rattle.journal.specs.Events.{open_count}
 use Rattle.core_laws.specs.Tasks.{Work, Phase, IsReady, IsOut, IsWaiting, Standing, Works, Ended, Task, goes_on, waits_for, is_going, batch_of}
 use Rattle.core_laws.specs.Stands.{VersionStands, IsAtRest}
 use Rattle.core_laws.specs.Changes.{Puts, Joins, Parks}
-use Rattle.core_laws.proofs.OfKey.{true_or_false, and_left, asked_before}
-use Rattle.core_laws.proofs.Ends.{put_here, put_others}
-use Rattle.core_laws.proofs.Drops.{going_task}
+use Rattle.core_laws.proofs.Shapes.{same_or_other, put_here, put_other}
+use Rattle.core_laws.proofs.OfKey.{asked_before}
+use Rattle.core_laws.proofs.Drops.{going_task, asked_stays}
 
 -- whoever is asked for has a task
 abbrev pub AreTasked : {K V : Type 0} → Asked K → (K → Option (Task K V)) → Type 0
@@ -25,9 +26,9 @@ rests eq m R v s ts h a d c = record { stands = h; tasked = a; wanted = d; close
 module _ {K V : Type 0} (eq : K → K → Bool) (equality : IsEquality eq) (s u : Asked K) (ts us : K → Option (Task K V)) (a : AreTasked s ts) (k : K) where
   -- a task that is put there leaves each task there
   put_tasked : (t : Task K V) → Puts eq k (Some t) ts us → (q : K) (r : Task K V) → ts q ≡ Some r → (r' : Task K V) × (us q ≡ Some r')
-  put_tasked t p q r e = elim (true_or_false (eq k q)) as (λ _. (r' : Task K V) × (us q ≡ Some r')) [
-    | inl y ↦ (t, put_here eq equality k (Some t) ts us p q y)
-    | inr n ↦ (r, put_others eq equality k (Some t) ts us p q n ∙ e)
+  put_tasked t p q r e = elim (same_or_other eq equality k q) as (λ _. (r' : Task K V) × (us q ≡ Some r')) [
+    | inl i ↦ (t, subst (λ y. us y ≡ Some t) i (put_here eq equality k (Some t) ts us p))
+    | inr n ↦ (r, put_other eq equality k (Some t) ts us p q n ∙ e)
   ]
 
   -- a task is put there, and there are no more asks than before: as where one ends, computes, or is told an answer
@@ -38,16 +39,14 @@ module _ {K V : Type 0} (eq : K → K → Bool) (equality : IsEquality eq) (s u 
   pub tasked_on_drop : Takes eq s k u → Puts eq k None ts us → AreTasked u us
   tasked_on_drop w p q b e =
       let f = asked_before eq k s u w.asks q b e in
-      elim (true_or_false (eq k q)) as (λ _. (r : Task K V) × (us q ≡ Some r)) [
-        | inl y ↦ absurd (let z : s.asks k b ≡ true = subst (λ x. s.asks x b ≡ true) (sym (equality.same k q y)) f in let i : true ≡ false = sym z ∙ w.unasked b in cc)
-        | inr n ↦ (let r = a q b f in (r.0, put_others eq equality k None ts us p q n ∙ r.1))
-      ]
+      let r = a q b f in
+      (r.0, put_other eq equality k None ts us p q (asked_stays eq equality k s u w q b f) ∙ r.1)
 
   -- a key that has a task is asked for
   pub tasked_on_join : (b : By K) (t : Task K V) → ts k ≡ Some t → Joins eq k b s u → AreTasked u ts
-  tasked_on_join b t there j q c e = elim (true_or_false (s.asks q c)) as (λ _. (r : Task K V) × (ts q ≡ Some r)) [
+  tasked_on_join b t there j q c e = elim (cases_Bool (s.asks q c)) as (λ _. (r : Task K V) × (ts q ≡ Some r)) [
     | inl y ↦ a q c y
-    | inr n ↦ (t, subst (λ x. ts x ≡ Some t) (equality.same k q (and_left (eq k q) (is_by eq b c) (sym (j q c ∙ ap (λ x. x || (eq k q && is_by eq b c)) n) ∙ e))) there)
+    | inr n ↦ (t, subst (λ x. ts x ≡ Some t) (equality.same k q ((and_parts (eq k q) (is_by eq b c) (sym (j q c ∙ ap (λ x. x || (eq k q && is_by eq b c)) n) ∙ e)).0)) there)
   ]
 
   -- the task of k asks for keys that have tasks
