@@ -1,5 +1,5 @@
 -- Tasks that end with a cycle.
-use Rattle.std.proofs.Common.{◌≡◌, ◌≢◌, inl, inr, ℕ, Bool, true, false, cond, not, ◌&&◌, List, [], ◌∷◌, Option, Some, None, refl, sym, ap, subst}
+use Rattle.std.proofs.Common.{◌≡◌, inl, inr, ℕ, Bool, true, false, cond, not, ◌&&◌, List, [], ◌∷◌, Option, Some, refl, ap}
 use Rattle.dice_key.specs.Meaning.{Meaning}
 use Rattle.dice_key.specs.Lawful.{IsEquality}
 use Rattle.dice_model.specs.Log.{Has, AreDistinct}
@@ -47,10 +47,10 @@ module _ {K V : Type 0} (eq : K → K → Bool) (m : Meaning K V) (C : List (Lis
 
 -- a task at work whose key reaches a cycle: its Cyclic is allowed, and its task ends with the cycle
 pub cycles : {K V : Type 0} (eq : K → K → Bool) (equality : IsEquality eq) (m : Meaning K V) (R : List (Told K V)) (v : ℕ)
-    (W : List K) (s u : Asked K) (ts us : K → Option (Task K V)) (h : VersionStands eq m R v W s ts) (k : K) (t : Task K V) (there : ts k ≡ Some t) (path : List K)
+    (W : List K) (s u : Asked K) (ts us : K → Option (Task K V)) (k : K) (t : Task K V) (h : VersionStands eq m R v W s ts) (there : ts k ≡ Some t) (path : List K)
     → goes_on t.standing ≡ true → IsWanted eq m R v k → CycleStands eq m (commits_of R) v k path → Withdraws eq k s u → Lives eq k false s u → Puts eq k (Some (record { born = t.born; standing = Ended (WithCycle path) })) ts us
     → IsAllowed eq m R (Cyclic v k) × VersionStands eq m (Cyclic v k ∷ R) v (k ∷ W) u us
-cycles eq equality m R v W s u ts us h k t there path going wanted c w l p = (
+cycles eq equality m R v W s u ts us k t h there path going wanted c w l p = (
   (wanted, undecided_at_work eq m R v k t going (h.each k t there), record { first = c.first; rest = c.rest; cycle = c.cycle; reaches = c.reaches }),
   task_ends eq equality m R (Cyclic v k ∷ R) v k (cyclic_leaves eq equality R v k) W s u ts us h t there going (WithCycle path) w l p
       (c, ap (λ b. cond b (Some ByCycle) (decided eq R v k)) (named eq equality v k)) (ap (λ b. not b && is_running eq R v k) (named eq equality v k)),

@@ -1,5 +1,5 @@
 -- A task without asker is dropped.
-use Rattle.std.proofs.Common.{◌≡◌, ◌<◌, ◌⊎◌, inl, inr, ℕ, Bool, true, false, cond, not, ◌&&◌, List, [], ◌∷◌, Option, Some, None, refl, sym, ap, ◌∙◌, subst}
+use Rattle.std.proofs.Common.{◌≡◌, ◌<◌, ◌⊎◌, inl, inr, ℕ, Bool, true, false, not, ◌&&◌, List, ◌∷◌, Option, Some, None, refl, sym, ap, ◌∙◌, subst}
 use Rattle.std.proofs.lemmas.Option.{none-some}
 use Rattle.dice_key.specs.Meaning.{Meaning}
 use Rattle.dice_key.specs.Lawful.{IsEquality}
@@ -14,7 +14,7 @@ use Rattle.core_laws.specs.Tasks.{Task, goes_on, is_going, is_computing, batch_o
 use Rattle.core_laws.specs.Stands.{TaskStands, VersionStands}
 use Rattle.core_laws.specs.Changes.{Puts}
 use Rattle.core_laws.proofs.Shapes.{and_none, and_all, not_both, leads_fewer, same_or_other, put_here, put_other}
-use Rattle.core_laws.proofs.OfKey.{asked_before, asked_by_another, promise_stays, others_stay, LeavesOthers, named, drop_leaves, task_on}
+use Rattle.core_laws.proofs.OfKey.{asked_before, asked_by_another, promise_stays, others_stay, named, drop_leaves, task_on}
 use Rattle.core_laws.proofs.Ends.{no_value_at_work, undecided_at_work}
 
 -- what is at work is a task
@@ -30,7 +30,7 @@ asked_stays eq equality k s u w q a e = elim (same_or_other eq equality k q) as 
 ]
 
 module _ {K V : Type 0} (eq : K → K → Bool) (equality : IsEquality eq) (m : Meaning K V) (R : List (Told K V)) (v : ℕ)
-    (W : List K) (s u : Asked K) (ts us : K → Option (Task K V)) (h : VersionStands eq m R v W s ts) (k : K) (w : Takes eq s k u) (p : Puts eq k None ts us) where
+    (W : List K) (s u : Asked K) (ts us : K → Option (Task K V)) (k : K) (h : VersionStands eq m R v W s ts) (w : Takes eq s k u) (p : Puts eq k None ts us) where
   here : us k ≡ None
   here = put_here eq equality k None ts us p
 

@@ -1,7 +1,7 @@
 -- Tasks that end: with a value that they computed or kept, or given up. And a check that finds a change computes.
-use Rattle.std.proofs.Common.{◌≡◌, ◌≢◌, ◌≤◌, ◌<◌, ◌⊎◌, inl, inr, ℕ, zero, suc, Bool, true, false, cond, not, ◌&&◌, ◌||◌, List, [], ◌∷◌, ◌++◌, length, map, Option, Some, None, refl, sym, ap, ◌∙◌, subst, arith}
+use Rattle.std.proofs.Common.{◌≡◌, ◌≢◌, ◌⊎◌, inl, inr, ℕ, suc, Bool, true, false, cond, not, ◌&&◌, ◌||◌, List, [], ◌∷◌, ◌++◌, length, map, Option, Some, None, refl, sym, ap, ◌∙◌, subst, arith}
 use Rattle.std.specs.List.{AllZip}
-use Rattle.std.proofs.lemmas.Option.{same_Some, none-some}
+use Rattle.std.proofs.lemmas.Option.{none-some}
 use Rattle.dice_key.specs.Meaning.{Meaning, Answered, Ends}
 use Rattle.dice_key.specs.Lawful.{IsLawful, IsEquality}
 use Rattle.dice_key.specs.declared.universe.Kind.TheVariants.{Injected}
@@ -14,9 +14,9 @@ use Rattle.task_share.specs.Asked.{By, Promised, Tasked, Asked}
 use Rattle.journal.specs.declared.event.Told.{Told}
 use Rattle.journal.specs.declared.event.Told.TheVariants.{Start, Keep, End, Lost}
 use Rattle.journal.specs.declared.event.Reason.TheVariants.{Differs}
-use Rattle.journal.specs.Events.{ByValue, commits_of, decided, open_count, is_running}
-use Rattle.journal.specs.Law.{AreValues, DiffersFirst, IsAllowed, IsWanted, KeepsValue, Backs}
-use Rattle.core_laws.specs.Tasks.{Work, Computes, Checks, Phase, IsReady, IsOut, IsWaiting, Outcome, WithValue, WithCycle, WithNothing, Standing, Works, Ended, Task, goes_on, computes, waits_for, value_in, is_going, is_computing, batch_of, value_of}
+use Rattle.journal.specs.Events.{ByValue, commits_of, decided, is_running}
+use Rattle.journal.specs.Law.{AreValues, DiffersFirst, IsAllowed, IsWanted, Backs}
+use Rattle.core_laws.specs.Tasks.{Work, Computes, Checks, Phase, IsReady, IsOut, Outcome, WithValue, WithNothing, Standing, Works, Ended, Task, goes_on, computes, waits_for, value_in, is_going, is_computing, batch_of, value_of}
 use Rattle.core_laws.specs.Stands.{GoesAlong, IsNextOf, lost_in_epoch, WasSeen, OutcomeStands, AtWork, IsStanding, TaskStands, VersionStands}
 use Rattle.core_laws.specs.Changes.{Puts, SameAsks, SameLives, Lives, Withdraws, ChangesFirst}
 use Rattle.core_laws.proofs.Shapes.{not_both, same_or_other, put_each, put_fact, put_none, Shape, shape_of, asks_nothing, eased}
@@ -68,13 +68,13 @@ module _ {K V : Type 0} (eq : K → K → Bool) (equality : IsEquality eq) (m : 
     pub task_ends : (o : Outcome K V) → Withdraws eq k s u → Lives eq k false s u → Puts eq k (Some (record { born = t.born; standing = Ended o })) ts us → OutcomeStands eq m S v k o → is_running eq S v k ≡ false → VersionStands eq m S v (k ∷ W) u us
     task_ends o w l p now stops = task_put (Ended o) (k ∷ W) p now stops (asked_before eq k s u w) (promise_stays eq k s u w)
         (eased eq equality m (k ∷ W) s u ts us k (record { born = t.born; standing = Ended o }) (wider (shape_of eq m R v W s ts h)) p l (asked_before eq k s u w) (λ q i n a. others_stay eq k s u w q i n a)
-            (λ q a. not_both (equality.itself k) (asked_by_another eq k s u w q k a)) refl (λ i a. inr (inl refl)) (no_value (Ended o)))
+        (λ q a. not_both (equality.itself k) (asked_by_another eq k s u w q k a)) refl (λ i a. inr (inl refl)) (no_value (Ended o)))
 
     -- it goes on with other work
     pub task_turns : (d : Standing K V) → waits_for t.standing ≡ None → goes_on d ≡ true → waits_for d ≡ None → SameAsks eq s u → SameLives eq s u → Puts eq k (Some (record { born = t.born; standing = d })) ts us → IsStanding eq m S v k d → is_running eq S v k ≡ computes d → VersionStands eq m S v W u us
     task_turns d waited works waits sa sl p now runs = task_put d W p now runs asked_then (λ q i e. sa q (Promised i) ∙ e)
         (eased eq equality m W s u ts us k (record { born = t.born; standing = d }) (shape_of eq m R v W s ts h) p lives asked_then (λ q i n e. sa q (Tasked i) ∙ e)
-            (λ q a. asks_nothing eq m R v W s ts h k (ap batch_of there ∙ waited) q (asked_then q (Tasked k) a)) waits (λ i a. inl works) (no_value d))
+        (λ q a. asks_nothing eq m R v W s ts h k (ap batch_of there ∙ waited) q (asked_then q (Tasked k) a)) waits (λ i a. inl works) (no_value d))
       where
         asked_then : (q : K) (a : By K) → u.asks q a ≡ true → s.asks q a ≡ true
         asked_then q a e = sym (sa q a) ∙ e
@@ -158,7 +158,7 @@ module _ {K V : Type 0} (eq : K → K → Bool) (m : Meaning K V) (C : List (Lis
   last_values (a ∷ A) b h = let r = last_values A b h.1 in ((h.0, r.0), r.1)
 
 module _ {K V : Type 0} (eq : K → K → Bool) (equality : IsEquality eq) (m : Meaning K V) (law : IsLawful m) (R : List (Told K V)) (v : ℕ)
-    (W : List K) (s u : Asked K) (ts us : K → Option (Task K V)) (h : VersionStands eq m R v W s ts) (k : K) (t : Task K V) (there : ts k ≡ Some t) where
+    (W : List K) (s u : Asked K) (ts us : K → Option (Task K V)) (k : K) (t : Task K V) (h : VersionStands eq m R v W s ts) (there : ts k ≡ Some t) where
   at_work : (w : Work K V) (p : Phase K) (A : List (Answered K V)) → t.standing ≡ Works w p A → AtWork eq m R v k w p A
   at_work w p A e = subst (IsStanding eq m R v k) e (h.each k t there).standing
 

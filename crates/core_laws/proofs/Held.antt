@@ -1,5 +1,5 @@
 -- What is held is wanted: a chain of asks leads from a promise to each task at work.
-use Rattle.std.proofs.Common.{◌≡◌, ◌<◌, ◌+◌, ◌⊎◌, inl, inr, ℕ, zero, suc, Bool, true, false, cond, List, [], ◌∷◌, length, Option, Some, None, refl, sym, ap, ◌∙◌, subst, arith, eq-eqb}
+use Rattle.std.proofs.Common.{◌≡◌, ◌<◌, ◌+◌, inl, inr, ℕ, zero, suc, Bool, true, cond, List, [], ◌∷◌, length, Option, Some, None, refl, ap, ◌∙◌, subst, arith, eq-eqb}
 use Rattle.dice_key.specs.Meaning.{Meaning}
 use Rattle.dice_key.specs.Lawful.{IsEquality}
 use Rattle.dice_model.specs.Log.{Has, AreDistinct}
@@ -9,9 +9,9 @@ use Rattle.task_share.specs.Asked.{By, Promised, Tasked, Asked, Held, by_promise
 use Rattle.journal.specs.declared.event.Told.{Told}
 use Rattle.journal.specs.declared.event.Told.TheVariants.{Ask, Start, Keep, End, Cyclic, Drop, Lost}
 use Rattle.journal.specs.declared.event.Reason.{Reason}
-use Rattle.journal.specs.Events.{Asking, commits_of, opened_at, open_count, live_at, asked_in_epoch}
+use Rattle.journal.specs.Events.{commits_of, opened_at, open_count, live_at, asked_in_epoch}
 use Rattle.journal.specs.Law.{IsWanted, IsLawfulBack}
-use Rattle.core_laws.specs.Tasks.{Task, Standing, Works, Ended, Work, Phase, IsReady, IsOut, IsWaiting, is_going, batch_of}
+use Rattle.core_laws.specs.Tasks.{Task, Standing, Works, Ended, is_going, batch_of}
 use Rattle.core_laws.specs.Stands.{VersionStands, IsAtRest}
 use Rattle.core_laws.proofs.Indices.{live_asked, live_counts}
 

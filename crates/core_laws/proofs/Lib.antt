@@ -6,3 +6,4 @@ pub mod Ends
 pub mod Cycles
 pub mod Drops
 pub mod Rest
+pub mod Answered

@@ -1,15 +1,15 @@
 -- What an event of one key at a version leaves of all else there.
-use Rattle.std.proofs.Common.{◌≡◌, ◌≢◌, ◌≤◌, ◌⊎◌, inl, inr, ℕ, suc, Bool, true, false, cond, not, ◌&&◌, ◌||◌, eqb, List, [], ◌∷◌, length, Option, Some, None, refl, sym, ap, ◌∙◌, subst, arith, eq-eqb}
+use Rattle.std.proofs.Common.{◌≡◌, ◌≤◌, ℕ, suc, Bool, true, false, cond, not, ◌&&◌, ◌||◌, eqb, List, ◌∷◌, length, Some, refl, sym, ap, ◌∙◌, arith, eq-eqb}
 use Rattle.std.proofs.lemmas.Bool.{and_parts, and_right, or_right, not-true}
 use Rattle.dice_key.specs.Meaning.{Meaning, Answered}
 use Rattle.dice_key.specs.Lawful.{IsEquality}
-use Rattle.task_share.specs.Asked.{By, Promised, Tasked, is_by, Asked, Leads, stays, asks_on, HasNoCircle}
+use Rattle.task_share.specs.Asked.{By, Promised, Tasked, is_by, Asked}
 use Rattle.journal.specs.declared.event.Told.{Told}
 use Rattle.journal.specs.declared.event.Told.TheVariants.{Start, Keep, End, Cyclic, Drop, Lost}
 use Rattle.journal.specs.declared.event.Reason.{Reason}
 use Rattle.journal.specs.Events.{ByValue, ByCycle, names_by, commits_of, opened_at, open_count, live_at, decided, asked_in_epoch, is_running, is_base}
 use Rattle.core_laws.specs.Tasks.{Work, Computes, Checks, Outcome, WithValue, WithCycle, WithNothing, Standing, Works, Ended, Task}
-use Rattle.core_laws.specs.Stands.{lost_in_epoch, WasSeen, CycleStands, OutcomeStands, WorkStands, AtWork, IsStanding, TaskStands}
+use Rattle.core_laws.specs.Stands.{lost_in_epoch, WasSeen, OutcomeStands, WorkStands, IsStanding, TaskStands}
 use Rattle.core_laws.specs.Changes.{Withdraws}
 use Rattle.core_laws.proofs.Shapes.{other_way}
 
@@ -53,22 +53,40 @@ module _ {K V : Type 0} (eq : K → K → Bool) where
   module _ (equality : IsEquality eq) (R : List (Told K V)) (v : ℕ) (k : K) where
     pub start_leaves : (c : Reason K) → LeavesOthers R (Start v k c ∷ R) v k
     start_leaves c = record {
-      commits = refl; grows = (let l : length (Start v k c ∷ R) ≡ suc (length R) = refl in omega arith); live = λ i. refl; opened = λ i. refl; count = refl; asked = λ q. refl; decides = λ q n. refl; loses = λ q n. refl;
+      commits = refl;
+      grows = (let l : length (Start v k c ∷ R) ≡ suc (length R) = refl in omega arith);
+      live = λ i. refl;
+      opened = λ i. refl;
+      count = refl;
+      asked = λ q. refl;
+      decides = λ q n. refl;
+      loses = λ q n. refl;
       runs = λ q n. ap (λ b. b || is_running eq R v q) (unnamed eq equality v k q n);
       bases = λ b q e. e;
     }
 
     pub keep_leaves : (b : ℕ) → LeavesOthers R (Keep v k b ∷ R) v k
     keep_leaves b = record {
-      commits = refl; grows = (let l : length (Keep v k b ∷ R) ≡ suc (length R) = refl in omega arith); live = λ i. refl; opened = λ i. refl; count = refl; asked = λ q. refl;
+      commits = refl;
+      grows = (let l : length (Keep v k b ∷ R) ≡ suc (length R) = refl in omega arith);
+      live = λ i. refl;
+      opened = λ i. refl;
+      count = refl;
+      asked = λ q. refl;
       decides = λ q n. ap (λ t. cond t (Some ByValue) (decided eq R v q)) (unnamed eq equality v k q n);
-      loses = λ q n. refl; runs = λ q n. refl;
+      loses = λ q n. refl;
+      runs = λ q n. refl;
       bases = λ d q e. or_right (names_by eq v k d q) (is_base eq R d q) e;
     }
 
     pub end_leaves : LeavesOthers R (End v k ∷ R) v k
     end_leaves = record {
-      commits = refl; grows = (let l : length (End v k ∷ R) ≡ suc (length R) = refl in omega arith); live = λ i. refl; opened = λ i. refl; count = refl; asked = λ q. refl;
+      commits = refl;
+      grows = (let l : length (End v k ∷ R) ≡ suc (length R) = refl in omega arith);
+      live = λ i. refl;
+      opened = λ i. refl;
+      count = refl;
+      asked = λ q. refl;
       decides = λ q n. ap (λ t. cond t (Some ByValue) (decided eq R v q)) (unnamed eq equality v k q n);
       loses = λ q n. refl;
       runs = λ q n. ap (λ b. not b && is_running eq R v q) (unnamed eq equality v k q n);
@@ -77,7 +95,12 @@ module _ {K V : Type 0} (eq : K → K → Bool) where
 
     pub cyclic_leaves : LeavesOthers R (Cyclic v k ∷ R) v k
     cyclic_leaves = record {
-      commits = refl; grows = (let l : length (Cyclic v k ∷ R) ≡ suc (length R) = refl in omega arith); live = λ i. refl; opened = λ i. refl; count = refl; asked = λ q. refl;
+      commits = refl;
+      grows = (let l : length (Cyclic v k ∷ R) ≡ suc (length R) = refl in omega arith);
+      live = λ i. refl;
+      opened = λ i. refl;
+      count = refl;
+      asked = λ q. refl;
       decides = λ q n. ap (λ t. cond t (Some ByCycle) (decided eq R v q)) (unnamed eq equality v k q n);
       loses = λ q n. refl;
       runs = λ q n. ap (λ b. not b && is_running eq R v q) (unnamed eq equality v k q n);
@@ -86,14 +109,27 @@ module _ {K V : Type 0} (eq : K → K → Bool) where
 
     pub drop_leaves : LeavesOthers R (Drop v k ∷ R) v k
     drop_leaves = record {
-      commits = refl; grows = (let l : length (Drop v k ∷ R) ≡ suc (length R) = refl in omega arith); live = λ i. refl; opened = λ i. refl; count = refl; asked = λ q. refl; decides = λ q n. refl; loses = λ q n. refl;
+      commits = refl;
+      grows = (let l : length (Drop v k ∷ R) ≡ suc (length R) = refl in omega arith);
+      live = λ i. refl;
+      opened = λ i. refl;
+      count = refl;
+      asked = λ q. refl;
+      decides = λ q n. refl;
+      loses = λ q n. refl;
       runs = λ q n. ap (λ b. not b && is_running eq R v q) (unnamed eq equality v k q n);
       bases = λ d q e. e;
     }
 
     pub lost_leaves : LeavesOthers R (Lost v k ∷ R) v k
     lost_leaves = record {
-      commits = refl; grows = (let l : length (Lost v k ∷ R) ≡ suc (length R) = refl in omega arith); live = λ i. refl; opened = λ i. refl; count = refl; asked = λ q. refl; decides = λ q n. refl;
+      commits = refl;
+      grows = (let l : length (Lost v k ∷ R) ≡ suc (length R) = refl in omega arith);
+      live = λ i. refl;
+      opened = λ i. refl;
+      count = refl;
+      asked = λ q. refl;
+      decides = λ q n. refl;
       loses = λ q n. ap (λ b. b || lost_in_epoch eq R v q) (unnamed eq equality v k q n);
       runs = λ q n. ap (λ b. not b && is_running eq R v q) (unnamed eq equality v k q n);
       bases = λ d q e. e;

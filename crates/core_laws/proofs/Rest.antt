@@ -1,18 +1,18 @@
 -- Between the engine's calls; and where nothing can be taken and nothing is out, nothing is at work.
-use Rattle.std.proofs.Common.{◌≡◌, ◌<◌, ◌+◌, ◌⊎◌, inl, inr, ℕ, zero, suc, Bool, true, false, cond, ◌&&◌, ◌||◌, List, [], ◌∷◌, length, Option, Some, None, refl, sym, ap, ◌∙◌, subst, arith}
-use Rattle.std.proofs.lemmas.Bool.{and_parts, cases_Bool}
+use Rattle.std.proofs.Common.{◌≡◌, ◌<◌, ◌+◌, ◌⊎◌, inl, inr, ℕ, zero, suc, Bool, true, false, not, ◌&&◌, ◌||◌, List, [], ◌∷◌, length, Option, Some, None, refl, sym, ap, ◌∙◌, subst, arith}
+use Rattle.std.proofs.lemmas.Bool.{and_parts, and_from, and_left, or_left, or_right, not_from_false, cases_Bool, eq-eqb}
 use Rattle.dice_key.specs.Meaning.{Meaning, Answered}
 use Rattle.dice_key.specs.Lawful.{IsEquality}
 use Rattle.dice_model.specs.Log.{Has, AreDistinct}
 use Rattle.dice_model.proofs.Finite.{few, has_or_not}
-use Rattle.task_share.specs.Asked.{By, Tasked, is_by, Asked, Leads, stays, asks_on, HasNoCircle, IsDone, Takes}
+use Rattle.task_share.specs.Asked.{By, Promised, Tasked, is_by, Asked, Leads, stays, asks_on, HasNoCircle, IsDone, Takes}
 use Rattle.journal.specs.declared.event.Told.{Told}
 use Rattle.journal.specs.Events.{open_count}
-use Rattle.core_laws.specs.Tasks.{Work, Phase, IsReady, IsOut, IsWaiting, Standing, Works, Ended, Task, goes_on, waits_for, is_going, batch_of}
+use Rattle.core_laws.specs.Tasks.{Work, IsReady, IsOut, IsWaiting, Standing, Works, Ended, Task, goes_on, waits_for, batch_of}
 use Rattle.core_laws.specs.Stands.{VersionStands, IsAtRest}
-use Rattle.core_laws.specs.Changes.{Puts, Joins, Parks}
-use Rattle.core_laws.proofs.Shapes.{same_or_other, put_here, put_other}
-use Rattle.core_laws.proofs.OfKey.{asked_before}
+use Rattle.core_laws.specs.Changes.{Puts, SameLives, Lives, Joins, Leaves, Withdraws, Parks}
+use Rattle.core_laws.proofs.Shapes.{not_both, same_or_other, put_here, put_other, lives_here, lives_other, asks_nothing}
+use Rattle.core_laws.proofs.OfKey.{asked_before, promise_stays, others_stay}
 use Rattle.core_laws.proofs.Drops.{going_task, asked_stays}
 
 -- whoever is asked for has a task
@@ -55,6 +55,73 @@ module _ {K V : Type 0} (eq : K → K → Bool) (equality : IsEquality eq) (s u 
     | inl y ↦ (let r = a q c y in put_tasked t p q r.0 r.1)
     | inr y ↦ (let r = have q y.0 in put_tasked t p q r.0 r.1)
   ]
+
+-- ---- each task at work has an asker
+
+module _ {K : Type 0} (eq : K → K → Bool) (equality : IsEquality eq) (s u : Asked K) where
+  -- with the same asks, or more
+  pub done_on_more : SameLives eq s u → ((q : K) (a : By K) → s.asks q a ≡ true → u.asks q a ≡ true) → IsDone s → IsDone u
+  done_on_more l more d q e = let a = d q (sym (l q) ∙ e) in (a.0, more q a.0 a.1)
+
+  -- a key that is not at work has an asker fewer
+  pub done_on_leave : (k : K) (b : By K) → s.live k ≡ false → SameLives eq s u → Leaves eq k b s u → IsDone s → IsDone u
+  done_on_leave k b ended l w d q e =
+      let live : s.live q ≡ true = sym (l q) ∙ e in
+      let a = d q live in
+      (a.0, w q a.0 ∙ (ap (λ x. x && not (eq k q && is_by eq b a.0)) a.1 ∙ not_from_false (eq k q && is_by eq b a.0) (and_left (eq k q) (is_by eq b a.0) (other q live))))
+    where
+      other : (q : K) → s.live q ≡ true → eq k q ≡ false
+      other q live = elim (same_or_other eq equality k q) as (λ _. eq k q ≡ false) [ inl i ↦ absurd (not_both (subst (λ y. s.live y ≡ true) (sym i) live) ended) | inr n ↦ n ]
+
+  -- a key gets an asker, and its task is at work
+  pub done_on_join : (k : K) (b : By K) → Lives eq k true s u → Joins eq k b s u → IsDone s → IsDone u
+  done_on_join k b l j d q e = elim (same_or_other eq equality k q) as (λ _. (a : By K) × (u.asks q a ≡ true)) [
+    | inl i ↦ (b, j q b ∙ or_right (s.asks q b) (eq k q && is_by eq b b) (and_from (eq k q) (is_by eq b b) (subst (λ y. eq k y ≡ true) i (equality.itself k)) (by_itself b)))
+    | inr n ↦ (let a = d q (sym (lives_other eq equality k true s u l q n) ∙ e) in (a.0, j q a.0 ∙ or_left (s.asks q a.0) (eq k q && is_by eq b a.0) a.1))
+  ]
+    where
+      by_itself : (b : By K) → is_by eq b b ≡ true
+      by_itself (Promised n) = eq-eqb n n refl
+      by_itself (Tasked i) = equality.itself i
+
+  -- the keys that k comes to wait for have an asker
+  pub done_on_park : (k : K) (ds : List K) → SameLives eq s u → Parks eq k ds s u → ((q : K) → s.live q ≡ true → ((a : By K) × (s.asks q a ≡ true)) ⊎ Has ds q) → IsDone u
+  done_on_park k ds l p d q e = elim (d q (sym (l q) ∙ e)) as (λ _. (a : By K) × (u.asks q a ≡ true)) [
+    | inl a ↦ (a.0, p.kept q a.0 a.1)
+    | inr i ↦ (Tasked k, p.asked q i)
+  ]
+
+module _ {K V : Type 0} (eq : K → K → Bool) (equality : IsEquality eq) (m : Meaning K V) (R : List (Told K V)) (v : ℕ) (W : List K) (s : Asked K) (ts : K → Option (Task K V)) (h : VersionStands eq m R v W s ts) where
+  -- a task that waited for nothing ends
+  pub done_on_end : (u : Asked K) (k : K) → batch_of (ts k) ≡ None → Withdraws eq k s u → Lives eq k false s u → IsDone s → IsDone u
+  done_on_end u k n w l d q e = elim (same_or_other eq equality k q) as (λ _. (a : By K) × (u.asks q a ≡ true)) [
+    | inl i ↦ absurd (not_both e (subst (λ y. u.live y ≡ false) i (lives_here eq equality k false s u l)))
+    | inr o ↦ (let a = d q (sym (lives_other eq equality k false s u l q o) ∙ e) in by_asker a.0 a.1)
+  ]
+    where
+      by_asker : (a : By K) → s.asks q a ≡ true → (a : By K) × (u.asks q a ≡ true)
+      by_asker (Promised i) f = (Promised i, promise_stays eq k s u w q i f)
+      by_asker (Tasked j) f = elim (same_or_other eq equality k j) as (λ _. (a : By K) × (u.asks q a ≡ true)) [
+        | inl i ↦ absurd (asks_nothing eq m R v W s ts h k n q (subst (λ y. s.asks q (Tasked y) ≡ true) (sym i) f))
+        | inr o ↦ (Tasked j, others_stay eq k s u w q j o f)
+      ]
+
+  -- who is still waited for among those that have ended is among X
+  pub told_some : (X : List K) → ((q j : K) → s.asks q (Tasked j) ≡ true → Has W q → Has X q) → VersionStands eq m R v X s ts
+  told_some X f = record {
+    promised = h.promised;
+    promises = h.promises;
+    waits = h.waits;
+    waiting = h.waiting;
+    awaited = λ d j e. elim (h.awaited d j e) as (λ _. (s.live d ≡ true) ⊎ Has X d) [ inl a ↦ inl a | inr b ↦ inr (f d j e b) ];
+    no_circle = h.no_circle;
+    stuck = h.stuck;
+    batch = h.batch;
+    live = h.live;
+    each = h.each;
+    running = h.running;
+    fresh = h.fresh;
+  }
 
 module _ {K : Type 0} where
   leads_more : (s : Asked K) (a b c : K) → Leads s a b → s.asks c (Tasked b) ≡ true → Leads s a c

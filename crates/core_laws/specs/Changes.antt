@@ -1,8 +1,8 @@
 -- What one step does to the tasks and the asks of a version.
-use Rattle.std.specs.Prelude.{◌≡◌, ◌≢◌, ◌⊎◌, ℕ, Bool, true, false, cond, not, ◌&&◌, ◌||◌, List, [], ◌∷◌, ◌++◌, length, map, Option, Some, None}
+use Rattle.std.specs.Prelude.{◌≡◌, ◌≢◌, ◌⊎◌, Bool, true, cond, not, ◌&&◌, ◌||◌, List, [], ◌∷◌, ◌++◌, length, map, Option}
 use Rattle.dice_key.specs.Meaning.{Answered}
 use Rattle.dice_model.specs.Log.{Has}
-use Rattle.task_share.specs.Asked.{By, Promised, Tasked, Asked, is_by}
+use Rattle.task_share.specs.Asked.{By, Tasked, Asked, is_by}
 use Rattle.core_laws.specs.Tasks.{Task}
 
 module _ {K V : Type 0} (eq : K → K → Bool) where
