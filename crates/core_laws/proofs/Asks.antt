@@ -2,7 +2,7 @@
 use Rattle.std.proofs.Common.{◌≡◌, ◌≢◌, ◌⊎◌, inl, inr, ℕ, Bool, true, false, cond, ◌&&◌, ◌||◌, eqb, List, [], ◌∷◌, length, Option, Some, refl, sym, ap, ◌∙◌, arith, append-nil}
 use Rattle.std.proofs.lemmas.Bool.{eqb-true, eq-eqb, ne_eqb, and_parts, and_from, and_right, or_cases, or_left, or_right}
 use Rattle.std.proofs.lemmas.Option.{same_Some}
-use Rattle.dice_key.specs.Lawful.{IsEquality}
+use Rattle.dice_key.specs.Lawful.{IsEquality, IsLawful}
 use Rattle.dice_key.specs.Meaning.{Meaning}
 use Rattle.dice_key.specs.declared.universe.Kind.{Kind}
 use Rattle.dice_key.specs.declared.universe.Kind.TheVariants.{Injected, Computed, Projection}
@@ -89,13 +89,6 @@ module _ {K V : Type 0} (eq : K → K → Bool) (equality : IsEquality eq) (m : 
       ];
     }
 
-    -- an Ask at v itself
-    pub asked : SameLives s u → (m.kind k ≡ Injected → SameAsks eq s u) → (m.kind k ≢ Injected → Joins eq k (Promised (length R)) s u) → VersionStands eq m (Ask by t k ∷ R) v W u ts
-    asked lives stays joins = elim (injected_or_not m k) as (λ _. VersionStands eq m (Ask by t k ∷ R) v W u ts) [
-      | inl d ↦ version_on eq m R (Ask by t k ∷ R) v (carries eq R by t k v) W s u ts h lives (λ q j. stays d q (Tasked j)) (asked_injected d (stays d))
-      | inr n ↦ version_on eq m R (Ask by t k ∷ R) v (carries eq R by t k v) W s u ts h lives (λ d j. joins n d (Tasked j) ∙ or_none (s.asks d (Tasked j)) _ (and_right (eq k d) false refl)) (asked_computed (joins n))
-    ]
-
   -- an Ask at another version
   module _ (at : o.version ≢ v) (s : Asked K) (ts : K → Option (Task K V)) where
     promises_stay : (W : List K) → VersionStands eq m R v W s ts → Promises m (Ask by t k ∷ R) v s
@@ -107,8 +100,18 @@ module _ {K V : Type 0} (eq : K → K → Bool) (equality : IsEquality eq) (m : 
       ];
     }
 
-    pub asked_elsewhere : (W : List K) → VersionStands eq m R v W s ts → VersionStands eq m (Ask by t k ∷ R) v W s ts
-    asked_elsewhere W h = version_stays eq m R (Ask by t k ∷ R) v (carries eq R by t k v) s ts (promises_stay W h) W h
+module _ {K V : Type 0} (eq : K → K → Bool) (equality : IsEquality eq) (m : Meaning K V) (law : IsLawful m) (R : List (Told K V)) (v : ℕ) where
+  -- an Ask at v itself
+  pub asked : (W : List K) (s u : Asked K) (ts : K → Option (Task K V)) (by t : ℕ) (k : K) (o : Opened) → VersionStands eq m R v W s ts → open_at R t ≡ Some o → o.version ≡ v
+      → (m.kind k ≡ Injected → SameAsks eq s u) → (m.kind k ≢ Injected → Joins eq k (Promised (length R)) s u) → SameLives eq s u → VersionStands eq m (Ask by t k ∷ R) v W u ts
+  asked W s u ts by t k o h open_is at stays joins lives = elim (injected_or_not m k) as (λ _. VersionStands eq m (Ask by t k ∷ R) v W u ts) [
+    | inl d ↦ version_on eq m R (Ask by t k ∷ R) v (carries eq R by t k v) W s u ts h lives (λ q j. stays d q (Tasked j)) (asked_injected eq equality m R v by t k o open_is at W s u ts h d (stays d))
+    | inr n ↦ version_on eq m R (Ask by t k ∷ R) v (carries eq R by t k v) W s u ts h lives (λ d j. joins n d (Tasked j) ∙ or_none (s.asks d (Tasked j)) _ (and_right (eq k d) false refl)) (asked_computed eq equality m R v by t k o open_is at W s u ts h (joins n))
+  ]
 
-    pub asked_elsewhere_rests : IsAtRest eq m R v s ts → IsAtRest eq m (Ask by t k ∷ R) v s ts
-    asked_elsewhere_rests h = rest_stays eq m R (Ask by t k ∷ R) v (carries eq R by t k v) s ts (promises_stay [] h.stands) (λ z. z) h
+  -- an Ask at another version
+  pub asked_elsewhere : (W : List K) (s : Asked K) (ts : K → Option (Task K V)) (by t : ℕ) (k : K) (o : Opened) → VersionStands eq m R v W s ts → open_at R t ≡ Some o → o.version ≢ v → VersionStands eq m (Ask by t k ∷ R) v W s ts
+  asked_elsewhere W s ts by t k o h open_is at = version_stays eq m R (Ask by t k ∷ R) v (carries eq R by t k v) s ts (promises_stay eq equality m R v by t k o open_is at s ts W h) W h
+
+  pub asked_elsewhere_rests : (s : Asked K) (ts : K → Option (Task K V)) (by t : ℕ) (k : K) (o : Opened) → IsAtRest eq m R v s ts → open_at R t ≡ Some o → o.version ≢ v → IsAtRest eq m (Ask by t k ∷ R) v s ts
+  asked_elsewhere_rests s ts by t k o h open_is at = rest_stays eq m R (Ask by t k ∷ R) v (carries eq R by t k v) s ts (promises_stay eq equality m R v by t k o open_is at s ts [] h.stands) (λ z. z) h

@@ -106,7 +106,7 @@ module _ {K V : Type 0} (eq : K → K → Bool) (m : Meaning K V) (R S : List (T
         by_task (Some t) p q = (h.each k t p).within
 
     -- all but the promises goes on where the tasks, and their asks, stay
-    pub version_on : SameLives s u → ((d k : K) → u.asks d (Tasked k) ≡ s.asks d (Tasked k)) → Promises m S v u → VersionStands eq m S v W u ts
+    pub version_on : SameLives eq s u → ((d k : K) → u.asks d (Tasked k) ≡ s.asks d (Tasked k)) → Promises m S v u → VersionStands eq m S v W u ts
     version_on lives same p = record {
       promised = p.promised;
       promises = p.promises;
@@ -148,7 +148,7 @@ same_promises eq m R S v l W s ts h = record {
 }
 
 -- what holds is said of tasks and asks key by key
-module _ {K V : Type 0} (eq : K → K → Bool) (m : Meaning K V) (R : List (Told K V)) (v : ℕ) (s u : Asked K) (ts us : K → Option (Task K V)) (lives : SameLives s u) (asks : SameAsks eq s u) (tasks : (q : K) → us q ≡ ts q) where
+module _ {K V : Type 0} (eq : K → K → Bool) (m : Meaning K V) (R : List (Told K V)) (v : ℕ) (s u : Asked K) (ts us : K → Option (Task K V)) (lives : SameLives eq s u) (asks : SameAsks eq s u) (tasks : (q : K) → us q ≡ ts q) where
   same_asked : u ≡ s
   same_asked = λ i. record { live = λ q. lives q i; asks = λ q a. asks q a i }
 

@@ -2,6 +2,7 @@
 use Rattle.std.proofs.Common.{◌≡◌, ◌<◌, ◌+◌, ℕ, Bool, true, false, eqb, List, [], ◌∷◌, Option, refl, sym, ap, ◌∙◌, arith, append-nil}
 use Rattle.std.proofs.lemmas.Bool.{both_ways, eqb-true, eqb-false, and_parts}
 use Rattle.std.proofs.lemmas.Option.{none-some}
+use Rattle.dice_key.specs.Lawful.{IsEquality, IsLawful}
 use Rattle.dice_key.specs.Meaning.{Meaning}
 use Rattle.task_share.specs.Asked.{By, Promised, Tasked, Asked}
 use Rattle.journal.specs.declared.event.Told.{Told}
@@ -71,10 +72,11 @@ module _ {K V : Type 0} (eq : K → K → Bool) (m : Meaning K V) (R : List (Tol
   counted : open_count R v + one_if (eqb w v) ≡ 0 → open_count R v ≡ 0
   counted z = omega arith
 
+module _ {K V : Type 0} (eq : K → K → Bool) (equality : IsEquality eq) (m : Meaning K V) (law : IsLawful m) (R : List (Told K V)) (v : ℕ) where
   -- a version at rest is at rest
-  pub opened : IsAtRest eq m R v s ts → IsAtRest eq m (Open by w ∷ R) v s ts
-  opened h = by_start (begins R w v) refl
+  pub opened : (s : Asked K) (ts : K → Option (Task K V)) (by w : ℕ) → IsAtRest eq m R v s ts → IsLawfulBack eq m R → IsAtRest eq m (Open by w ∷ R) v s ts
+  opened s ts by w h lawful = by_start (begins R w v) refl
     where
       by_start : (b : Bool) → begins R w v ≡ b → IsAtRest eq m (Open by w ∷ R) v s ts
-      by_start true n = begun n h
-      by_start false n = rest_stays eq m R (Open by w ∷ R) v (carries n) s ts (same_promises eq m R (Open by w ∷ R) v (same_live n) [] s ts h.stands) counted h
+      by_start true n = begun eq m R lawful v by w s ts n h
+      by_start false n = rest_stays eq m R (Open by w ∷ R) v (carries eq m R lawful v by w s ts n) s ts (same_promises eq m R (Open by w ∷ R) v (same_live eq m R lawful v by w s ts n) [] s ts h.stands) (counted eq m R lawful v by w s ts) h

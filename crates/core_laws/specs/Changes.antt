@@ -1,9 +1,7 @@
 -- What one step does to the tasks and the asks of a version.
-use Rattle.std.specs.Prelude.{◌≡◌, ◌⊎◌, ℕ, Bool, true, false, cond, not, ◌&&◌, ◌||◌, eqb, List, Option}
+use Rattle.std.specs.Prelude.{◌≡◌, ◌⊎◌, ℕ, Bool, true, false, cond, not, ◌&&◌, ◌||◌, List, Option, Some, None}
 use Rattle.dice_model.specs.Log.{Has}
 use Rattle.task_share.specs.Asked.{By, Promised, Tasked, Asked, is_by}
-use Rattle.journal.specs.declared.event.Told.{Told}
-use Rattle.journal.specs.Events.{is_for, live_at}
 use Rattle.core_laws.specs.Tasks.{Task}
 
 module _ {K V : Type 0} (eq : K → K → Bool) where
@@ -15,6 +13,14 @@ module _ {K : Type 0} (eq : K → K → Bool) where
   -- the same asks
   abbrev pub SameAsks : Asked K → Asked K → Type 0
   SameAsks s u = (q : K) (a : By K) → u.asks q a ≡ s.asks q a
+
+  -- the same keys live
+  abbrev pub SameLives : Asked K → Asked K → Type 0
+  SameLives s u = (q : K) → u.live q ≡ s.live q
+
+  -- k lives or not, as b says; all other keys as they did
+  abbrev pub Lives : K → Bool → Asked K → Asked K → Type 0
+  Lives k b s u = (q : K) → u.live q ≡ cond (eq k q) b (s.live q)
 
   -- one asker more
   abbrev pub Joins : K → By K → Asked K → Asked K → Type 0
@@ -33,21 +39,3 @@ module _ {K : Type 0} (eq : K → K → Bool) where
     pub kept : (q : K) (a : By K) → s.asks q a ≡ true → u.asks q a ≡ true
     pub asked : (d : K) → Has ds d → u.asks d (Tasked k) ≡ true
     pub only : (q : K) (a : By K) → u.asks q a ≡ true → (s.asks q a ≡ true) ⊎ (Has ds q × (a ≡ Tasked k))
-
-  -- the task of k has not ended, or has; so do the others as before
-  abbrev pub Lives : K → Bool → Asked K → Asked K → Type 0
-  Lives k b s u = (q : K) → u.live q ≡ cond (eq k q) b (s.live q)
-
-module _ {K : Type 0} where
-  -- the same tasks have not ended
-  abbrev pub SameLives : Asked K → Asked K → Type 0
-  SameLives s u = (q : K) → u.live q ≡ s.live q
-
-  -- no tasks and no asks
-  abbrev pub nobody : Asked K
-  nobody = record { live = λ q. false; asks = λ q a. false }
-
-  -- the asker is a promise that was made in the transaction t
-  abbrev pub is_promise_in : {V : Type 0} → List (Told K V) → ℕ → By K → Bool
-  is_promise_in R t (Promised i) = is_for (λ a. eqb t a.opened) (live_at R i)
-  is_promise_in R t (Tasked k) = false

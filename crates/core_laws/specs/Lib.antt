@@ -1,3 +1,4 @@
 pub mod Tasks
 pub mod Stands
 pub mod Changes
+pub mod Promises
