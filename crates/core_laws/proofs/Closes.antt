@@ -6,12 +6,13 @@ use Rattle.dice_key.specs.Meaning.{Meaning}
 use Rattle.task_share.specs.Asked.{By, Promised, Tasked, Asked}
 use Rattle.journal.specs.declared.event.Told.{Told}
 use Rattle.journal.specs.declared.event.Told.TheVariants.{Close}
-use Rattle.journal.specs.Events.{Opened, Asking, is_for, one_if, commits_of, open_at, opened_at, open_count, live_at}
+use Rattle.journal.specs.Events.{Opened, Asking, is_for, one_if, commits_of, open_at, opened_at, open_count, live_at, ended_at}
 use Rattle.core_laws.specs.Tasks.{Task}
 use Rattle.core_laws.specs.Stands.{VersionStands, IsAtRest}
 use Rattle.core_laws.specs.Changes.{SameLives}
 use Rattle.core_laws.specs.Promises.{is_promise_in}
 use Rattle.core_laws.proofs.Indices.{still_live}
+use Rattle.core_laws.proofs.Opens.{open_there}
 use Rattle.core_laws.proofs.Frames.{Carries, Promises, version_on, version_stays, rest_stays}
 
 and_not_none : (b : Bool) → (b && true) ≡ b
@@ -77,3 +78,11 @@ module _ {K V : Type 0} (eq : K → K → Bool) (equality : IsEquality eq) (m : 
 
   pub closed_elsewhere_rests : (s : Asked K) (ts : K → Option (Task K V)) (by t : ℕ) (o : Opened) → IsAtRest eq m R v s ts → open_at R t ≡ Some o → o.version ≢ v → IsAtRest eq m (Close by t ∷ R) v s ts
   closed_elsewhere_rests s ts by t o h open_is at = rest_stays eq m R (Close by t ∷ R) v (carries eq R by t v) s ts (promises_stay eq m R v by t o open_is at s ts [] h.stands) (counted eq m R v by t o open_is at s ts) h
+
+-- after a Close tasks of its version may be dropped
+pub ended_on_close : {K V : Type 0} (R : List (Told K V)) (v by t : ℕ) → opened_at R v t ≡ true → ended_at (Close by t ∷ R) ≡ Some v
+ended_on_close R v by t h = let o = open_there R v t h in rw o.1 (ap Some o.2)
+
+-- who asks after a Close asked before it
+pub closed_fewer : {K V : Type 0} (R : List (Told K V)) (t : ℕ) (s u : Asked K) → ((q : K) (a : By K) → u.asks q a ≡ (s.asks q a && not (is_promise_in R t a))) → (q : K) (a : By K) → u.asks q a ≡ true → s.asks q a ≡ true
+closed_fewer R t s u leave q a e = (and_parts (s.asks q a) _ (sym (leave q a) ∙ e)).0

@@ -7,10 +7,11 @@ use Rattle.dice_key.specs.Meaning.{Meaning}
 use Rattle.task_share.specs.Asked.{Promised, Tasked, Asked}
 use Rattle.journal.specs.declared.event.Told.{Told}
 use Rattle.journal.specs.declared.event.Told.TheVariants.{Leave}
-use Rattle.journal.specs.Events.{Asking, commits_of, opened_at, live_at}
+use Rattle.journal.specs.Events.{Asking, commits_of, opened_at, live_at, ended_at}
 use Rattle.core_laws.specs.Tasks.{Task}
 use Rattle.core_laws.specs.Stands.{VersionStands, IsAtRest}
 use Rattle.core_laws.specs.Changes.{SameLives, Leaves}
+use Rattle.core_laws.proofs.Opens.{open_there}
 use Rattle.core_laws.proofs.Frames.{Carries, Promises, version_on, version_stays, rest_stays}
 
 and_not_none : (b c : Bool) → c ≡ false → (b && not c) ≡ b
@@ -61,3 +62,7 @@ module _ {K V : Type 0} (eq : K → K → Bool) (equality : IsEquality eq) (m : 
 
   pub left_elsewhere_rests : (s : Asked K) (ts : K → Option (Task K V)) (by i : ℕ) (a : Asking K) → IsAtRest eq m R v s ts → live_at R i ≡ Some a → opened_at R v a.opened ≡ false → IsAtRest eq m (Leave by i ∷ R) v s ts
   left_elsewhere_rests s ts by i a h live_is at = rest_stays eq m R (Leave by i ∷ R) v (carries eq R by i v) s ts (promises_stay eq equality m R v by i a live_is at s ts [] h.stands) (λ z. z) h
+
+-- after a Leave tasks of its version may be dropped
+pub ended_on_leave : {K V : Type 0} (R : List (Told K V)) (v by i : ℕ) (a : Asking K) → live_at R i ≡ Some a → opened_at R v a.opened ≡ true → ended_at (Leave by i ∷ R) ≡ Some v
+ended_on_leave R v by i a e h = let o = open_there R v a.opened h in rw (e, o.1) (ap Some o.2)
