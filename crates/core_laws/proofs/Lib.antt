@@ -14,3 +14,10 @@ pub mod Makes
 pub mod Stages
 pub mod Releases
 pub mod Parks
+pub mod OfKey
+pub mod Held
+pub mod Ends
+pub mod Cycles
+pub mod Drops
+pub mod Rest
+pub mod Answered
