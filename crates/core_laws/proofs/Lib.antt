@@ -21,3 +21,4 @@ pub mod Cycles
 pub mod Drops
 pub mod Rest
 pub mod Answered
+pub mod Steps
