@@ -22,3 +22,4 @@ pub mod Drops
 pub mod Rest
 pub mod Answered
 pub mod Steps
+pub mod StepsMakes
