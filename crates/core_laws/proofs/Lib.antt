@@ -23,3 +23,5 @@ pub mod Rest
 pub mod Answered
 pub mod Steps
 pub mod StepsMakes
+pub mod StepsWaits
+pub mod StepsEnds
