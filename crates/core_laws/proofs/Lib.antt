@@ -25,3 +25,4 @@ pub mod Steps
 pub mod StepsMakes
 pub mod StepsWaits
 pub mod StepsEnds
+pub mod StepsAsks
