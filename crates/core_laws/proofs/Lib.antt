@@ -26,3 +26,4 @@ pub mod StepsMakes
 pub mod StepsWaits
 pub mod StepsEnds
 pub mod StepsAsks
+pub mod StepsRests
