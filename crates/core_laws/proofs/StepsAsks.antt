@@ -46,10 +46,12 @@ module _ {K V : Type 0} (eq : K → K → Bool) (equality : IsEquality eq) (m : 
       → DeskStays d e → 2 * e.live + owed2 ≤ e.spare
       → IsAllowed eq m R (Ask by t k) × Stand eq m (Ask by t k ∷ R) v W (with_version v u ts w) e owed2
   asked_stand w W s u ts by t k o d e owed owed2 st open_is at lives same joins stays room =
-      let a : IsAllowed eq m R (Ask by t k) = (o, open_is) in
-      (a, asks_on eq equality m law R v w W W s u ts d e owed owed2 (Ask by t k ∷ R) st (a, st.lawful)
-          (asked eq equality m R v by t k o open_is at W s u ts (stands_here eq equality m R v W s ts w d owed st) lives same joins)
-          (λ n b bs f r. asked_elsewhere_rests eq equality m R n by t k o open_is (open_elsewhere v n o at f) b bs r) stays room)
+      let a : IsAllowed eq m R (Ask by t k) = (o, open_is) in (
+        a,
+        asks_on eq equality m law R v w W W s u ts d e owed owed2 (Ask by t k ∷ R) st (a, st.lawful)
+            (asked eq equality m R v by t k o open_is at W s u ts (stands_here eq equality m R v W s ts w d owed st) lives same joins)
+            (λ n b bs f r. asked_elsewhere_rests eq equality m R n by t k o open_is (open_elsewhere v n o at f) b bs r) stays room,
+      )
 
   -- an ask at v is left: its promise goes
   pub left_stand : (w : World K V) (W : List K) (s u : Asked K) (ts : K → Option (Task K V)) (by i : ℕ) (a : Asking K) (d e : Desk K) (owed owed2 : ℕ) → Stand eq m R v W (with_version v s ts w) d owed
@@ -57,11 +59,13 @@ module _ {K V : Type 0} (eq : K → K → Bool) (equality : IsEquality eq) (m : 
       → DeskStays d e → 2 * e.live + owed2 ≤ e.spare
       → IsAllowed eq m R (Leave by i) × Stand eq m (Leave by i ∷ R) v W (with_version v u ts w) e owed2 × (ended_at (Leave by i ∷ R) ≡ Some v)
   left_stand w W s u ts by i a d e owed owed2 st live_is his at lives leaves stays room =
-      let b : IsAllowed eq m R (Leave by i) = (a, live_is, his) in
-      (b, asks_on eq equality m law R v w W W s u ts d e owed owed2 (Leave by i ∷ R) st (b, st.lawful)
-          (left eq equality m R v by i a live_is W s u ts (stands_here eq equality m R v W s ts w d owed st) lives leaves)
-          (λ n c bs f r. left_elsewhere_rests eq equality m R n by i a live_is (ask_elsewhere R v n a.opened at f) c bs r) stays room,
-          ap (option_and_then (λ (x : Asking K). option_map (λ (o : Opened). o.version) (open_at R x.opened))) live_is ∙ version_at R v a.opened at)
+      let b : IsAllowed eq m R (Leave by i) = (a, live_is, his) in (
+        b,
+        asks_on eq equality m law R v w W W s u ts d e owed owed2 (Leave by i ∷ R) st (b, st.lawful)
+            (left eq equality m R v by i a live_is W s u ts (stands_here eq equality m R v W s ts w d owed st) lives leaves)
+            (λ n c bs f r. left_elsewhere_rests eq equality m R n by i a live_is (ask_elsewhere R v n a.opened at f) c bs r) stays room,
+        ap (option_and_then (λ (x : Asking K). option_map (λ (o : Opened). o.version) (open_at R x.opened))) live_is ∙ version_at R v a.opened at,
+      )
 
   -- a transaction at v is closed: all its promises go
   pub closed_stand : (w : World K V) (W : List K) (s u : Asked K) (ts : K → Option (Task K V)) (by t : ℕ) (o : Opened) (d e : Desk K) (owed owed2 : ℕ) → Stand eq m R v W (with_version v s ts w) d owed
@@ -69,8 +73,10 @@ module _ {K V : Type 0} (eq : K → K → Bool) (equality : IsEquality eq) (m : 
       → DeskStays d e → 2 * e.live + owed2 ≤ e.spare
       → IsAllowed eq m R (Close by t) × Stand eq m (Close by t ∷ R) v W (with_version v u ts w) e owed2 × (ended_at (Close by t ∷ R) ≡ Some v)
   closed_stand w W s u ts by t o d e owed owed2 st open_is his at lives leaves stays room =
-      let a : IsAllowed eq m R (Close by t) = (o, open_is, his) in
-      (a, asks_on eq equality m law R v w W W s u ts d e owed owed2 (Close by t ∷ R) st (a, st.lawful)
-          (closed eq m R v by t W s u ts (stands_here eq equality m R v W s ts w d owed st) lives leaves)
-          (λ n c bs f r. closed_elsewhere_rests eq m R n by t o open_is (open_elsewhere v n o at f) c bs r) stays room,
-          ap (option_map (λ (x : Opened). x.version)) open_is ∙ ap Some at)
+      let a : IsAllowed eq m R (Close by t) = (o, open_is, his) in (
+        a,
+        asks_on eq equality m law R v w W W s u ts d e owed owed2 (Close by t ∷ R) st (a, st.lawful)
+            (closed eq m R v by t W s u ts (stands_here eq equality m R v W s ts w d owed st) lives leaves)
+            (λ n c bs f r. closed_elsewhere_rests eq m R n by t o open_is (open_elsewhere v n o at f) c bs r) stays room,
+        ap (option_map (λ (x : Opened). x.version)) open_is ∙ ap Some at,
+      )

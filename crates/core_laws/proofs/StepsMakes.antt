@@ -50,4 +50,4 @@ module _ {K V : Type 0} (eq : K → K → Bool) (equality : IsEquality eq) (m : 
       → Stand eq m R v W (with_version v u us w) e owed2
   checks_stand w W s u ts us k n x T b d e owed owed2 st computed within once asked reached undecided idle seen born put lives same turns room =
       task_on eq equality m law R v w W s u ts us k d e owed owed2 _ st put turns room W
-          (checks eq equality m law R v W s u ts us k n x T b (stands_here eq equality m R v W s ts w d owed st) computed within once asked reached undecided idle seen born put lives same)
+      (checks eq equality m law R v W s u ts us k n x T b (stands_here eq equality m R v W s ts w d owed st) computed within once asked reached undecided idle seen born put lives same)

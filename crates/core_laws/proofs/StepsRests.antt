@@ -9,7 +9,7 @@ use Rattle.journal.specs.declared.event.Told.{Told}
 use Rattle.journal.specs.declared.event.Told.TheVariants.{Open, Commit}
 use Rattle.journal.specs.Events.{commits_of, open_count}
 use Rattle.journal.specs.Law.{IsAllowed, IsLawfulBack, IsWanted}
-use Rattle.core_laws.specs.Tasks.{Work, IsReady, IsOut, IsWaiting, Standing, Works, Ended, Task, goes_on, is_going}
+use Rattle.core_laws.specs.Tasks.{Work, IsReady, IsOut, Standing, Works, Ended, Task, goes_on, is_going}
 use Rattle.core_laws.specs.Stands.{VersionStands, IsAtRest}
 use Rattle.core_laws.specs.Changes.{nobody}
 use Rattle.core_laws.specs.Desk.{World, Desk, DeskStays, AreAll, IsCount, Stand, Rests, with_version, ready_in, out_in, is_ready, is_out}
@@ -61,6 +61,7 @@ module _ {K V : Type 0} where
           by_number : (b : Bool) → eqb n v ≡ b → cond b (w.asked v) (w.asked n) ≡ w.asked n
           by_number true e = ap w.asked (sym (eqb-true n v e))
           by_number false e = refl
+
       same_tasks : (n : ℕ) → cond (eqb n v) (w.tasks v) (w.tasks n) ≡ w.tasks n
       same_tasks n = by_number (eqb n v) refl
         where
