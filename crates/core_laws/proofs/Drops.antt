@@ -1,5 +1,6 @@
 -- A task without asker is dropped.
 use Rattle.std.proofs.Common.{◌≡◌, ◌<◌, ◌⊎◌, inl, inr, ℕ, Bool, true, false, not, ◌&&◌, List, ◌∷◌, Option, Some, None, refl, sym, ap, ◌∙◌, subst}
+use Rattle.std.specs.Option.{option_map, option_and_then}
 use Rattle.std.proofs.lemmas.Option.{none-some}
 use Rattle.dice_key.specs.Meaning.{Meaning}
 use Rattle.dice_key.specs.Lawful.{IsEquality}
@@ -7,20 +8,31 @@ use Rattle.dice_key.specs.declared.universe.Kind.TheVariants.{Injected}
 use Rattle.dice_model.specs.Log.{Has}
 use Rattle.task_share.specs.Asked.{By, Promised, Tasked, Asked, Takes}
 use Rattle.journal.specs.declared.event.Told.{Told}
-use Rattle.journal.specs.declared.event.Told.TheVariants.{Drop}
-use Rattle.journal.specs.Events.{ended_at, decided, open_count, is_running}
+use Rattle.journal.specs.declared.event.Told.TheVariants.{Close, Leave, Drop}
+use Rattle.journal.specs.Events.{Opened, Asking, open_at, live_at, ended_at, decided, open_count, is_running}
 use Rattle.journal.specs.Law.{IsAllowed}
 use Rattle.core_laws.specs.Tasks.{Task, goes_on, is_going, is_computing, batch_of, value_of}
 use Rattle.core_laws.specs.Stands.{TaskStands, VersionStands}
 use Rattle.core_laws.specs.Changes.{Puts}
-use Rattle.core_laws.proofs.Shapes.{and_none, and_all, not_both, leads_fewer, same_or_other, put_here, put_other}
+use Rattle.core_laws.proofs.Shapes.{and_none, not_both, leads_fewer, same_or_other, put_here, put_other}
 use Rattle.core_laws.proofs.OfKey.{asked_before, asked_by_another, promise_stays, others_stay, named, drop_leaves, task_on}
 use Rattle.core_laws.proofs.Ends.{no_value_at_work, undecided_at_work}
+
+and_all : (a : Bool) → (a && true) ≡ a
+and_all true = refl
+and_all false = refl
 
 -- what is at work is a task
 pub going_task : {K V : Type 0} (o : Option (Task K V)) → is_going o ≡ true → (t : Task K V) × (o ≡ Some t) × (goes_on t.standing ≡ true)
 going_task None e = cc
 going_task (Some t) e = (t, refl, e)
+
+-- a Close and a Leave are ends at the version of their transaction
+pub ended_by_close : {K V : Type 0} (R : List (Told K V)) (by t : ℕ) (o : Opened) → open_at R t ≡ Some o → ended_at (Close by t ∷ R) ≡ Some o.version
+ended_by_close R by t o e = ap (option_map (λ (o : Opened). o.version)) e
+
+pub ended_by_leave : {K V : Type 0} (R : List (Told K V)) (by i : ℕ) (a : Asking K) (o : Opened) → live_at R i ≡ Some a → open_at R a.opened ≡ Some o → ended_at (Leave by i ∷ R) ≡ Some o.version
+ended_by_leave {K} R by i a o l e = ap (option_and_then (λ (x : Asking K). option_map (λ (o : Opened). o.version) (open_at R x.opened))) l ∙ ap (option_map (λ (o : Opened). o.version)) e
 
 -- who is asked for is not taken
 pub asked_stays : {K : Type 0} (eq : K → K → Bool) (equality : IsEquality eq) (k : K) (s u : Asked K) → Takes eq s k u → (q : K) (a : By K) → s.asks q a ≡ true → eq k q ≡ false

@@ -27,3 +27,4 @@ pub mod StepsWaits
 pub mod StepsEnds
 pub mod StepsAsks
 pub mod StepsRests
+pub mod StepsWanted

@@ -1,14 +1,15 @@
 -- Between the engine's calls; and where nothing can be taken and nothing is out, nothing is at work.
-use Rattle.std.proofs.Common.{◌≡◌, ◌<◌, ◌+◌, ◌⊎◌, inl, inr, ℕ, zero, suc, Bool, true, false, not, ◌&&◌, ◌||◌, List, [], ◌∷◌, length, Option, Some, None, refl, sym, ap, ◌∙◌, subst, arith}
+use Rattle.std.proofs.Common.{◌≡◌, ◌≢◌, ◌<◌, ◌+◌, ◌⊎◌, inl, inr, ℕ, zero, suc, Bool, true, false, not, ◌&&◌, ◌||◌, List, [], ◌∷◌, length, Option, Some, None, refl, sym, ap, ◌∙◌, subst, arith}
 use Rattle.std.proofs.lemmas.Bool.{and_parts, and_from, and_left, or_left, or_right, not_from_false, cases_Bool, eq-eqb}
 use Rattle.dice_key.specs.Meaning.{Meaning, Answered}
 use Rattle.dice_key.specs.Lawful.{IsEquality}
+use Rattle.dice_key.specs.declared.universe.Kind.TheVariants.{Injected}
 use Rattle.dice_model.specs.Log.{Has, AreDistinct}
 use Rattle.dice_model.proofs.Finite.{few, has_or_not}
 use Rattle.task_share.specs.Asked.{By, Promised, Tasked, is_by, Asked, Leads, stays, asks_on, HasNoCircle, IsDone, Takes}
 use Rattle.journal.specs.declared.event.Told.{Told}
-use Rattle.journal.specs.Events.{open_count}
-use Rattle.core_laws.specs.Tasks.{Work, IsReady, IsOut, IsWaiting, Standing, Works, Ended, Task, goes_on, waits_for, batch_of}
+use Rattle.journal.specs.Events.{Asking, live_at, opened_at, open_count}
+use Rattle.core_laws.specs.Tasks.{Outcome, Work, IsReady, IsOut, IsWaiting, Standing, Works, Ended, Task, goes_on, waits_for, is_going, batch_of}
 use Rattle.core_laws.specs.Stands.{VersionStands, IsAtRest}
 use Rattle.core_laws.specs.Changes.{Puts, SameLives, Lives, Joins, Leaves, Withdraws, Parks}
 use Rattle.core_laws.proofs.Shapes.{not_both, same_or_other, put_here, put_other, lives_here, lives_other, asks_nothing}
@@ -165,3 +166,16 @@ quiet {K} {V} eq equality m R v s ts h ready out all finite k l = stands_still e
         let b = waiting q t.0 t.1 t.0.standing refl t.2 in
         let d = h.stuck q b.0 b.1 in
         (d.0, d.1, elim (h.awaited d.0 q d.1) as (λ _. s.live d.0 ≡ true) [ inl y ↦ y | inr y ↦ absurd y ])
+
+-- and then each key that was asked for has a task that has ended
+pub all_answered : {K V : Type 0} (eq : K → K → Bool) (equality : IsEquality eq) (m : Meaning K V) (R : List (Told K V)) (v : ℕ) (s : Asked K) (ts : K → Option (Task K V)) → IsAtRest eq m R v s ts
+    → ((k : K) (t : Task K V) (w : Work K V) (A : List (Answered K V)) → ts k ≡ Some t → t.standing ≡ Works w IsReady A → ⊥) → ((k : K) (t : Task K V) (w : Work K V) (A : List (Answered K V)) → ts k ≡ Some t → t.standing ≡ Works w IsOut A → ⊥)
+    → (all : List K) → ((q : K) → s.live q ≡ true → Has all q) → (i : ℕ) (a : Asking K) → live_at R i ≡ Some a → opened_at R v a.opened ≡ true → m.kind a.key ≢ Injected → (t : Task K V) × (o : Outcome K V) × (ts a.key ≡ Some t) × (t.standing ≡ Ended o)
+all_answered {K} {V} eq equality m R v s ts h ready out all finite i a l at c = by_standing t.0 t.1 t.0.standing refl
+  where
+    t : (t : Task K V) × (ts a.key ≡ Some t)
+    t = h.tasked a.key (Promised i) (h.stands.promises i a l at c)
+
+    by_standing : (t : Task K V) → ts a.key ≡ Some t → (d : Standing K V) → t.standing ≡ d → (t : Task K V) × (o : Outcome K V) × (ts a.key ≡ Some t) × (t.standing ≡ Ended o)
+    by_standing t there (Works w p A) e = absurd (quiet eq equality m R v s ts h.stands ready out all finite a.key (h.stands.live a.key ∙ (ap is_going there ∙ ap goes_on e)))
+    by_standing t there (Ended o) e = (t, o, there, e)

@@ -22,7 +22,7 @@ module _ {K V : Type 0} (eq : K → K → Bool) (equality : IsEquality eq) (m : 
       (turns : DeskTurns v k (ts k) o d e) (room : 2 * e.live + owed2 ≤ e.spare) where
     -- an event of a task at v: it is allowed, and all stands over the longer journal
     pub event_on : (X : List K) (x : Told K V) → ((n : ℕ) → eqb v n ≡ false → IsElsewhere n x) → IsAllowed eq m R x → VersionStands eq m (x ∷ R) v X u us → Stand eq m (x ∷ R) v X (with_version v u us w) e owed2
-    event_on X x there a h = steps_on eq equality v k o w s u ts us put m R (x ∷ R) W X d e owed owed2 st (a, st.lawful) h (λ n b bs f r. elsewhere_rests eq m R n b bs x (there n (other_version v n f)) r) turns room
+    event_on X x there a h = steps_on eq equality v k o w s u ts us put m R (x ∷ R) W X d e owed owed2 st (a, st.lawful) h (λ n b bs f r. elsewhere_rests eq equality m law R n b bs x r (there n (other_version v n f))) turns room
 
     -- a task of v changes, and nothing is told
     pub task_on : (X : List K) → VersionStands eq m R v X u us → Stand eq m R v X (with_version v u us w) e owed2

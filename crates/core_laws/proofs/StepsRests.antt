@@ -11,7 +11,7 @@ use Rattle.journal.specs.Events.{commits_of, open_count}
 use Rattle.journal.specs.Law.{IsAllowed, IsLawfulBack, IsWanted}
 use Rattle.core_laws.specs.Tasks.{Work, IsReady, IsOut, Standing, Works, Ended, Task, goes_on, is_going}
 use Rattle.core_laws.specs.Stands.{VersionStands, IsAtRest}
-use Rattle.core_laws.specs.Changes.{nobody}
+use Rattle.core_laws.specs.Promises.{nobody}
 use Rattle.core_laws.specs.Desk.{World, Desk, DeskStays, AreAll, IsCount, Stand, Rests, with_version, ready_in, out_in, is_ready, is_out}
 use Rattle.core_laws.proofs.Counts.{all_alike, count_alike}
 use Rattle.core_laws.proofs.Turns.{stands_here}
@@ -129,7 +129,7 @@ module _ {K V : Type 0} (eq : K → K → Bool) (equality : IsEquality eq) (m : 
     pub rests_emptied : open_count R v ≡ 0 → Rests eq m R (with_version v nobody (λ q. None) w) d owed
     rests_emptied empty = record {
       lawful = st.lawful;
-      each = each_of nobody (λ q. None) (emptied eq equality m R st.lawful v empty s ts here done finite.0 finite.1);
+      each = each_of nobody (λ q. None) (emptied eq equality m law R v s ts here st.lawful empty done finite.0 finite.1);
       ready = all_alike _ _ (λ p. same is_ready refl idle_ready p) d.ready st.ready;
       out = count_alike _ _ (λ p. same is_out refl idle_out p) d.out st.out;
       live = count_alike _ _ (λ p. same is_going refl (λ o e. e) p) d.live st.live;
@@ -170,11 +170,11 @@ module _ {K V : Type 0} (eq : K → K → Bool) (equality : IsEquality eq) (m : 
 
   -- a transaction is opened
   pub rests_open : (by n : ℕ) → n ≡ length (commits_of R) → IsAllowed eq m R (Open by n) × Rests eq m (Open by n ∷ R) w e owed2
-  rests_open by n a = (a, rests_on (Open by n ∷ R) (a, r.lawful) (λ i b bs h. opened eq m R r.lawful i by n b bs h))
+  rests_open by n a = (a, rests_on (Open by n ∷ R) (a, r.lawful) (λ i b bs h. opened eq equality m law R i b bs by n h r.lawful))
 
   -- a commit
   pub rests_commit : (by : ℕ) (c : List (K × V)) → IsAllowed eq m R (Commit by c) → Rests eq m (Commit by c ∷ R) w e owed2
-  rests_commit by c a = rests_on (Commit by c ∷ R) (a, r.lawful) (λ i b bs h. committed_rests eq m R i by c b bs h)
+  rests_commit by c a = rests_on (Commit by c ∷ R) (a, r.lawful) (λ i b bs h. committed_rests eq equality m law R i b bs by c h)
 
 -- before all events
 pub rests_first : {K V : Type 0} (eq : K → K → Bool) (m : Meaning K V) (spare owed : ℕ) → owed ≤ spare → Rests eq m [] (record { asked = λ n. nobody; tasks = λ n q. None }) (record { ready = []; out = 0; live = 0; spare = spare }) owed

@@ -1,10 +1,8 @@
 -- What one step does to the tasks and the asks of a version.
-use Rattle.std.specs.Prelude.{◌≡◌, ◌≢◌, ◌⊎◌, ℕ, Bool, true, false, cond, not, ◌&&◌, ◌||◌, eqb, List, [], ◌∷◌, ◌++◌, length, map, Option}
+use Rattle.std.specs.Prelude.{◌≡◌, ◌≢◌, ◌⊎◌, Bool, true, cond, not, ◌&&◌, ◌||◌, List, [], ◌∷◌, ◌++◌, length, map, Option}
 use Rattle.dice_key.specs.Meaning.{Answered}
 use Rattle.dice_model.specs.Log.{Has}
-use Rattle.task_share.specs.Asked.{By, Promised, Tasked, Asked, is_by}
-use Rattle.journal.specs.declared.event.Told.{Told}
-use Rattle.journal.specs.Events.{is_for, live_at}
+use Rattle.task_share.specs.Asked.{By, Tasked, Asked, is_by}
 use Rattle.core_laws.specs.Tasks.{Task}
 
 module _ {K V : Type 0} (eq : K → K → Bool) where
@@ -42,16 +40,6 @@ module _ {K : Type 0} (eq : K → K → Bool) where
     pub kept : (q : K) (a : By K) → s.asks q a ≡ true → u.asks q a ≡ true
     pub asked : (d : K) → Has ds d → u.asks d (Tasked k) ≡ true
     pub only : (q : K) (a : By K) → u.asks q a ≡ true → (s.asks q a ≡ true) ⊎ (Has ds q × (a ≡ Tasked k))
-
-module _ {K : Type 0} where
-  -- no tasks and no asks
-  abbrev pub nobody : Asked K
-  nobody = record { live = λ q. false; asks = λ q a. false }
-
-  -- the asker is a promise that was made in the transaction t
-  abbrev pub is_promise_in : {V : Type 0} → List (Told K V) → ℕ → By K → Bool
-  is_promise_in R t (Promised i) = is_for (λ a. eqb t a.opened) (live_at R i)
-  is_promise_in R t (Tasked k) = false
 
 -- A has answers to the first batches of the trace T: those before the last batch are as in T, and in the last d is the first key whose
 -- answer is another
