@@ -86,7 +86,8 @@ module _ {K V : Type 0} (eq : K → K → Bool) (equality : IsEquality eq) (m : 
         by_asker (Promised i) e = let p = h.promised q i e in absurd (both_ways (opened_at R v p.0.opened) (none_open v R (closes_open eq m R lawful) empty p.0.opened) p.2)
         by_asker (Tasked j) e = let w = h.waiting q j e in (j, e, h.live j ∙ waits_goes (ts j) w.0 w.1)
 
-    idle : (q : K) → s.live q ≡ false
+    -- no task is at work
+    pub idle : (q : K) → s.live q ≡ false
     idle q = false_from_ne_true (s.live q) (none_live eq equality s all finite h.no_circle asked_by q)
 
 module _ {K V : Type 0} (eq : K → K → Bool) (equality : IsEquality eq) (m : Meaning K V) (law : IsLawful m) (R : List (Told K V)) (v : ℕ) where

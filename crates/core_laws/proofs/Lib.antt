@@ -21,3 +21,10 @@ pub mod Cycles
 pub mod Drops
 pub mod Rest
 pub mod Answered
+pub mod Steps
+pub mod StepsMakes
+pub mod StepsWaits
+pub mod StepsEnds
+pub mod StepsAsks
+pub mod StepsRests
+pub mod StepsWanted
