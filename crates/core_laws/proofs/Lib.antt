@@ -28,3 +28,4 @@ pub mod StepsEnds
 pub mod StepsAsks
 pub mod StepsRests
 pub mod StepsWanted
+pub mod StepsInjected

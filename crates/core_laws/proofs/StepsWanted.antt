@@ -1,12 +1,11 @@
 -- All that is at work at a version is wanted: what keeps this.
-use Rattle.std.proofs.Common.{◌≡◌, inl, inr, ℕ, Bool, true, false, not, ◌&&◌, eqb, List, ◌∷◌, length, sym, ◌∙◌, subst, arith}
+use Rattle.std.proofs.Common.{◌≡◌, inl, inr, ℕ, Bool, true, false, not, eqb, List, ◌∷◌, length, sym, ◌∙◌, subst, arith}
 use Rattle.std.proofs.lemmas.Bool.{ne_eqb, and_parts}
 use Rattle.dice_key.specs.Meaning.{Meaning}
 use Rattle.dice_key.specs.Lawful.{IsLawful, IsEquality}
 use Rattle.task_share.specs.Asked.{Asked, Takes}
 use Rattle.journal.specs.declared.event.Told.{Told}
 use Rattle.journal.specs.declared.event.Told.TheVariants.{Ask, Start, Keep, End, Cyclic, Drop, Lost}
-use Rattle.journal.specs.Events.{live_at}
 use Rattle.journal.specs.Law.{IsWanted}
 use Rattle.core_laws.specs.Changes.{SameLives, Lives}
 use Rattle.core_laws.specs.Desk.{World, Desk, Rests}

@@ -5,7 +5,7 @@ use Rattle.dice_model.specs.Log.{Has, AreDistinct}
 use Rattle.task_share.specs.Asked.{Asked}
 use Rattle.journal.specs.declared.event.Told.{Told}
 use Rattle.journal.specs.Law.{IsLawfulBack}
-use Rattle.core_laws.specs.Tasks.{Work, Phase, IsReady, IsOut, IsWaiting, Standing, Works, Ended, Task, is_going}
+use Rattle.core_laws.specs.Tasks.{IsReady, IsOut, IsWaiting, Standing, Works, Ended, Task, is_going}
 use Rattle.core_laws.specs.Stands.{VersionStands, IsAtRest}
 
 -- the tasks and the asks of each version
