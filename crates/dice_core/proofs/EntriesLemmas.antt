@@ -157,7 +157,7 @@ module _ {K V : Type 0} (eq : K → K → Bool) (equality : IsEquality eq) (m : 
         | inr i ↦ (let r = h.known q b i in (r.0, up q ∙ (ap (λ c. cond c (Some f) (entry_at eq es q)) n ∙ r.1)))
       ]
 
-  -- a match is kept, and its entry was seen
+  -- a match is kept, and its entry e was seen
   pub stand_seen : (b : ℕ) (e : Kept K V) → ((q : K) → entry_at eq fs q ≡ cond (eq k q) (option_map (seen_at v) (entry_at eq es k)) (entry_at eq es q)) → entry_at eq es k ≡ Some e → AreTrue eq m (commits_of R) fs → EntriesStand eq m (Keep v k b ∷ R) fs
   stand_seen b e up there true_ones =
       let d = keep_decides eq equality R v k b in

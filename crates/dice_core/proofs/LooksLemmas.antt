@@ -1,19 +1,21 @@
 -- What a look-up says, where the entries stand.
-use Rattle.std.proofs.Common.{◌≡◌, ◌≢◌, ◌≤◌, ◌⊎◌, inl, inr, ℕ, Bool, true, false, cond, List, length, Option, Some, None, refl, sym, ap, ◌∙◌, subst, arith}
-use Rattle.std.proofs.lemmas.Bool.{both_ways}
+use Rattle.std.proofs.Common.{◌≡◌, ◌≢◌, ◌≤◌, ◌⊎◌, inl, inr, ℕ, Bool, true, false, cond, ◌&&◌, ◌||◌, eqb, List, ◌∷◌, length, Option, Some, None, refl, sym, ap, ◌∙◌, subst, arith}
+use Rattle.std.proofs.lemmas.Bool.{both_ways, and_right}
 use Rattle.std.proofs.lemmas.Option.{none-some}
 use Rattle.dice_key.specs.Meaning.{Meaning, Answered}
 use Rattle.dice_model.specs.Eval.{HasValue}
 use Rattle.dice_model.specs.Asks.{IsTrace}
 use Rattle.journal.specs.declared.event.Told.{Told}
 use Rattle.journal.specs.declared.event.Reason.TheVariants.{New, Transient}
-use Rattle.journal.specs.Events.{commits_of, is_base}
+use Rattle.journal.specs.declared.event.Told.TheVariants.{Ask, Start, Keep}
+use Rattle.journal.specs.declared.event.Reason.{Reason}
+use Rattle.journal.specs.Events.{names_by, commits_of, is_base}
 use Rattle.journal.specs.Law.{IsTrueCause}
 use Rattle.versioned_graph.specs.Entries.{Kept, Stored, entry_at}
 use Rattle.versioned_graph.specs.Looks.{Look, Matches, Computes, Checks, look}
 use Rattle.versioned_graph.specs.declared.found.Why.TheVariants as why
 use Rattle.core_laws.specs.Stands.{WasSeen}
-use Rattle.dice_core.specs.Entries.{Backed, EntriesStand, IsMatched}
+use Rattle.dice_core.specs.Entries.{Backed, EntriesStand, IsMatched, LookStands}
 
 module _ {K V : Type 0} (eq : K → K → Bool) (m : Meaning K V) (R : List (Told K V)) (es : List (K × Stored K V)) (h : EntriesStand eq m R es) (k : K) (v : ℕ) where
   -- what is answered of an entry whose ranges do not have the version
@@ -126,3 +128,45 @@ module _ {K V : Type 0} (eq : K → K → Bool) (m : Meaning K V) (R : List (Tol
           by_range : (c : Bool) → cond c (Matches f.value f.version) (other_look (m.is_transient f.value) f) ≡ Checks x T b → WasSeen eq m R k x T b
           by_range true s = cc
           by_range false s = by_transient (m.is_transient f.value) refl s
+
+  -- what a look-up answers, in any case
+  pub look_stands : (o : Look K V) → v ≤ length (commits_of R) → look m.is_transient (entry_at eq es k) v ≡ o → LookStands eq m R es v k o
+  look_stands (Matches x b) within e = matched x b within e
+  look_stands (Computes why.New) within e = new_cause e
+  look_stands (Computes (why.Transient b)) within e = transient_cause b e
+  look_stands (Checks x T b) within e = was_seen x T b e
+
+module _ {K V : Type 0} (eq : K → K → Bool) (m : Meaning K V) (R : List (Told K V)) (es fs : List (K × Stored K V)) (k : K) (v : ℕ) (same : entry_at eq fs k ≡ entry_at eq es k) where
+  -- what was answered goes on to hold after events that say the same of commits and of the key's bases, where the key's entry is the same
+  look_alike : (S : List (Told K V)) → commits_of R ≡ commits_of S → ((b : ℕ) → is_base eq R b k ≡ is_base eq S b k) → (o : Look K V) → LookStands eq m R es v k o → LookStands eq m S fs v k o
+  look_alike S c f (Matches x b) h = record {
+    base = sym (f b) ∙ h.base;
+    here = subst (λ C. HasValue eq m C v k x) c h.here;
+    there = subst (λ C. HasValue eq m C b k x) c h.there;
+    lasts = h.lasts;
+    entry = h.entry;
+    known = same ∙ h.known;
+    has = h.has;
+  }
+  look_alike S c f (Computes why.New) h = λ b. sym (f b) ∙ h b
+  look_alike S c f (Computes (why.Transient b)) h = (sym (f b) ∙ h.0, h.1, h.2, subst (λ C. HasValue eq m C b k h.2) c h.3, h.4)
+  look_alike S c f (Checks x T b) h = record {
+    finished = h.finished;
+    traced = subst (λ C. IsTrace eq m C h.finished k T x) c h.traced;
+    below = h.below;
+    within = subst (λ C. b ≤ length C) c h.within;
+    same = subst (λ C. HasValue eq m C b k x) c h.same;
+    lasts = h.lasts;
+    finished_base = sym (f h.finished) ∙ h.finished_base;
+    base = sym (f b) ∙ h.base;
+  }
+
+  pub look_on_ask : (by t : ℕ) (q : K) (o : Look K V) → LookStands eq m R es v k o → LookStands eq m (Ask by t q ∷ R) fs v k o
+  look_on_ask by t q = look_alike (Ask by t q ∷ R) refl (λ b. refl)
+
+  pub look_on_start : (w : ℕ) (q : K) (c : Reason K) (o : Look K V) → LookStands eq m R es v k o → LookStands eq m (Start w q c ∷ R) fs v k o
+  look_on_start w q c = look_alike (Start w q c ∷ R) refl (λ b. refl)
+
+  -- a Keep of another key
+  pub look_on_keep : (w : ℕ) (q : K) (d : ℕ) → eq k q ≡ false → (o : Look K V) → LookStands eq m R es v k o → LookStands eq m (Keep w q d ∷ R) fs v k o
+  look_on_keep w q d n = look_alike (Keep w q d ∷ R) refl (λ b. sym (ap (λ c. c || is_base eq R b k) (and_right (eqb w b) (eq k q) n)))

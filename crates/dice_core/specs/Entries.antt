@@ -4,10 +4,21 @@ use Rattle.dice_key.specs.Meaning.{Meaning}
 use Rattle.dice_model.specs.Eval.{HasValue}
 use Rattle.dice_model.specs.Asks.{IsTrace}
 use Rattle.journal.specs.declared.event.Told.{Told}
+use Rattle.journal.specs.declared.event.Reason.{Reason}
+use Rattle.journal.specs.declared.event.Reason.TheVariants as reason
 use Rattle.journal.specs.Events.{commits_of, is_base}
-use Rattle.journal.specs.Law.{KeepsValue}
+use Rattle.journal.specs.Law.{KeepsValue, IsTrueCause}
 use Rattle.versioned_graph.specs.Entries.{Kept, Stored, entry_at}
+use Rattle.versioned_graph.specs.Looks.{Look, Matches, Computes, Checks}
 use Rattle.versioned_graph.specs.Sound.{AreTrue}
+use Rattle.versioned_graph.specs.declared.found.Why.{Why}
+use Rattle.versioned_graph.specs.declared.found.Why.TheVariants as why
+use Rattle.core_laws.specs.Stands.{WasSeen}
+
+-- why a key is started, where it has to be computed
+abbrev pub started_for : {K : Type 0} → Why → Reason K
+started_for why.New = reason.New
+started_for (why.Transient b) = reason.Transient b
 
 module _ {K V : Type 0} (eq : K → K → Bool) (m : Meaning K V) (R : List (Told K V)) where
   -- an entry of k comes from decisions: its own version is a base of k; and its trace is that of a base, at most its own version, at which k
@@ -35,6 +46,13 @@ module _ {K V : Type 0} (eq : K → K → Bool) (m : Meaning K V) (R : List (Tol
     pub entry : Kept K V
     pub known : entry_at eq es k ≡ Some entry
     pub has : entry.ranges v ≡ true
+
+module _ {K V : Type 0} (eq : K → K → Bool) (m : Meaning K V) where
+  -- what the answer of a look-up says of k at v: that it keeps a value; why it is started; or what has to be checked
+  abbrev pub LookStands : List (Told K V) → List (K × Stored K V) → ℕ → K → Look K V → Type 0
+  LookStands R es v k (Matches x b) = IsMatched eq m R es v k x b
+  LookStands R es v k (Computes y) = IsTrueCause eq m R v k (started_for y)
+  LookStands R es v k (Checks x T b) = WasSeen eq m R k x T b
 
 module _ {K V : Type 0} {eq : K → K → Bool} {m : Meaning K V} {R : List (Told K V)} {es : List (K × Stored K V)} {v : ℕ} {k : K} {x : V} {b : ℕ} where
   -- so the key keeps the value x
