@@ -1,2 +1,4 @@
 pub mod LooksLemmas
 pub mod EntriesLemmas
+pub mod Lists
+pub mod Shelf

@@ -1,9 +1,9 @@
 -- A task as it is kept, and what it stands for.
-use Rattle.std.specs.Prelude.{◌≡◌, ℕ, List, Option, Some, None}
+use Rattle.std.specs.Prelude.{◌≡◌, ℕ, List, [], Option, Some, None, length}
 use Rattle.std.specs.Option.{option_map}
 use Rattle.std.specs.Arc.{arc_value}
 use Rattle.std.specs.declared.sync.Arc.{Arc}
-use Rattle.dice_jobs.specs.Jobs.{Name, Assigned, Waits}
+use Rattle.dice_jobs.specs.Jobs.{Name, Assigned, Waits, answered_more}
 use Rattle.dice_jobs.specs.Jobs.{Work, Computes, Checks}
 use Rattle.core_laws.specs.Tasks.{Phase, IsReady, IsOut, IsWaiting, Standing, Works, Ended, Task}
 use Rattle.core_laws.specs.Tasks.{Work as Doing, Computes as DoesCompute, Checks as DoesCheck}
@@ -49,3 +49,23 @@ module _ {K V : Type 0} where
   IsDoing (state.Checking s) w = (x : V) × (T : _) × (b : ℕ) × (w ≡ Checks x T b)
   IsDoing (state.Computing s) w = w ≡ Computes
   IsDoing (state.Ended o) w = ⊥
+
+  -- a task that does this job, in this phase
+  abbrev pub held_of : Assigned K V → Phase K → Held K V
+  held_of a p = record { name = a.name; standing = works a p }
+
+  -- a task that has ended so
+  abbrev pub held_ended : Name K → Came K V → Held K V
+  held_ended n o = record { name = n; standing = Ended o }
+
+-- what a waiting task goes on with: what its job is for then, and the values that its batch was answered with
+pub record Ahead (K V : Type 0) : Type 0 where
+  pub job : Assigned K V
+  pub values : List V
+
+-- a task that waits for a batch goes on with this when the batch is answered
+pub record FollowsOn {K V : Type 0} (h : Held K V) (n : Ahead K V) : Type 0 where
+  pub waits : Waits K V
+  pub held : h ≡ held_of waits.job (IsWaiting waits.keys)
+  pub count : length n.values ≡ length waits.keys
+  pub job : n.job ≡ answered_more waits.job waits.keys n.values

@@ -1,2 +1,5 @@
 pub mod Helds
+pub mod Hands
+pub mod Loads
+pub mod Shelves
 pub mod Entries

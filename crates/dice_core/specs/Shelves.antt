@@ -1,0 +1,15 @@
+-- How the ready tasks and those that are out lie in memory.
+use Rattle.std.specs.Prelude.{◌≡◌, ◌+◌, ◌^◌, ◌≤◌, ◌<◌, ℕ, List, length, map, take, drop, vec_capacity}
+use Rattle.std.specs.Arc.{arc_value}
+use Rattle.dice_core.specs.declared.desk.ReadyTask.{ReadyTask}
+
+-- a task by its version and key
+abbrev pub place_of : {K : Type 0} → ReadyTask K → ℕ × K
+place_of r = (r.version, arc_value r.key)
+
+-- the ready tasks stand first, and then those that are out
+abbrev pub ready_of : {K : Type 0} → ℕ → List (ReadyTask K) → List (ℕ × K)
+ready_of n ks = map place_of (take n ks)
+
+abbrev pub out_of : {K : Type 0} → ℕ → List (ReadyTask K) → List (ℕ × K)
+out_of n ks = map place_of (drop n ks)
