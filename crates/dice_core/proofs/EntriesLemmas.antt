@@ -1,17 +1,17 @@
 -- The entries stand after each event.
-use Rattle.std.proofs.Common.{◌≡◌, ◌≤◌, ◌⊎◌, inl, inr, ℕ, Bool, true, false, cond, not, ◌&&◌, ◌||◌, eqb, eq-eqb, nat_le, max, List, [], ◌∷◌, ◌++◌, length, Option, Some, None, refl, sym, ap, ◌∙◌, subst, arith}
+use Rattle.std.proofs.Common.{◌≡◌, ◌≤◌, ◌⊎◌, inl, inr, ℕ, Bool, true, false, cond, not, ◌&&◌, ◌||◌, eqb, eq-eqb, nat_le, max, List, [], ◌∷◌, Option, Some, None, refl, sym, ap, ◌∙◌, subst, arith}
 use Rattle.std.specs.Option.{option_map}
 use Rattle.std.proofs.lemmas.Bool.{both_ways, and_from, or_left, or_right, cases_lt}
 use Rattle.std.proofs.lemmas.Option.{none-some, same_Some}
-use Rattle.dice_key.specs.Lawful.{IsLawful, IsEquality, AreSame}
-use Rattle.dice_key.specs.Meaning.{Meaning, Answered}
+use Rattle.dice_key.specs.Lawful.{IsEquality, AreSame}
+use Rattle.dice_key.specs.Meaning.{Meaning}
 use Rattle.dice_model.specs.Asks.{IsTrace}
 use Rattle.dice_model.proofs.Stable.{goes_stable}
 use Rattle.journal.specs.declared.event.Told.{Told}
 use Rattle.journal.specs.declared.event.Told.TheVariants.{Commit, Open, Close, Ask, Leave, Start, Keep, End, Cyclic, Drop, Lost}
 use Rattle.journal.specs.declared.event.Reason.{Reason}
 use Rattle.journal.specs.Events.{names_by, commits_of, is_base}
-use Rattle.versioned_graph.specs.Entries.{Kept, Stored, entry_at, seen_at, joined, finished, written}
+use Rattle.versioned_graph.specs.Entries.{Kept, Stored, entry_at, seen_at, joined, written}
 use Rattle.versioned_graph.specs.Sound.{AreTrue}
 use Rattle.versioned_graph.proofs.Longer.{longer}
 use Rattle.versioned_graph.proofs.Bools.{and_both, or_either}

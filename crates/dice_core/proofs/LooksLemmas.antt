@@ -1,7 +1,6 @@
 -- What a look-up says, where the entries stand.
-use Rattle.std.proofs.Common.{◌≡◌, ◌≢◌, ◌≤◌, ◌⊎◌, inl, inr, ℕ, Bool, true, false, cond, ◌&&◌, ◌||◌, eqb, List, ◌∷◌, length, Option, Some, None, refl, sym, ap, ◌∙◌, subst, arith}
+use Rattle.std.proofs.Common.{◌≡◌, ◌≤◌, ◌⊎◌, inl, inr, ℕ, Bool, true, false, cond, ◌||◌, eqb, List, ◌∷◌, length, Option, Some, None, refl, sym, ap, ◌∙◌, subst}
 use Rattle.std.proofs.lemmas.Bool.{both_ways, and_right}
-use Rattle.std.proofs.lemmas.Option.{none-some}
 use Rattle.dice_key.specs.Meaning.{Meaning, Answered}
 use Rattle.dice_model.specs.Eval.{HasValue}
 use Rattle.dice_model.specs.Asks.{IsTrace}
@@ -9,13 +8,13 @@ use Rattle.journal.specs.declared.event.Told.{Told}
 use Rattle.journal.specs.declared.event.Reason.TheVariants.{New, Transient}
 use Rattle.journal.specs.declared.event.Told.TheVariants.{Ask, Start, Keep}
 use Rattle.journal.specs.declared.event.Reason.{Reason}
-use Rattle.journal.specs.Events.{names_by, commits_of, is_base}
+use Rattle.journal.specs.Events.{commits_of, is_base}
 use Rattle.journal.specs.Law.{IsTrueCause}
 use Rattle.versioned_graph.specs.Entries.{Kept, Stored, entry_at}
 use Rattle.versioned_graph.specs.Looks.{Look, Matches, Computes, Checks, look}
 use Rattle.versioned_graph.specs.declared.found.Why.TheVariants as why
 use Rattle.core_laws.specs.Stands.{WasSeen}
-use Rattle.dice_core.specs.Entries.{Backed, EntriesStand, IsMatched, LookStands}
+use Rattle.dice_core.specs.Entries.{EntriesStand, IsMatched, LookStands}
 
 module _ {K V : Type 0} (eq : K → K → Bool) (m : Meaning K V) (R : List (Told K V)) (es : List (K × Stored K V)) (h : EntriesStand eq m R es) (k : K) (v : ℕ) where
   -- what is answered of an entry whose ranges do not have the version
