@@ -1,21 +1,23 @@
 -- The entries stand after each event.
-use Rattle.std.proofs.Common.{◌≡◌, ◌≤◌, ◌⊎◌, inl, inr, ℕ, Bool, true, false, cond, not, ◌&&◌, ◌||◌, eqb, eq-eqb, nat_le, max, List, [], ◌∷◌, ◌++◌, length, Option, Some, None, refl, sym, ap, ◌∙◌, subst, arith}
+use Rattle.std.proofs.Common.{◌≡◌, ◌≤◌, ◌⊎◌, inl, inr, ℕ, Bool, true, false, cond, not, ◌&&◌, ◌||◌, eqb, eq-eqb, nat_le, max, List, [], ◌∷◌, ◌++◌, reverse, Option, Some, None, refl, sym, ap, ◌∙◌, subst, arith}
 use Rattle.std.specs.Option.{option_map}
+use Rattle.std.specs.List.{AllByRecursion}
+use Rattle.std.proofs.lemmas.List.{append-nil, append_assoc, reverse-append}
 use Rattle.std.proofs.lemmas.Bool.{both_ways, and_from, or_left, or_right, cases_lt}
 use Rattle.std.proofs.lemmas.Option.{none-some, same_Some}
-use Rattle.dice_key.specs.Lawful.{IsLawful, IsEquality, AreSame}
-use Rattle.dice_key.specs.Meaning.{Meaning, Answered}
+use Rattle.dice_key.specs.Lawful.{IsEquality, AreSame}
+use Rattle.dice_key.specs.Meaning.{Meaning}
 use Rattle.dice_model.specs.Asks.{IsTrace}
 use Rattle.dice_model.proofs.Stable.{goes_stable}
 use Rattle.journal.specs.declared.event.Told.{Told}
 use Rattle.journal.specs.declared.event.Told.TheVariants.{Commit, Open, Close, Ask, Leave, Start, Keep, End, Cyclic, Drop, Lost}
 use Rattle.journal.specs.declared.event.Reason.{Reason}
 use Rattle.journal.specs.Events.{names_by, commits_of, is_base}
-use Rattle.versioned_graph.specs.Entries.{Kept, Stored, entry_at, seen_at, joined, finished, written}
+use Rattle.versioned_graph.specs.Entries.{Kept, Stored, entry_at, seen_at, joined, written}
 use Rattle.versioned_graph.specs.Sound.{AreTrue}
 use Rattle.versioned_graph.proofs.Longer.{longer}
 use Rattle.versioned_graph.proofs.Bools.{and_both, or_either}
-use Rattle.dice_core.specs.Entries.{Backed, EntriesStand}
+use Rattle.dice_core.specs.Entries.{LeavesEntries, Backed, EntriesStand}
 
 module _ {K V : Type 0} (eq : K → K → Bool) (m : Meaning K V) where
   -- with no events and no entries
@@ -86,6 +88,28 @@ module _ {K V : Type 0} (eq : K → K → Bool) (m : Meaning K V) where
       });
       known = h.known;
     }
+
+module _ {K V : Type 0} (eq : K → K → Bool) (m : Meaning K V) (es : List (K × Stored K V)) where
+  -- after an event that commits nothing and decides nothing by a value
+  pub stand_on : (R : List (Told K V)) (e : Told K V) → LeavesEntries e → EntriesStand eq m R es → EntriesStand eq m (e ∷ R) es
+  stand_on R (Commit by c) n h = absurd n
+  stand_on R (Keep v k b) n h = absurd n
+  stand_on R (End v k) n h = absurd n
+  stand_on R (Open by v) n h = stand_open eq m R es h by v
+  stand_on R (Close by t) n h = stand_close eq m R es h by t
+  stand_on R (Ask by t k) n h = stand_ask eq m R es h by t k
+  stand_on R (Leave by i) n h = stand_leave eq m R es h by i
+  stand_on R (Start v k c) n h = stand_start eq m R es h v k c
+  stand_on R (Cyclic v k) n h = stand_cyclic eq m R es h v k
+  stand_on R (Drop v k) n h = stand_drop eq m R es h v k
+  stand_on R (Lost v k) n h = stand_lost eq m R es h v k
+
+  -- after such events in a row, where J is the journal before them in its order
+  pub stand_after : (J E : List (Told K V)) → AllByRecursion LeavesEntries E → EntriesStand eq m (reverse J) es → EntriesStand eq m (reverse (J ++ E)) es
+  stand_after J [] n h = subst (λ I. EntriesStand eq m (reverse I) es) (sym (append-nil J)) h
+  stand_after J (e ∷ E) n h =
+      subst (λ I. EntriesStand eq m (reverse I) es) (append_assoc J (e ∷ []) E)
+      (stand_after (J ++ e ∷ []) E n.1 (subst (λ S. EntriesStand eq m S es) (sym (reverse-append J (e ∷ []))) (stand_on (reverse J) e n.0 h)))
 
 max_either : (a b : ℕ) → (max a b ≡ a) ⊎ ((max a b ≡ b) × (a ≤ b))
 max_either a b = elim (cases_lt a b) as (λ _. (max a b ≡ a) ⊎ ((max a b ≡ b) × (a ≤ b))) [ inl h ↦ inr (omega arith, omega arith) | inr h ↦ inl (omega arith) ]

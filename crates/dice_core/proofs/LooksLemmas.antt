@@ -1,21 +1,20 @@
 -- What a look-up says, where the entries stand.
-use Rattle.std.proofs.Common.{◌≡◌, ◌≢◌, ◌≤◌, ◌⊎◌, inl, inr, ℕ, Bool, true, false, cond, ◌&&◌, ◌||◌, eqb, List, ◌∷◌, length, Option, Some, None, refl, sym, ap, ◌∙◌, subst, arith}
+use Rattle.std.proofs.Common.{◌≡◌, ◌≤◌, ◌⊎◌, inl, inr, ℕ, Bool, true, false, cond, ◌||◌, eqb, List, ◌∷◌, length, Option, Some, None, refl, sym, ap, ◌∙◌, subst}
 use Rattle.std.proofs.lemmas.Bool.{both_ways, and_right}
-use Rattle.std.proofs.lemmas.Option.{none-some}
 use Rattle.dice_key.specs.Meaning.{Meaning, Answered}
 use Rattle.dice_model.specs.Eval.{HasValue}
 use Rattle.dice_model.specs.Asks.{IsTrace}
 use Rattle.journal.specs.declared.event.Told.{Told}
 use Rattle.journal.specs.declared.event.Reason.TheVariants.{New, Transient}
-use Rattle.journal.specs.declared.event.Told.TheVariants.{Ask, Start, Keep}
+use Rattle.journal.specs.declared.event.Told.TheVariants.{Commit, Open, Close, Ask, Leave, Start, Keep, End, Cyclic, Drop, Lost}
 use Rattle.journal.specs.declared.event.Reason.{Reason}
-use Rattle.journal.specs.Events.{names_by, commits_of, is_base}
+use Rattle.journal.specs.Events.{commits_of, is_base}
 use Rattle.journal.specs.Law.{IsTrueCause}
 use Rattle.versioned_graph.specs.Entries.{Kept, Stored, entry_at}
 use Rattle.versioned_graph.specs.Looks.{Look, Matches, Computes, Checks, look}
 use Rattle.versioned_graph.specs.declared.found.Why.TheVariants as why
 use Rattle.core_laws.specs.Stands.{WasSeen}
-use Rattle.dice_core.specs.Entries.{Backed, EntriesStand, IsMatched, LookStands}
+use Rattle.dice_core.specs.Entries.{LeavesEntries, EntriesStand, IsMatched, LookStands}
 
 module _ {K V : Type 0} (eq : K → K → Bool) (m : Meaning K V) (R : List (Told K V)) (es : List (K × Stored K V)) (h : EntriesStand eq m R es) (k : K) (v : ℕ) where
   -- what is answered of an entry whose ranges do not have the version
@@ -166,6 +165,20 @@ module _ {K V : Type 0} (eq : K → K → Bool) (m : Meaning K V) (R : List (Tol
 
   pub look_on_start : (w : ℕ) (q : K) (c : Reason K) (o : Look K V) → LookStands eq m R es v k o → LookStands eq m (Start w q c ∷ R) fs v k o
   look_on_start w q c = look_alike (Start w q c ∷ R) refl (λ b. refl)
+
+  -- after any event that commits nothing and decides nothing by a value
+  pub look_on : (e : Told K V) → LeavesEntries e → (o : Look K V) → LookStands eq m R es v k o → LookStands eq m (e ∷ R) fs v k o
+  look_on (Commit by c) n = absurd n
+  look_on (Keep w q d) n = absurd n
+  look_on (End w q) n = absurd n
+  look_on (Open by w) n = look_alike (Open by w ∷ R) refl (λ b. refl)
+  look_on (Close by t) n = look_alike (Close by t ∷ R) refl (λ b. refl)
+  look_on (Ask by t q) n = look_alike (Ask by t q ∷ R) refl (λ b. refl)
+  look_on (Leave by i) n = look_alike (Leave by i ∷ R) refl (λ b. refl)
+  look_on (Start w q c) n = look_alike (Start w q c ∷ R) refl (λ b. refl)
+  look_on (Cyclic w q) n = look_alike (Cyclic w q ∷ R) refl (λ b. refl)
+  look_on (Drop w q) n = look_alike (Drop w q ∷ R) refl (λ b. refl)
+  look_on (Lost w q) n = look_alike (Lost w q ∷ R) refl (λ b. refl)
 
   -- a Keep of another key
   pub look_on_keep : (w : ℕ) (q : K) (d : ℕ) → eq k q ≡ false → (o : Look K V) → LookStands eq m R es v k o → LookStands eq m (Keep w q d ∷ R) fs v k o

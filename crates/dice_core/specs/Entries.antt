@@ -1,9 +1,10 @@
 -- Where the graph's entries come from. R is the journal read backwards.
-use Rattle.std.specs.Prelude.{◌≡◌, ◌≤◌, ◌⊎◌, ℕ, Bool, true, false, List, Option, Some}
+use Rattle.std.specs.Prelude.{◌≡◌, ◌≤◌, ◌⊎◌, ℕ, Bool, true, false, List, Some}
 use Rattle.dice_key.specs.Meaning.{Meaning}
 use Rattle.dice_model.specs.Eval.{HasValue}
 use Rattle.dice_model.specs.Asks.{IsTrace}
 use Rattle.journal.specs.declared.event.Told.{Told}
+use Rattle.journal.specs.declared.event.Told.TheVariants.{Commit, Open, Close, Ask, Leave, Start, Keep, End, Cyclic, Drop, Lost}
 use Rattle.journal.specs.declared.event.Reason.{Reason}
 use Rattle.journal.specs.declared.event.Reason.TheVariants as reason
 use Rattle.journal.specs.Events.{commits_of, is_base}
@@ -19,6 +20,21 @@ use Rattle.core_laws.specs.Stands.{WasSeen}
 abbrev pub started_for : {K : Type 0} → Why → Reason K
 started_for why.New = reason.New
 started_for (why.Transient b) = reason.Transient b
+
+module _ {K V : Type 0} where
+  -- the event commits nothing, and decides nothing by a value
+  abbrev pub LeavesEntries : Told K V → Type 0
+  LeavesEntries (Commit by c) = ⊥
+  LeavesEntries (Keep v k b) = ⊥
+  LeavesEntries (End v k) = ⊥
+  LeavesEntries (Open by v) = Unit {0}
+  LeavesEntries (Close by t) = Unit {0}
+  LeavesEntries (Ask by t k) = Unit {0}
+  LeavesEntries (Leave by i) = Unit {0}
+  LeavesEntries (Start v k c) = Unit {0}
+  LeavesEntries (Cyclic v k) = Unit {0}
+  LeavesEntries (Drop v k) = Unit {0}
+  LeavesEntries (Lost v k) = Unit {0}
 
 module _ {K V : Type 0} (eq : K → K → Bool) (m : Meaning K V) (R : List (Told K V)) where
   -- an entry of k comes from decisions: its own version is a base of k; and its trace is that of a base, at most its own version, at which k
