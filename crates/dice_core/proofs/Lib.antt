@@ -1,4 +1,5 @@
+pub mod Lists
+pub mod Parts
+pub mod Tasks
 pub mod LooksLemmas
 pub mod EntriesLemmas
-pub mod Lists
-pub mod Shelf

@@ -1,7 +1,8 @@
 -- How the ready tasks and those that are out lie in memory.
-use Rattle.std.specs.Prelude.{◌≡◌, ◌+◌, ◌^◌, ◌≤◌, ◌<◌, ℕ, List, length, map, take, drop, vec_capacity}
+use Rattle.std.specs.Prelude.{◌≤◌, ℕ, List, length, map, take, drop}
 use Rattle.std.specs.Arc.{arc_value}
-use Rattle.dice_core.specs.declared.desk.ReadyTask.{ReadyTask}
+use Rattle.dice_model.specs.Log.{AreDistinct}
+use Rattle.dice_core.specs.declared.shelf.ReadyTask.{ReadyTask}
 
 -- a task by its version and key
 abbrev pub place_of : {K : Type 0} → ReadyTask K → ℕ × K
@@ -13,3 +14,8 @@ ready_of n ks = map place_of (take n ks)
 
 abbrev pub out_of : {K : Type 0} → ℕ → List (ReadyTask K) → List (ℕ × K)
 out_of n ks = map place_of (drop n ks)
+
+-- so many are ready, and no task stands twice
+pub record IsLaid {K : Type 0} (n : ℕ) (ks : List (ReadyTask K)) : Type 0 where
+  pub bound : n ≤ length ks
+  pub distinct : AreDistinct (map place_of ks)

@@ -7,38 +7,18 @@ ghost use Rattle.dice_core.specs.Hands.{with_event, with_made, with_ended, with_
 ghost use Rattle.dice_core.specs.Shelves.{place_of};
 
 use dice_key::{KeyRef, NoMemory, Universe};
-use indexmap::{Equivalent, IndexSet};
+use crate::shelf::{ReadyTask, Shelf, put_back, put_in, take_away, take_out};
+use indexmap::IndexSet;
 use journal::{Event, Journal};
 use std::alloc::Global;
-use std::hash::Hash;
 use std::marker::Model;
-use std::sync::Arc;
-
-/// A task that is ready or out, by its version and key.
-#[derive(PartialEq, Eq, Hash, Drop)]
-pub(crate) struct ReadyTask<K> {
-    pub(crate) version: u64,
-    pub(crate) key: Arc<K>,
-}
-
-impl<K: Eq + Hash> Equivalent<ReadyTask<K>> for (u64, &Arc<K>) {
-    ghost equivalent = { λ q. ⟦<ReadyTask<K> as PartialEq>⟧.eq (record { version = q.0; key = q.1.now }) };
-
-    ghost respects_hash = { λ q. ⟦<ReadyTask<K> as Hash>⟧.respects_eq (record { version = q.0; key = q.1.now }) };
-
-    ghost respects_eq = { λ q. ⟦<ReadyTask<K> as Eq>⟧.laws.congr (record { version = q.0; key = q.1.now }) };
-
-    fn equivalent(&self, task: &ReadyTask<K>) -> bool {
-        self.0 == task.version && *self.1 == task.key
-    }
-}
 
 /// The journal, and what is counted over the tasks of all versions, with room made ahead.
 #[derive(Drop)]
 pub(crate) struct Desk<U: Universe> {
     journal: Journal<U>,
     /// The ready tasks, and then those that are out.
-    at_hand: IndexSet<ReadyTask<U::Key>>,
+    at_hand: Shelf<U>,
     ready: usize,
     ready_room: usize,
     live: usize,
@@ -53,13 +33,13 @@ impl<U: Universe> Model for Desk<U> {
 
     ghost Value = { DeskSeen U.Key U.Value };
 
-    ghost use Rattle.dice_core.specs.Shelves.{ready_of, out_of};
+    ghost use Rattle.dice_core.specs.Shelves.{ready_of, out_of, IsLaid};
     ghost use Rattle.std.specs.Prelude.{◌≤◌, ◌<◌, ◌+◌, ◌^◌, length, vec_capacity};
     ghost use Rattle.indexmap.specs.IndexSet.{spare};
 
     ghost view = { λ d. record { events = d.journal.events; ready = ready_of d.ready d.at_hand.keys; out = out_of d.ready d.at_hand.keys; live = d.live; ended = map arc_value d.ended.items; spare = d.journal.spare; ready_room = d.ready_room; live_room = d.live_room } };
 
-    ghost invariant = { λ d. (d.ready ≤ length d.at_hand.keys) × (d.ready_room ≤ spare d.at_hand) × (length d.ended.items + d.live + d.live_room ≤ vec_capacity d.ended) × (d.live + d.live_room < 2 ^ 64) };
+    ghost invariant = { λ d. IsLaid d.ready d.at_hand.keys × (d.ready_room ≤ spare d.at_hand) × (length d.ended.items + d.live + d.live_room ≤ vec_capacity d.ended) × (d.live + d.live_room < 2 ^ 64) };
 }
 
 impl<U: Universe> Desk<U> {
@@ -135,10 +115,8 @@ impl<U: Universe> Desk<U> {
         requires { Has self.old.out (version, arc_value key.now) }
         ensures { Returns (version, arc_value key.now) self.old self.new }
     {
-        if let Some(index) = self.at_hand.get_index_of((version, key)) {
-            self.at_hand.swap_indices(index, self.ready);
-            self.ready += 1;
-        }
+        put_back::<U>(&mut self.at_hand, self.ready, version, key);
+        self.ready += 1;
     }
 
     /// A task that is out waits, or has ended. It takes no memory.
@@ -146,7 +124,7 @@ impl<U: Universe> Desk<U> {
         requires { Has self.old.out (version, arc_value key.now) }
         ensures { Leaves (version, arc_value key.now) self.old self.new }
     {
-        self.at_hand.swap_remove((version, key));
+        take_away::<U>(&mut self.at_hand, self.ready, version, key);
     }
 
     /// A task that was made, or whose batch is answered, becomes ready, in room made ahead. It takes no memory.
@@ -156,9 +134,7 @@ impl<U: Universe> Desk<U> {
         requires room { 0 < self.old.ready_room }
         ensures { Readies (place_of task) self.old self.new }
     {
-        let last = self.at_hand.len();
-        let _ = self.at_hand.insert(task);
-        self.at_hand.swap_indices(last, self.ready);
+        put_in::<U>(&mut self.at_hand, self.ready, task);
         self.ready += 1;
         self.ready_room -= 1;
     }
@@ -168,11 +144,8 @@ impl<U: Universe> Desk<U> {
         requires { Has self.old.ready (version, arc_value key.now) }
         ensures { Unreadies (version, arc_value key.now) self.old self.new }
     {
-        if let Some(index) = self.at_hand.get_index_of((version, key)) {
-            self.at_hand.swap_indices(index, self.ready - 1);
-            self.ready -= 1;
-            self.at_hand.swap_remove_index(self.ready);
-        }
+        self.ready -= 1;
+        take_out::<U>(&mut self.at_hand, self.ready, version, key);
     }
 
     /// A task was made, in room made ahead.

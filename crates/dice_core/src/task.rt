@@ -4,9 +4,9 @@ ghost use Rattle.std.specs.Arc.{arc_value};
 ghost use Rattle.std.specs.Option.{option_map};
 ghost use Rattle.dice_key.specs.declared.universe.Kind.TheVariants.{Injected};
 ghost use Rattle.dice_key.specs.Meaning.{Answered};
-ghost use Rattle.dice_jobs.specs.Jobs.{Computes, answered_more};
+ghost use Rattle.dice_jobs.specs.Jobs.{Waits, Computes, Checks, answered_more};
 ghost use Rattle.dice_jobs.specs.Shapes.{work_of};
-ghost use Rattle.core_laws.specs.Tasks.{Phase, IsReady, IsOut, IsWaiting, Ended, WithValue, WithNothing, Checks, Works, goes_on, waits_for, value_in};
+ghost use Rattle.core_laws.specs.Tasks.{Phase, IsReady, IsOut, IsWaiting, Ended, WithValue, WithNothing, goes_on, waits_for, value_in};
 ghost use Rattle.core_laws.specs.Desk.{ready_in, out_in};
 ghost use Rattle.dice_core.specs.Helds.{came, held_of, held_ended, FollowsOn};
 ghost use Rattle.dice_core.specs.Loads.{AreCopies};
@@ -37,6 +37,47 @@ enum Load<U: Universe> {
 pub(crate) struct Spare<U: Universe> {
     pub(crate) first: KeyRef<U>,
     pub(crate) second: KeyRef<U>,
+}
+
+/// What a waiting task goes on with when its batch is answered, made ahead: what its job is for then, twice, and the answers.
+#[derive(Drop)]
+pub(crate) struct Next<U: Universe> {
+    own: Assignment<U>,
+    job: Assignment<U>,
+    answers: Answers<U::Value>,
+}
+
+impl<U: Universe> Model for Next<U> {
+    ghost use Rattle.std.specs.Prelude.{◌≡◌};
+    ghost use Rattle.dice_core.specs.Helds.{Ahead};
+
+    ghost Value = { Ahead U.Key U.Value };
+
+    ghost view = { λ n. record { job = n.job; values = n.answers } };
+
+    ghost invariant = { λ n. n.own ≡ n.job };
+}
+
+impl<U: Universe> Next<U> {
+    /// What a parked job goes on with when its batch has these answers, a value for each key.
+    pub(crate) fn of(parked: &Parked<U>, answers: Answers<U::Value>) -> Result<Next<U>, NoMemory>
+        requires { length answers ≡ length parked.now.keys }
+        ensures { IfOk result (λ n. n ≡ record { job = answered_more parked.now.job parked.now.keys answers; values = answers }) }
+    {
+        let job = parked.answered(&answers)?;
+        let own = job.try_clone()?;
+        Ok(Next { own, job, answers })
+    }
+
+    /// The job that goes on, and what the task keeps of it. It takes no memory.
+    fn of_parked(self, parked: Parked<U>) -> (Job<U>, Assignment<U>)
+        requires count { length self.values ≡ length parked.keys }
+        requires job { self.job ≡ answered_more parked.job parked.keys self.values }
+        ensures { (result.0 ≡ self.job) × (result.1 ≡ self.job) }
+    {
+        let Next { own, job, answers } = self;
+        (parked.resume(job, answers), own)
+    }
 }
 
 /// A task: the work for one key at one version.
@@ -176,6 +217,56 @@ impl<U: Universe> Task<U> {
     {
         self.state.given(false);
         self.load = Load::Parked(parked);
+    }
+
+    /// What a waiting task goes on with when its batch has these answers, a value for each key. It costs the number of keys and
+    /// values, over all batches.
+    pub(crate) fn next(&self, answers: Answers<U::Value>) -> Result<Next<U>, NoMemory>
+        requires { (w : Waits U.Key U.Value) × (self.now ≡ held_of w.job (IsWaiting w.keys)) × (length answers ≡ length w.keys) }
+        ensures { IfOk result (λ n. FollowsOn self.now n × (n.values ≡ answers)) }
+    {
+        match &self.load {
+            Load::Parked(parked) => Next::of(parked, answers),
+            _ => Err(NoMemory),
+        }
+    }
+
+    /// The batch of a waiting task is answered: it is ready again. It takes no memory.
+    pub(crate) fn resume(&mut self, next: Next<U>)
+        requires { FollowsOn self.old next }
+        ensures { self.new ≡ held_of next.job IsReady }
+    {
+        match mem::replace(&mut self.load, Load::Nothing) {
+            Load::Parked(parked) => {
+                let (job, own) = next.of_parked(parked);
+                self.state.answered();
+                self.load = Load::Job(job, own);
+            }
+            other => self.load = other,
+        }
+    }
+
+    /// The job that was out asked a batch that is answered already: the task is ready again. It takes no memory.
+    pub(crate) fn go_on(&mut self, parked: Parked<U>, next: Next<U>)
+        requires out { self.old ≡ held_of parked.job IsOut }
+        requires count { length next.values ≡ length parked.keys }
+        requires next { next.job ≡ answered_more parked.job parked.keys next.values }
+        ensures { self.new ≡ held_of next.job IsReady }
+    {
+        let (job, own) = next.of_parked(parked);
+        self.state.given(true);
+        self.load = Load::Job(job, own);
+    }
+
+    /// The check that was out found a difference: the key's value is computed. It takes no memory.
+    pub(crate) fn begin_anew(&mut self, job: Job<U>, own: Assignment<U>)
+        requires check { (x : U.Value) × (T : List (Answered U.Key U.Value)) × (b : ℕ) × (A : List (Answered U.Key U.Value)) × (self.old ≡ held_of (record { name = job.name; answered = A; work = Checks x T b }) IsOut) }
+        requires own { own ≡ job }
+        requires job { job ≡ record { name = job.name; answered = []; work = Computes } }
+        ensures { self.new ≡ held_of job IsReady }
+    {
+        self.state.differs();
+        self.load = Load::Job(job, own);
     }
 
     /// Ends the task, and hands out the copies of its key. It takes no memory.

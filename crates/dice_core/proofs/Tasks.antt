@@ -1,0 +1,102 @@
+-- A task's parts at each step.
+use Rattle.std.proofs.Common.{◌≡◌, Bool, true, false, List, [], ◌∷◌, ◌++◌, length, Option, Some, None, refl, sym, ap, ◌∙◌, subst}
+use Rattle.std.proofs.lemmas.Option.{none-some, same_Some}
+use Rattle.std.proofs.lemmas.Bool.{false≢true}
+use Rattle.dice_jobs.specs.Jobs.{Name, Assigned, Waits, Work, Computes, Checks, answered_more}
+use Rattle.core_laws.specs.Tasks.{Phase, IsReady, IsOut, IsWaiting, Standing, Works, Ended, goes_on}
+use Rattle.core_laws.specs.Tasks.{Work as Doing, Computes as DoesCompute, Checks as DoesCheck}
+use Rattle.task_state.specs.declared.state.Stage.{Stage}
+use Rattle.task_state.specs.declared.state.Stage.TheVariants.{Ready, Out, Waiting}
+use Rattle.task_state.specs.declared.state.TaskState.{TaskState}
+use Rattle.task_state.specs.declared.state.TaskState.TheVariants as state
+use Rattle.task_state.specs.States.{stage_of, with_stage}
+use Rattle.dice_core.specs.Helds.{Held, works, doing, held_of, IsDoing, FollowsOn, Ahead}
+use Rattle.dice_core.specs.Loads.{standing_of, IsLoaded, AreCopies, HasCopies, IsSupplied}
+use Rattle.dice_core.specs.declared.task.Load.{Load}
+use Rattle.dice_core.specs.declared.task.Load.TheVariants.{Job, Away, Parked, Nothing}
+use Rattle.dice_core.specs.declared.task.Spare.{Spare}
+
+module _ {K V : Type 0} where
+  stage_with : (s : TaskState K V) (t u : Stage) → stage_of s ≡ Some t → stage_of (with_stage s u) ≡ Some u
+  stage_with (state.Checking a) t u e = refl
+  stage_with (state.Computing a) t u e = refl
+  stage_with (state.Ended o) t u e = absurd (none-some t e)
+
+  doing_with : (s : TaskState K V) (u : Stage) (w : Work K V) → IsDoing s w → IsDoing (with_stage s u) w
+  doing_with (state.Checking a) u w d = d
+  doing_with (state.Computing a) u w d = d
+  doing_with (state.Ended o) u w d = d
+
+  -- a task that computes does not check
+  pub checks_out : (s : TaskState K V) (w : Work K V) → IsDoing s w → stage_of s ≡ Some Out → (x : V) (T : _) (b : _) → w ≡ Checks x T b → s ≡ state.Checking Out
+  checks_out (state.Checking a) w d e x T b q = ap state.Checking (same_Some _ _ e)
+  checks_out (state.Computing a) w d e x T b q = absurd (let h : Computes ≡ Checks x T b = sym d ∙ q in cc)
+  checks_out (state.Ended o) w d e x T b q = absurd d
+
+  doing_same : (w v : Work K V) → doing w ≡ doing v → w ≡ v
+  doing_same Computes Computes e = refl
+  doing_same Computes (Checks x T b) e = absurd (let h : DoesCompute ≡ DoesCheck x T b = e in cc)
+  doing_same (Checks x T b) Computes e = absurd (let h : DoesCheck x T b ≡ DoesCompute = e in cc)
+  doing_same (Checks x T b) (Checks y S c) e = let h : DoesCheck x T b ≡ DoesCheck y S c = e in cc
+
+  same_job : (a b : Assigned K V) → a.name ≡ b.name → a.answered ≡ b.answered → a.work ≡ b.work → a ≡ b
+  same_job a b e f g = λ i. record { name = e i; answered = f i; work = g i }
+
+  -- what a task at work is seen as says what its job is for
+  pub same_held : (a b : Assigned K V) (p : Phase K) → held_of a p ≡ held_of b p → a ≡ b
+  same_held a b p e =
+      let s : Works (doing a.work) p a.answered ≡ Works (doing b.work) p b.answered = λ i. (e i).standing in
+      let f : a.answered ≡ b.answered = cc in
+      let g : doing a.work ≡ doing b.work = cc in
+      same_job a b (λ i. (e i).name) f (doing_same a.work b.work g)
+
+  pub held_is : (a : Assigned K V) (n : Name K) (p : Phase K) → a.name ≡ n → record { name = n; standing = works a p } ≡ held_of a p
+  held_is a n p e = λ i. record { name = sym e i; standing = works a p }
+
+module _ {U K V R : Type 0} (n : Name K) where
+  -- the job is taken
+  pub loaded_away : (j a : Assigned K V) (s : TaskState K V) → IsLoaded {U = U} {K = K} {V = V} {R = R} n (Job j a) s → IsLoaded {U = U} {K = K} {V = V} {R = R} n (Away a) (with_stage s Out)
+  loaded_away j a s l = (l.1, stage_with s Ready Out l.2, doing_with s Out a.work l.3)
+
+  -- the job is brought back
+  pub loaded_back : (j a : Assigned K V) (s : TaskState K V) → j ≡ a → IsLoaded {U = U} {K = K} {V = V} {R = R} n (Away a) s → IsLoaded {U = U} {K = K} {V = V} {R = R} n (Job j a) (with_stage s Ready)
+  loaded_back j a s e l = (e, l.0, stage_with s Out Ready l.1, doing_with s Ready a.work l.2)
+
+  -- a load that is seen as out
+  pub away_is : (load : Load U K V R) (s : TaskState K V) (a : Assigned K V) → IsLoaded n load s → record { name = n; standing = standing_of load s } ≡ held_of a IsOut → IsLoaded {U = U} {K = K} {V = V} {R = R} n (Away a) s
+  away_is (Job j b) s a l e = absurd (let h : Works (doing b.work) IsReady b.answered ≡ Works (doing a.work) IsOut a.answered = λ i. (e i).standing in cc)
+  away_is (Away b) s a l e = subst (λ x. IsLoaded {U = U} {K = K} {V = V} {R = R} n (Away x) s) (same_held b a IsOut (sym (held_is b n IsOut l.0) ∙ e)) l
+  away_is (Parked p) s a l e = absurd (let h : Works (doing p.job.work) (IsWaiting p.keys) p.job.answered ≡ Works (doing a.work) IsOut a.answered = λ i. (e i).standing in cc)
+  away_is Nothing s a l e = absurd (let h : standing_of {U = U} {K = K} {V = V} {R = R} Nothing s ≡ Works (doing a.work) IsOut a.answered = λ i. (e i).standing in cc)
+
+  -- a load that is seen as waiting
+  pub parked_is : (load : Load U K V R) (s : TaskState K V) (w : Waits K V) → IsLoaded n load s → record { name = n; standing = standing_of load s } ≡ held_of w.job (IsWaiting w.keys) → (p : Waits K V) × (load ≡ Parked p) × (p ≡ w)
+  parked_is (Job j b) s w l e = absurd (let h : Works (doing b.work) IsReady b.answered ≡ Works (doing w.job.work) (IsWaiting w.keys) w.job.answered = λ i. (e i).standing in cc)
+  parked_is (Away b) s w l e = absurd (let h : Works (doing b.work) IsOut b.answered ≡ Works (doing w.job.work) (IsWaiting w.keys) w.job.answered = λ i. (e i).standing in cc)
+  parked_is (Parked p) s w l e =
+      let h : Works (doing p.job.work) (IsWaiting p.keys) p.job.answered ≡ Works (doing w.job.work) (IsWaiting w.keys) w.job.answered = λ i. (e i).standing in
+      let k : p.keys ≡ w.keys = cc in
+      let j : p.job ≡ w.job = same_held p.job w.job (IsWaiting w.keys) (subst (λ ks. held_of p.job (IsWaiting ks) ≡ held_of w.job (IsWaiting w.keys)) k (sym (held_is p.job n (IsWaiting p.keys) l.0) ∙ e)) in
+      (p, refl, λ i. record { job = j i; keys = k i })
+  parked_is Nothing s w l e = absurd (let h : standing_of {U = U} {K = K} {V = V} {R = R} Nothing s ≡ Works (doing w.job.work) (IsWaiting w.keys) w.job.answered = λ i. (e i).standing in cc)
+
+  -- the job that was out waits
+  pub loaded_parked : (p : Waits K V) (s : TaskState K V) → IsLoaded {U = U} {K = K} {V = V} {R = R} n (Away p.job) s → IsLoaded {U = U} {K = K} {V = V} {R = R} n (Parked p) (with_stage s Waiting)
+  loaded_parked p s l = (l.0, stage_with s Out Waiting l.1, doing_with s Waiting p.job.work l.2)
+
+  -- the job goes on, with one batch more
+  pub loaded_more : (j a b : Assigned K V) (s : TaskState K V) (t : Stage) → j ≡ a → a.name ≡ b.name → a.work ≡ b.work → b.name ≡ n → stage_of s ≡ Some t → IsDoing s b.work → IsLoaded {U = U} {K = K} {V = V} {R = R} n (Job j a) (with_stage s Ready)
+  loaded_more j a b s t e f g h i d = (e, f ∙ h, stage_with s t Ready i, subst (λ w. IsDoing (with_stage s Ready) w) (sym g) (doing_with s Ready b.work d))
+
+  -- a task at work has a stage, and copies of its key
+  pub staged : (load : Load U K V R) (s : TaskState K V) → IsLoaded n load s → goes_on (standing_of load s) ≡ true → (t : Stage) × (stage_of s ≡ Some t)
+  staged (Job j a) s l e = (Ready, l.2)
+  staged (Away a) s l e = (Out, l.1)
+  staged (Parked p) s l e = (Waiting, l.1)
+  staged Nothing s l e = absurd (false≢true e)
+
+  pub supplied : (load : Load U K V R) (s : TaskState K V) (k : K) (o : Option (Spare U K V R)) → IsSupplied k load o → goes_on (standing_of load s) ≡ true → HasCopies k o
+  supplied (Job j a) s k o h e = h
+  supplied (Away a) s k o h e = h
+  supplied (Parked p) s k o h e = h
+  supplied Nothing s k o h e = absurd (false≢true e)
