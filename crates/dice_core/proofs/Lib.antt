@@ -3,3 +3,4 @@ pub mod Parts
 pub mod Tasks
 pub mod LooksLemmas
 pub mod EntriesLemmas
+pub mod MakeLemmas

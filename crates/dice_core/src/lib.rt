@@ -2,6 +2,8 @@
 #![tactic(auto)]
 
 mod desk;
+mod make;
+mod shelf;
 mod task;
 mod value;
 
