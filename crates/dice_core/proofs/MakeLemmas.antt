@@ -22,13 +22,18 @@ use Rattle.core_laws.proofs.Counts.{all_alike}
 use Rattle.core_laws.proofs.Shapes.{idle_batch, asks_nothing}
 use Rattle.core_laws.proofs.Held.{wanted_once}
 use Rattle.core_laws.proofs.Turns.{stands_here}
+use Rattle.core_laws.proofs.Steps.{owes_less}
 use Rattle.core_laws.proofs.StepsMakes.{starts_stand, matches_stand, checks_stand}
 use Rattle.core_laws.proofs.StepsWanted.{AllWanted, all_wanted_on, all_wanted_made, all_wanted_ended, wanted_on}
 use Rattle.dice_core.specs.Helds.{Held, task_of, held_ended}
 use Rattle.dice_core.specs.Hands.{DeskSeen, desk_of, Stays, Readies, Working, AreNamed, tasks_of, seen_world, with_event, with_made}
-use Rattle.versioned_graph.specs.Entries.{Stored}
+use Rattle.versioned_graph.specs.Entries.{Stored, entry_at}
+use Rattle.versioned_graph.specs.Looks.{Look, look}
 use Rattle.dice_core.specs.Entries.{EntriesStand, IsMatched}
-use Rattle.dice_core.specs.Makings.{IsFree, HasMakeRoom, MayMake, Makes, MakesEnded, held_run, held_check}
+use Rattle.dice_core.proofs.EntriesLemmas.{stand_start}
+use Rattle.dice_core.specs.Makings.{IsFree, HasMakeRoom, MayMake, Makes, MakesEnded, IsMaking, IsMakingFor, held_run, held_check}
+use Rattle.dice_core.specs.declared.make.Making.{Making}
+use Rattle.dice_core.specs.declared.make.Making.TheVariants.{Join, Match, Run, Check}
 
 -- the same things pass the test, in another order
 all_stay : {X : Type 0} (f : X → Bool) (xs ys : List X) → Stays xs ys → AreAll f xs → AreAll f ys
@@ -267,3 +272,28 @@ module _ {K V : Type 0} (eq : K → K → Bool) (equality : IsEquality eq) (m : 
         match_works eq equality m law v k ps qs d e w W owed born b t h may free kept is made desk,
         subst (λ R. EntriesStand eq m R fs) (sym (told_more eq m v w W d e (Keep v k b) (ap (λ (z : DeskSeen K V). z.events) desk))) (seen (reverse d.events) x b stands may.within found),
       )
+
+  -- a run was made: the entries stand
+  pub run_stands : (es : List (K × Stored K V)) (c : Reason K) → EntriesStand eq m (reverse d.events) es → Readies (v, k) (with_made (with_event d (Start v k c))) e → EntriesStand eq m (reverse e.events) es
+  run_stands es c h r = subst (λ R. EntriesStand eq m R es) (sym (ap reverse r.rest.events ∙ reverse-append d.events (Start v k c ∷ []))) (stand_start eq m (reverse d.events) es h v k c)
+
+  -- a check was made: they stand as before
+  pub check_stands : (es : List (K × Stored K V)) → EntriesStand eq m (reverse d.events) es → Readies (v, k) (with_made d) e → EntriesStand eq m (reverse e.events) es
+  check_stands es h r = subst (λ R. EntriesStand eq m R es) (sym (ap reverse r.rest.events)) h
+
+  -- room for fewer events
+  pub works_less : (w : World K V) (W : List K) (owed owed2 : ℕ) → owed2 ≤ owed → Working eq m v W w owed ps d → Working eq m v W w owed2 ps d
+  works_less w W owed owed2 l h = record {
+    stand = owes_less eq equality m law (reverse d.events) v (seen_world eq v ps w) W (desk_of d) owed owed2 h.stand l;
+    outs = h.outs;
+    named = h.named;
+    wanted = h.wanted;
+  }
+
+module _ {U K V A : Type 0} (eq : K → K → Bool) (m : Meaning K V) (v : ℕ) (k : K) (born : ℕ) (ps : List (K × Share K (Held K V))) (es : List (K × Stored K V)) where
+  -- what is made by what a look-up says, where the key has no task
+  pub making_of : (o : Look K V) → o ≡ look m.is_transient (entry_at eq es k) v → IsFree (task_at eq ps k) → (p : Making U K V A) → IsMakingFor v k born o p → IsMaking eq m v k born ps es p
+  making_of o e f Join h = absurd h
+  making_of o e f (Match event base task) h = (f, (h.0, sym e ∙ h.1, h.2))
+  making_of o e f (Run event cause ready task) h = (f, (h.0, sym e ∙ h.1, h.2, h.3))
+  making_of o e f (Check ready task) h = (f, (h.0, h.1, h.2, sym e ∙ h.3, h.4))

@@ -14,8 +14,7 @@ use Rattle.journal.specs.Events.{commits_of}
 use Rattle.journal.specs.Law.{IsWanted}
 use Rattle.journal.specs.Tell.{reason_of}
 use Rattle.versioned_graph.specs.Entries.{Stored, entry_at, seen_at}
-use Rattle.versioned_graph.specs.Looks.{look}
-use Rattle.versioned_graph.specs.Looks.{Matches as FoundMatch, Computes as FoundNone, Checks as FoundOld}
+use Rattle.versioned_graph.specs.Looks.{Look, Matches, Computes as LooksNew, Checks as LooksOld, look}
 use Rattle.versioned_graph.specs.declared.found.Why.{Why}
 use Rattle.core_laws.specs.Tasks.{IsReady, Ended, WithValue, WithNothing}
 use Rattle.dice_core.specs.Helds.{Held, held_of, held_ended}
@@ -77,13 +76,21 @@ module _ {K V : Type 0} (eq : K → K → Bool) (m : Meaning K V) (R : List (Tol
     pub within : v ≤ length (commits_of R)
     pub born : since ≤ length R
 
-module _ {U K V A : Type 0} (eq : K → K → Bool) (m : Meaning K V) (v : ℕ) (k : K) where
+module _ {U K V A : Type 0} (v : ℕ) (k : K) (born : ℕ) where
+  -- what is to be made of k at v where a look-up says this
+  abbrev pub IsMakingFor : Look K V → Making U K V A → Type 0
+  IsMakingFor o Join = ⊥
+  IsMakingFor o (Match event base task) = (x : V) × (o ≡ Matches x base) × (task ≡ held_ended (record { version = v; key = k; born = born }) (WithValue x))
+  IsMakingFor o (Run event cause ready task) = (y : Why) × (o ≡ LooksNew y) × (reason_of cause ≡ started_for y) × (task ≡ held_run (record { version = v; key = k; born = born }))
+  IsMakingFor o (Check ready task) = (x : V) × (T : List (Answered K V)) × (b : ℕ) × (o ≡ LooksOld x T b) × (task ≡ held_check (record { version = v; key = k; born = born }) x T b)
+
+module _ {U K V A : Type 0} (eq : K → K → Bool) (m : Meaning K V) (v : ℕ) (k : K) (born : ℕ) (ps : List (K × Share K (Held K V))) (es : List (K × Stored K V)) where
   -- what is to be made of k at v: nothing, where it has a task that was not given up; else what a look-up says
-  abbrev pub IsMaking : ℕ → List (K × Share K (Held K V)) → List (K × Stored K V) → Making U K V A → Type 0
-  IsMaking born ps es Join = HasTask (task_at eq ps k)
-  IsMaking born ps es (Match event base task) = IsFree (task_at eq ps k) × (x : V) × (look m.is_transient (entry_at eq es k) v ≡ FoundMatch x base) × (task ≡ held_ended (record { version = v; key = k; born = born }) (WithValue x))
-  IsMaking born ps es (Run event cause ready task) = IsFree (task_at eq ps k) × (y : Why) × (look m.is_transient (entry_at eq es k) v ≡ FoundNone y) × (reason_of cause ≡ started_for y) × (task ≡ held_run (record { version = v; key = k; born = born }))
-  IsMaking born ps es (Check ready task) = IsFree (task_at eq ps k) × (x : V) × (T : List (Answered K V)) × (b : ℕ) × (look m.is_transient (entry_at eq es k) v ≡ FoundOld x T b) × (task ≡ held_check (record { version = v; key = k; born = born }) x T b)
+  abbrev pub IsMaking : Making U K V A → Type 0
+  IsMaking Join = HasTask (task_at eq ps k)
+  IsMaking (Match event base task) = IsFree (task_at eq ps k) × IsMakingFor {U = U} {A = A} v k born (look m.is_transient (entry_at eq es k) v) (Match event base task)
+  IsMaking (Run event cause ready task) = IsFree (task_at eq ps k) × IsMakingFor {U = U} {A = A} v k born (look m.is_transient (entry_at eq es k) v) (Run event cause ready task)
+  IsMaking (Check ready task) = IsFree (task_at eq ps k) × IsMakingFor {U = U} {A = A} v k born (look m.is_transient (entry_at eq es k) v) (Check ready task)
 
 module _ {U K V A : Type 0} (v : ℕ) (k : K) where
   -- its copies of the key are of k
