@@ -4,3 +4,4 @@ pub mod Tasks
 pub mod LooksLemmas
 pub mod EntriesLemmas
 pub mod MakeLemmas
+pub mod MakeFrames

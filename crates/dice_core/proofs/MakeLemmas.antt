@@ -91,6 +91,7 @@ module _ {K V : Type 0} (eq : K → K → Bool) (equality : IsEquality eq) (v : 
       by_test : (b : Bool) → eq k p.1 ≡ b → is_out (cond b (Some (task_of t)) (tasks_of eq ps p.1)) ≡ is_out (tasks_of eq ps p.1)
       by_test true i = is ∙ sym (ap (λ q. is_out (tasks_of eq ps q)) (sym (equality.same k p.1 i)) ∙ was)
       by_test false i = refl
+
       by_version : (b : Bool) → is_out (cond b (tasks_of eq qs) (w.tasks p.0) p.1) ≡ is_out (cond b (tasks_of eq ps) (w.tasks p.0) p.1)
       by_version true = ap is_out (puts p.1) ∙ by_test (eq k p.1) refl
       by_version false = refl
@@ -145,8 +146,8 @@ module _ {K V : Type 0} (eq : K → K → Bool) (equality : IsEquality eq) (m : 
       let live = desk.rest.live in
       let spare = desk.rest.spare in
       let stand = starts_stand eq equality m law R v w W (asked_of eq ps) (asked_of eq qs) (tasks_of eq ps) (tasks_of eq qs) k born c (desk_of d) (desk_of e) (owed + 3) owed h.stand
-          may.computed may.wanted may.within once.0 once.1 once.2 (undecided eq m v w W R ps k here once.3 (task_at eq ps k) refl free) idle.still cause may.born
-          (puts eq equality v k n ps qs tasks) made.live made.asks (turns_ready v k (tasks_of eq ps k) (task_of n) (desk_of d) (desk_of e) idle refl refl refl desk.ready desk.count live) (omega arith) in
+      may.computed may.wanted may.within once.0 once.1 once.2 (undecided eq m v w W R ps k here once.3 (task_at eq ps k) refl free) idle.still cause may.born
+      (puts eq equality v k n ps qs tasks) made.live made.asks (turns_ready v k (tasks_of eq ps k) (task_of n) (desk_of d) (desk_of e) idle refl refl refl desk.ready desk.count live) (omega arith) in
       works_on eq m v w W (x ∷ R) qs e owed (told_more eq m v w W d e x desk.rest.events) stand.1
       (all_stay _ d.out e.out desk.out (all_alike _ _ (out_alike eq equality v k n ps qs tasks w idle.home refl) d.out h.outs))
       (named_on eq equality v k n ps qs tasks (refl, refl) h.named)
@@ -166,8 +167,8 @@ module _ {K V : Type 0} (eq : K → K → Bool) (equality : IsEquality eq) (m : 
       let live = desk.rest.live in
       let spare = desk.rest.spare in
       let stand = checks_stand eq equality m law R v w W (asked_of eq ps) (asked_of eq qs) (tasks_of eq ps) (tasks_of eq qs) k born x T b (desk_of d) (desk_of e) (owed + 2) owed h.stand
-          may.computed may.within once.0 once.1 once.2 (undecided eq m v w W R ps k here once.3 (task_at eq ps k) refl free) idle.still seen may.born
-          (puts eq equality v k n ps qs tasks) made.live made.asks (turns_ready v k (tasks_of eq ps k) (task_of n) (desk_of d) (desk_of e) idle refl refl refl desk.ready desk.count live) (omega arith) in
+      may.computed may.within once.0 once.1 once.2 (undecided eq m v w W R ps k here once.3 (task_at eq ps k) refl free) idle.still seen may.born
+      (puts eq equality v k n ps qs tasks) made.live made.asks (turns_ready v k (tasks_of eq ps k) (task_of n) (desk_of d) (desk_of e) idle refl refl refl desk.ready desk.count live) (omega arith) in
       works_on eq m v w W R qs e owed (ap reverse desk.rest.events) stand
       (all_stay _ d.out e.out desk.out (all_alike _ _ (out_alike eq equality v k n ps qs tasks w idle.home refl) d.out h.outs))
       (named_on eq equality v k n ps qs tasks (refl, refl) h.named)
@@ -180,10 +181,12 @@ module _ {K V : Type 0} (eq : K → K → Bool) (equality : IsEquality eq) (m : 
       kept : (b : Bool) → (b && true) ≡ b
       kept true = refl
       kept false = refl
+
       by_test : (j : K) (b c : Bool) → asks eq ps q (Tasked j) ≡ b → eq k j ≡ c → (b && not c) ≡ b
       by_test j b false p i = kept b
       by_test j false true p i = refl
       by_test j true true p i = absurd (asks_nothing eq m R v W (asked_of eq ps) (tasks_of eq ps) h k (idle_batch (tasks_of eq ps k) still) q (subst (λ y. asks eq ps q (Tasked y) ≡ true) (sym (equality.same k j i)) p))
+
       by_asker : (a : By K) → (asks eq ps q a && not (is_by eq (Tasked k) a)) ≡ asks eq ps q a
       by_asker (Promised n) = kept (asks eq ps q (Promised n))
       by_asker (Tasked j) = by_test j (asks eq ps q (Tasked j)) (eq k j) refl refl
@@ -202,8 +205,8 @@ module _ {K V : Type 0} (eq : K → K → Bool) (equality : IsEquality eq) (m : 
       let idle = free_idle (task_at eq ps k) free in
       let stood = h.stand.room in
       let stand = matches_stand eq equality m law R v w W (asked_of eq ps) (asked_of eq qs) (tasks_of eq ps) (tasks_of eq qs) k born b (desk_of d) (desk_of f) (owed + 1) owed h.stand
-          may.computed may.wanted may.within once.0 once.1 once.2 (undecided eq m v w W R ps k here once.3 (task_at eq ps k) refl free) idle.still kept may.born
-          (puts eq equality v k n ps qs tasks) made.live (same_asks W R here idle.still made.asks) (turns_ended v k (tasks_of eq ps k) (task_of n) (desk_of d) (desk_of f) idle refl refl refl refl refl refl) (omega arith) in
+      may.computed may.wanted may.within once.0 once.1 once.2 (undecided eq m v w W R ps k here once.3 (task_at eq ps k) refl free) idle.still kept may.born
+      (puts eq equality v k n ps qs tasks) made.live (same_asks W R here idle.still made.asks) (turns_ended v k (tasks_of eq ps k) (task_of n) (desk_of d) (desk_of f) idle refl refl refl refl refl refl) (omega arith) in
       subst (λ z. Working eq m v W w owed qs z) (sym desk)
       (works_on eq m v w W (x ∷ R) qs f owed (told_more eq m v w W d f x refl) stand.1
       (all_alike _ _ (out_alike eq equality v k n ps qs tasks w idle.home refl) d.out h.outs)
@@ -219,8 +222,7 @@ module _ {K V : Type 0} (eq : K → K → Bool) (v : ℕ) (k : K) where
   ready_fits ps d z q p h r o n e i =
       let a : q.ready ≡ d.ready = ap (λ (x : DeskSeen K V). x.ready) e ∙ r in
       let b : q.out ≡ d.out = ap (λ (x : DeskSeen K V). x.out) e ∙ o in
-      let c : q.ready_room ≡ d.ready_room = ap (λ (x : DeskSeen K V). x.ready_room) e ∙ n in
-      (
+      let c : q.ready_room ≡ d.ready_room = ap (λ (x : DeskSeen K V). x.ready_room) e ∙ n in (
         λ f. h.unready (subst (λ x. Has d.ready x) i (subst (λ xs. Has xs p) a f)),
         λ f. h.home (subst (λ x. Has d.out x) i (subst (λ xs. Has xs p) b f)),
         subst (λ x. 0 < x) (sym c) h.ready_room,
@@ -257,6 +259,7 @@ module _ {K T : Type 0} (eq : K → K → Bool) (k : K) (t : T) (ps qs : List (K
       kept : (y : Bool) → (y && true) ≡ y
       kept true = refl
       kept false = refl
+
       by_test : (x y : Bool) → (cond x true y && not x) ≡ cond x false y
       by_test true y = refl
       by_test false y = kept y

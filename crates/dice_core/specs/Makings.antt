@@ -1,6 +1,7 @@
 -- Tasks that are to be made, what making one needs, and what it does.
-use Rattle.std.specs.Prelude.{◌≡◌, ◌≢◌, ◌<◌, ◌≤◌, ◌&&◌, not, cond, ℕ, Bool, true, false, List, [], length, Option, Some, None}
+use Rattle.std.specs.Prelude.{◌≡◌, ◌≢◌, ◌<◌, ◌≤◌, ◌+◌, ◌++◌, ◌&&◌, not, cond, ℕ, Bool, true, false, List, [], length, Option, Some, None}
 use Rattle.std.specs.Arc.{arc_value}
+use Rattle.std.specs.List.{AllByRecursion}
 use Rattle.std.specs.Option.{option_map}
 use Rattle.dice_key.specs.Meaning.{Meaning, Answered}
 use Rattle.dice_key.specs.declared.universe.Kind.TheVariants.{Injected}
@@ -114,3 +115,26 @@ module _ {U K V A : Type 0} (eq : K → K → Bool) (v : ℕ) (k : K) (ps : List
   IsMade es (Match event base task) qs e fs = MakesEnded eq k task ps qs × (e ≡ with_event d (Keep v k base)) × ((q : K) → entry_at eq fs q ≡ cond (eq k q) (option_map (seen_at v) (entry_at eq es k)) (entry_at eq es q))
   IsMade es (Run event cause ready task) qs e fs = Makes eq k task ps qs × Readies (v, k) (with_made (with_event d (Start v k (reason_of cause)))) e × (fs ≡ es)
   IsMade es (Check ready task) qs e fs = Makes eq k task ps qs × Readies (v, k) (with_made d) e × (fs ≡ es)
+
+module _ {K V : Type 0} (v : ℕ) (k : K) where
+  -- an event of a task of k at v that is made
+  abbrev pub IsOfMake : Told K V → Type 0
+  IsOfMake (Start w q c) = (w ≡ v) × (q ≡ k)
+  IsOfMake (Keep w q b) = (w ≡ v) × (q ≡ k)
+  IsOfMake _ = ⊥
+
+module _ {K V : Type 0} (eq : K → K → Bool) (v : ℕ) (k : K) where
+  -- whatever is made of k at v: what other keys have stays; and of each room that was made ahead at most one place was used
+  pub record MakesAlone (ps : List (K × Share K (Held K V))) (d : DeskSeen K V) (es : List (K × Stored K V)) (qs : List (K × Share K (Held K V))) (e : DeskSeen K V) (fs : List (K × Stored K V)) : Type 0 where
+    pub tasks : (q : K) → eq k q ≡ false → task_at eq qs q ≡ task_at eq ps q
+    pub lives : (q : K) → eq k q ≡ false → is_live eq qs q ≡ is_live eq ps q
+    pub entries : (q : K) → eq k q ≡ false → entry_at eq fs q ≡ entry_at eq es q
+    pub asks : (q : K) (a : By K) → is_by eq (Tasked k) a ≡ false → asks eq qs q a ≡ asks eq ps q a
+    pub room : KeepsOtherRoom eq k ps qs
+    pub events : List (Told K V)
+    pub told : e.events ≡ d.events ++ events
+    pub of_make : AllByRecursion (IsOfMake v k) events
+    pub ended : e.ended ≡ d.ended
+    pub spare : d.spare ≤ e.spare + 1
+    pub ready_room : d.ready_room ≤ e.ready_room + 1
+    pub live_room : d.live_room ≤ e.live_room + 1

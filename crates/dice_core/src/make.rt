@@ -18,7 +18,7 @@ ghost use Rattle.dice_core.specs.Loads.{AreCopies};
 ghost use Rattle.dice_core.specs.Entries.{EntriesStand, IsMatched};
 ghost use Rattle.dice_core.specs.Helds.{held_ended};
 ghost use Rattle.dice_core.specs.Hands.{Readies, Working, with_event, with_made};
-ghost use Rattle.dice_core.specs.Makings.{CanMake, HasMakeRoom, HasTask, IsFree, IsMade, IsMaking, IsMakingFor, IsOfKey, Makes, MakesEnded, MayMake, held_run, held_check};
+ghost use Rattle.dice_core.specs.Makings.{CanMake, HasMakeRoom, HasTask, IsFree, IsMade, IsMaking, IsMakingFor, IsOfKey, Makes, MakesAlone, MakesEnded, MayMake, held_run, held_check};
 ghost use Rattle.dice_core.specs.Shelves.{place_of};
 
 use crate::Tasks;
@@ -70,6 +70,7 @@ pub(crate) fn make<U: Universe>(
     requires own { IsOfKey version (arc_value key.now) making }
     requires room { CanMake U.Key.eq version (arc_value key.now) tasks.old desk.old making }
     ensures made { IsMade U.Key.eq version (arc_value key.now) tasks.old desk.old graph.old making tasks.new desk.new graph.new }
+    ensures alone { MakesAlone U.Key.eq version (arc_value key.now) tasks.old desk.old graph.old tasks.new desk.new graph.new }
     ensures kept { (w : World U.Key U.Value) (W : List U.Key) (owed born : ℕ) → Working U.Key.eq U.meaning version W w (owed + 3) tasks.old desk.old → EntriesStand U.Key.eq U.meaning (reverse desk.old.events) graph.old → MayMake U.Key.eq U.meaning (reverse desk.old.events) version (arc_value key.now) born → IsMaking U.Key.eq U.meaning version (arc_value key.now) born tasks.old graph.old making → Working U.Key.eq U.meaning version W w owed tasks.new desk.new × EntriesStand U.Key.eq U.meaning (reverse desk.new.events) graph.new }
 {
     laws_of::<U>();
