@@ -2,7 +2,7 @@
 use Rattle.std.proofs.Common.{◌≡◌, ◌≢◌, ◌⊎◌, inl, inr, ℕ, Bool, true, false, cond, ◌&&◌, ◌||◌, eqb, List, [], ◌∷◌, length, Option, Some, refl, sym, ap, ◌∙◌, arith, append-nil}
 use Rattle.std.proofs.lemmas.Bool.{eqb-true, eq-eqb, ne_eqb, and_parts, and_from, and_right, or_cases, or_left, or_right}
 use Rattle.std.proofs.lemmas.Option.{same_Some}
-use Rattle.dice_key.specs.Lawful.{IsEquality}
+use Rattle.dice_key.specs.Lawful.{IsEquality, IsLawful}
 use Rattle.dice_key.specs.Meaning.{Meaning}
 use Rattle.dice_key.specs.declared.universe.Kind.{Kind}
 use Rattle.dice_key.specs.declared.universe.Kind.TheVariants.{Injected, Computed, Projection}
@@ -14,6 +14,7 @@ use Rattle.core_laws.specs.Tasks.{Task}
 use Rattle.core_laws.specs.Stands.{VersionStands, IsAtRest}
 use Rattle.core_laws.specs.Changes.{SameAsks, SameLives, Joins}
 use Rattle.core_laws.proofs.Indices.{live_below}
+use Rattle.core_laws.proofs.Opens.{there_open}
 use Rattle.core_laws.proofs.Frames.{Carries, Promises, version_on, version_stays, rest_stays}
 
 -- whether a key is injected
@@ -62,7 +63,7 @@ module _ {K V : Type 0} (eq : K → K → Bool) (R : List (Told K V)) (by t : �
 module _ {K V : Type 0} (eq : K → K → Bool) (equality : IsEquality eq) (m : Meaning K V) (R : List (Told K V)) (v by t : ℕ) (k : K) (o : Opened) (open_is : open_at R t ≡ Some o) where
   module _ (at : o.version ≡ v) (W : List K) (s u : Asked K) (ts : K → Option (Task K V)) (h : VersionStands eq m R v W s ts) where
     opened_here : opened_at R v t ≡ true
-    opened_here = ap (is_for (λ (x : Opened). eqb x.version v)) open_is ∙ eq-eqb o.version v at
+    opened_here = there_open R v t o open_is at
 
     old_promised : (q : K) (i : ℕ) → s.asks q (Promised i) ≡ true → (a : Asking K) × (live_at (Ask by t k ∷ R) i ≡ Some a) × (opened_at R v a.opened ≡ true) × (a.key ≡ q)
     old_promised q i e = let p = h.promised q i e in (p.0, live_more eq R by t k i p.0 p.1, p.2, p.3)
@@ -89,13 +90,6 @@ module _ {K V : Type 0} (eq : K → K → Bool) (equality : IsEquality eq) (m : 
       ];
     }
 
-    -- an Ask at v itself
-    pub asked : SameLives eq s u → (m.kind k ≡ Injected → SameAsks eq s u) → (m.kind k ≢ Injected → Joins eq k (Promised (length R)) s u) → VersionStands eq m (Ask by t k ∷ R) v W u ts
-    asked lives stays joins = elim (injected_or_not m k) as (λ _. VersionStands eq m (Ask by t k ∷ R) v W u ts) [
-      | inl d ↦ version_on eq m R (Ask by t k ∷ R) v (carries eq R by t k v) W s u ts h lives (λ q j. stays d q (Tasked j)) (asked_injected d (stays d))
-      | inr n ↦ version_on eq m R (Ask by t k ∷ R) v (carries eq R by t k v) W s u ts h lives (λ d j. joins n d (Tasked j) ∙ or_none (s.asks d (Tasked j)) _ (and_right (eq k d) false refl)) (asked_computed (joins n))
-    ]
-
   -- an Ask at another version
   module _ (at : o.version ≢ v) (s : Asked K) (ts : K → Option (Task K V)) where
     promises_stay : (W : List K) → VersionStands eq m R v W s ts → Promises m (Ask by t k ∷ R) v s
@@ -107,8 +101,22 @@ module _ {K V : Type 0} (eq : K → K → Bool) (equality : IsEquality eq) (m : 
       ];
     }
 
-    pub asked_elsewhere : (W : List K) → VersionStands eq m R v W s ts → VersionStands eq m (Ask by t k ∷ R) v W s ts
-    asked_elsewhere W h = version_stays eq m R (Ask by t k ∷ R) v (carries eq R by t k v) s ts (promises_stay W h) W h
+module _ {K V : Type 0} (eq : K → K → Bool) (equality : IsEquality eq) (m : Meaning K V) (law : IsLawful m) (R : List (Told K V)) (v : ℕ) where
+  -- an Ask at v itself
+  pub asked : (W : List K) (s u : Asked K) (ts : K → Option (Task K V)) (by t : ℕ) (k : K) (o : Opened) → VersionStands eq m R v W s ts → open_at R t ≡ Some o → o.version ≡ v
+      → (m.kind k ≡ Injected → SameAsks eq s u) → (m.kind k ≢ Injected → Joins eq k (Promised (length R)) s u) → SameLives eq s u → VersionStands eq m (Ask by t k ∷ R) v W u ts
+  asked W s u ts by t k o h open_is at stays joins lives = elim (injected_or_not m k) as (λ _. VersionStands eq m (Ask by t k ∷ R) v W u ts) [
+    | inl d ↦ version_on eq m R (Ask by t k ∷ R) v (carries eq R by t k v) W s u ts h lives (λ q j. stays d q (Tasked j)) (asked_injected eq equality m R v by t k o open_is at W s u ts h d (stays d))
+    | inr n ↦ version_on eq m R (Ask by t k ∷ R) v (carries eq R by t k v) W s u ts h lives (λ d j. joins n d (Tasked j) ∙ or_none (s.asks d (Tasked j)) _ (and_right (eq k d) false refl)) (asked_computed eq equality m R v by t k o open_is at W s u ts h (joins n))
+  ]
 
-    pub asked_elsewhere_rests : IsAtRest eq m R v s ts → IsAtRest eq m (Ask by t k ∷ R) v s ts
-    asked_elsewhere_rests h = rest_stays eq m R (Ask by t k ∷ R) v (carries eq R by t k v) s ts (promises_stay [] h.stands) (λ z. z) h
+  -- an Ask at another version
+  pub asked_elsewhere : (W : List K) (s : Asked K) (ts : K → Option (Task K V)) (by t : ℕ) (k : K) (o : Opened) → VersionStands eq m R v W s ts → open_at R t ≡ Some o → o.version ≢ v → VersionStands eq m (Ask by t k ∷ R) v W s ts
+  asked_elsewhere W s ts by t k o h open_is at = version_stays eq m R (Ask by t k ∷ R) v (carries eq R by t k v) s ts (promises_stay eq equality m R v by t k o open_is at s ts W h) W h
+
+  pub asked_elsewhere_rests : (s : Asked K) (ts : K → Option (Task K V)) (by t : ℕ) (k : K) (o : Opened) → IsAtRest eq m R v s ts → open_at R t ≡ Some o → o.version ≢ v → IsAtRest eq m (Ask by t k ∷ R) v s ts
+  asked_elsewhere_rests s ts by t k o h open_is at = rest_stays eq m R (Ask by t k ∷ R) v (carries eq R by t k v) s ts (promises_stay eq equality m R v by t k o open_is at s ts [] h.stands) (λ z. z) h
+
+-- with an Ask its key was asked for in the epoch of its transaction's version
+pub asked_now : {K V : Type 0} (eq : K → K → Bool) → IsEquality eq → (R : List (Told K V)) (v by t : ℕ) (k : K) → opened_at R v t ≡ true → asked_in_epoch eq (Ask by t k ∷ R) v k ≡ true
+asked_now eq equality R v by t k e = or_left (opened_at R v t && eq k k) (asked_in_epoch eq R v k) (and_from (opened_at R v t) (eq k k) e (equality.itself k))

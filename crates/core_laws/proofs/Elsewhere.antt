@@ -1,5 +1,6 @@
 -- What is told of the tasks of one version leaves all other versions as they were.
 use Rattle.std.proofs.Common.{◌≡◌, ◌≤◌, ℕ, suc, Bool, false, eqb, List, [], ◌∷◌, length, Option, refl, sym, ◌∙◌, arith, append-nil}
+use Rattle.dice_key.specs.Lawful.{IsEquality, IsLawful}
 use Rattle.dice_key.specs.Meaning.{Meaning}
 use Rattle.task_share.specs.Asked.{Asked}
 use Rattle.journal.specs.declared.event.Told.{Told}
@@ -20,7 +21,7 @@ IsElsewhere v (Drop w q) = eqb w v ≡ false
 IsElsewhere v (Lost w q) = eqb w v ≡ false
 IsElsewhere v _ = ⊥
 
-module _ {K V : Type 0} (eq : K → K → Bool) (m : Meaning K V) (R : List (Told K V)) (v : ℕ) where
+module _ {K V : Type 0} (eq : K → K → Bool) (R : List (Told K V)) (v : ℕ) where
   longer : length R ≤ suc (length R)
   longer = omega arith
 
@@ -51,11 +52,11 @@ module _ {K V : Type 0} (eq : K → K → Bool) (m : Meaning K V) (R : List (Tol
   same_count (Lost w q) n = refl
   same_count _ n = absurd n
 
-  module _ (s : Asked K) (ts : K → Option (Task K V)) (e : Told K V) (n : IsElsewhere v e) where
-    -- a version stands where it stood
-    pub elsewhere : (W : List K) → VersionStands eq m R v W s ts → VersionStands eq m (e ∷ R) v W s ts
-    elsewhere W h = version_stays eq m R (e ∷ R) v (carries e n) s ts (same_promises eq m R (e ∷ R) v (same_live e n) W s ts h) W h
+module _ {K V : Type 0} (eq : K → K → Bool) (equality : IsEquality eq) (m : Meaning K V) (law : IsLawful m) (R : List (Told K V)) (v : ℕ) where
+  -- a version stands where it stood
+  pub elsewhere : (W : List K) (s : Asked K) (ts : K → Option (Task K V)) (e : Told K V) → VersionStands eq m R v W s ts → IsElsewhere v e → VersionStands eq m (e ∷ R) v W s ts
+  elsewhere W s ts e h n = version_stays eq m R (e ∷ R) v (carries eq R v e n) s ts (same_promises eq m R (e ∷ R) v (same_live eq R v e n) W s ts h) W h
 
-    -- a version at rest is at rest
-    pub elsewhere_rests : IsAtRest eq m R v s ts → IsAtRest eq m (e ∷ R) v s ts
-    elsewhere_rests h = rest_stays eq m R (e ∷ R) v (carries e n) s ts (same_promises eq m R (e ∷ R) v (same_live e n) [] s ts h.stands) (λ z. sym (same_count e n) ∙ z) h
+  -- a version at rest is at rest
+  pub elsewhere_rests : (s : Asked K) (ts : K → Option (Task K V)) (e : Told K V) → IsAtRest eq m R v s ts → IsElsewhere v e → IsAtRest eq m (e ∷ R) v s ts
+  elsewhere_rests s ts e h n = rest_stays eq m R (e ∷ R) v (carries eq R v e n) s ts (same_promises eq m R (e ∷ R) v (same_live eq R v e n) [] s ts h.stands) (λ z. sym (same_count eq R v e n) ∙ z) h

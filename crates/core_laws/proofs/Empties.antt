@@ -2,7 +2,7 @@
 use Rattle.std.proofs.Common.{◌≡◌, ◌<◌, ◌+◌, inl, inr, ℕ, zero, suc, Bool, true, false, List, [], ◌∷◌, length, Option, Some, None, refl, sym, ◌∙◌, subst, arith}
 use Rattle.std.proofs.lemmas.Bool.{both_ways, false_from_ne_true}
 use Rattle.std.proofs.lemmas.Option.{none-some}
-use Rattle.dice_key.specs.Lawful.{IsEquality}
+use Rattle.dice_key.specs.Lawful.{IsEquality, IsLawful}
 use Rattle.dice_key.specs.Meaning.{Meaning}
 use Rattle.dice_model.specs.Log.{Has, AreDistinct}
 use Rattle.dice_model.proofs.Finite.{few, has_or_not}
@@ -14,7 +14,7 @@ use Rattle.journal.proofs.Lawful.{closes_open}
 use Rattle.journal.proofs.Counts.{none_open}
 use Rattle.core_laws.specs.Tasks.{Task, Standing, Works, Ended, goes_on, computes, waits_for, is_going, is_computing, batch_of}
 use Rattle.core_laws.specs.Stands.{VersionStands, IsAtRest}
-use Rattle.core_laws.specs.Changes.{nobody}
+use Rattle.core_laws.specs.Promises.{nobody}
 
 module _ {K : Type 0} (eq : K → K → Bool) (equality : IsEquality eq) (s : Asked K) (all : List K) (finite : (q : K) → s.live q ≡ true → Has all q) (free : HasNoCircle s)
     (asked : (q : K) → s.live q ≡ true → (j : K) × (s.asks q (Tasked j) ≡ true) × (s.live j ≡ true)) where
@@ -58,7 +58,7 @@ module _ {K V : Type 0} (eq : K → K → Bool) (m : Meaning K V) (R : List (Tol
     closed = λ z k. refl;
   }
 
-module _ {K V : Type 0} (eq : K → K → Bool) (equality : IsEquality eq) (m : Meaning K V) (R : List (Told K V)) (lawful : IsLawfulBack eq m R) (v : ℕ) (empty : open_count R v ≡ 0) (s : Asked K) (ts : K → Option (Task K V)) where
+module _ {K V : Type 0} where
   -- what waits has not ended, and what runs has not
   waits_goes : (o : Option (Task K V)) (ks : List K) → batch_of o ≡ Some ks → is_going o ≡ true
   waits_goes None ks e = absurd (none-some ks e)
@@ -76,6 +76,7 @@ module _ {K V : Type 0} (eq : K → K → Bool) (equality : IsEquality eq) (m : 
       by_standing (Works w p A) q = absurd (both_ways true q refl)
       by_standing (Ended r) q = refl
 
+module _ {K V : Type 0} (eq : K → K → Bool) (equality : IsEquality eq) (m : Meaning K V) (R : List (Told K V)) (lawful : IsLawfulBack eq m R) (v : ℕ) (empty : open_count R v ≡ 0) (s : Asked K) (ts : K → Option (Task K V)) where
   module _ (h : VersionStands eq m R v [] s ts) (done : IsDone s) (all : List K) (finite : (q : K) → s.live q ≡ true → Has all q) where
     -- no promise is left, so each asker is a task, and waits
     asked_by : (q : K) → s.live q ≡ true → (j : K) × (s.asks q (Tasked j) ≡ true) × (s.live j ≡ true)
@@ -85,12 +86,14 @@ module _ {K V : Type 0} (eq : K → K → Bool) (equality : IsEquality eq) (m : 
         by_asker (Promised i) e = let p = h.promised q i e in absurd (both_ways (opened_at R v p.0.opened) (none_open v R (closes_open eq m R lawful) empty p.0.opened) p.2)
         by_asker (Tasked j) e = let w = h.waiting q j e in (j, e, h.live j ∙ waits_goes (ts j) w.0 w.1)
 
-    idle : (q : K) → s.live q ≡ false
+    -- no task is at work
+    pub idle : (q : K) → s.live q ≡ false
     idle q = false_from_ne_true (s.live q) (none_live eq equality s all finite h.no_circle asked_by q)
 
-    -- so the version is at rest with no task and no ask
-    pub emptied : IsAtRest eq m R v nobody (λ q. None)
-    emptied = nobody_rests eq m R v (λ i a e. none_open v R (closes_open eq m R lawful) empty a.opened) (λ k. h.running k ∙ stopped (ts k) (sym (h.live k) ∙ idle k)) (λ n k. absurd (let z = empty in omega arith))
+module _ {K V : Type 0} (eq : K → K → Bool) (equality : IsEquality eq) (m : Meaning K V) (law : IsLawful m) (R : List (Told K V)) (v : ℕ) where
+  -- where each task at work has an asker, the version is at rest with no task and no ask
+  pub emptied : (s : Asked K) (ts : K → Option (Task K V)) → VersionStands eq m R v [] s ts → IsLawfulBack eq m R → open_count R v ≡ 0 → IsDone s → (all : List K) → ((q : K) → s.live q ≡ true → Has all q) → IsAtRest eq m R v nobody (λ q. None)
+  emptied s ts h lawful empty done all finite = nobody_rests eq m R v (λ i a e. none_open v R (closes_open eq m R lawful) empty a.opened) (λ k. h.running k ∙ stopped (ts k) (sym (h.live k) ∙ idle eq equality m R lawful v empty s ts h done all finite k)) (λ n k. absurd (omega arith))
 
 -- before all events each version is at rest, with no task and no ask
 pub first_rests : {K V : Type 0} (eq : K → K → Bool) (m : Meaning K V) (v : ℕ) → IsAtRest eq m [] v nobody (λ q. None)

@@ -1,12 +1,13 @@
 -- An Open leaves all versions at rest. Where it begins an epoch there is no task, and nobody asks.
-use Rattle.std.proofs.Common.{◌≡◌, ◌<◌, ◌+◌, ℕ, Bool, true, false, eqb, List, [], ◌∷◌, Option, refl, sym, ap, ◌∙◌, arith, append-nil}
-use Rattle.std.proofs.lemmas.Bool.{both_ways, eqb-true, eqb-false, and_parts}
-use Rattle.std.proofs.lemmas.Option.{none-some}
+use Rattle.std.proofs.Common.{◌≡◌, ◌<◌, ◌+◌, ℕ, Bool, true, false, eqb, List, [], ◌∷◌, Option, refl, sym, ap, ◌∙◌, arith, append-nil, ◌≤◌, cond, length, length-append, Some, None}
+use Rattle.std.proofs.lemmas.Bool.{both_ways, eqb-true, eqb-false, and_parts, eq-eqb}
+use Rattle.std.proofs.lemmas.Option.{same_Some, none-some}
+use Rattle.dice_key.specs.Lawful.{IsEquality, IsLawful}
 use Rattle.dice_key.specs.Meaning.{Meaning}
 use Rattle.task_share.specs.Asked.{By, Promised, Tasked, Asked}
 use Rattle.journal.specs.declared.event.Told.{Told}
-use Rattle.journal.specs.declared.event.Told.TheVariants.{Open}
-use Rattle.journal.specs.Events.{one_if, begins, commits_of, open_count, opened_at}
+use Rattle.journal.specs.declared.event.Told.TheVariants.{Commit, Open, Close}
+use Rattle.journal.specs.Events.{one_if, begins, commits_of, open_count, opened_at, Opened, is_for, open_at}
 use Rattle.journal.specs.Law.{IsLawfulBack}
 use Rattle.journal.proofs.Lawful.{closes_open}
 use Rattle.journal.proofs.Counts.{none_open}
@@ -71,10 +72,40 @@ module _ {K V : Type 0} (eq : K → K → Bool) (m : Meaning K V) (R : List (Tol
   counted : open_count R v + one_if (eqb w v) ≡ 0 → open_count R v ≡ 0
   counted z = omega arith
 
+module _ {K V : Type 0} (eq : K → K → Bool) (equality : IsEquality eq) (m : Meaning K V) (law : IsLawful m) (R : List (Told K V)) (v : ℕ) where
   -- a version at rest is at rest
-  pub opened : IsAtRest eq m R v s ts → IsAtRest eq m (Open by w ∷ R) v s ts
-  opened h = by_start (begins R w v) refl
+  pub opened : (s : Asked K) (ts : K → Option (Task K V)) (by w : ℕ) → IsAtRest eq m R v s ts → IsLawfulBack eq m R → IsAtRest eq m (Open by w ∷ R) v s ts
+  opened s ts by w h lawful = by_start (begins R w v) refl
     where
       by_start : (b : Bool) → begins R w v ≡ b → IsAtRest eq m (Open by w ∷ R) v s ts
-      by_start true n = begun n h
-      by_start false n = rest_stays eq m R (Open by w ∷ R) v (carries n) s ts (same_promises eq m R (Open by w ∷ R) v (same_live n) [] s ts h.stands) counted h
+      by_start true n = begun eq m R lawful v by w s ts n h
+      by_start false n = rest_stays eq m R (Open by w ∷ R) v (carries eq m R lawful v by w s ts n) s ts (same_promises eq m R (Open by w ∷ R) v (same_live eq m R lawful v by w s ts n) [] s ts h.stands) (counted eq m R lawful v by w s ts) h
+
+module _ {K V : Type 0} where
+  -- a transaction that is open at v
+  pub open_there : (R : List (Told K V)) (v i : ℕ) → opened_at R v i ≡ true → (o : Opened) × (open_at R i ≡ Some o) × (o.version ≡ v)
+  open_there R v i e = by_open (open_at R i) refl e
+    where
+      by_open : (x : Option Opened) → open_at R i ≡ x → is_for (λ o. eqb o.version v) x ≡ true → (o : Opened) × (open_at R i ≡ Some o) × (o.version ≡ v)
+      by_open None p q = absurd (both_ways false refl q)
+      by_open (Some o) p q = (o, p, eqb-true o.version v q)
+
+  pub there_open : (R : List (Told K V)) (v i : ℕ) (o : Opened) → open_at R i ≡ Some o → o.version ≡ v → opened_at R v i ≡ true
+  there_open R v i o e h = ap (is_for (λ (x : Opened). eqb x.version v)) e ∙ eq-eqb o.version v h
+
+module _ {K V : Type 0} (eq : K → K → Bool) (m : Meaning K V) where
+  -- the version of an open transaction is no later than the newest
+  pub open_within : (R : List (Told K V)) (i : ℕ) (o : Opened) → IsLawfulBack eq m R → open_at R i ≡ Some o → o.version ≤ length (commits_of R)
+  open_within [] i o l e = absurd (none-some o e)
+  open_within (Open by w ∷ R) i o l e = by_index (eqb (length R) i) e (λ h. open_within R i o l.1 h)
+    where
+      by_index : (b : Bool) → cond b (Some (record { by = by; version = w })) (open_at R i) ≡ Some o → (open_at R i ≡ Some o → o.version ≤ length (commits_of R)) → o.version ≤ length (commits_of R)
+      by_index true q again = let h : w ≡ o.version = ap (λ (x : Opened). x.version) (same_Some _ _ q) in let a : w ≡ length (commits_of R) = l.0 in omega arith
+      by_index false q again = again q
+  open_within (Close by t ∷ R) i o l e = by_index (eqb t i) e (λ h. open_within R i o l.1 h)
+    where
+      by_index : (b : Bool) → cond b None (open_at R i) ≡ Some o → (open_at R i ≡ Some o → o.version ≤ length (commits_of R)) → o.version ≤ length (commits_of R)
+      by_index true q again = absurd (none-some o q)
+      by_index false q again = again q
+  open_within (Commit by c ∷ R) i o l e = let h = open_within R i o l.1 e in let a = length-append (commits_of R) (c ∷ []) in omega arith
+  open_within (_ ∷ R) i o l e = open_within R i o l.1 e

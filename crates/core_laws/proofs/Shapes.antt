@@ -19,10 +19,6 @@ pub and_none : (a : Bool) → (a && false) ≡ false
 and_none true = refl
 and_none false = refl
 
-pub and_all : (a : Bool) → (a && true) ≡ a
-and_all true = refl
-and_all false = refl
-
 pub not_both : {b : Bool} → b ≡ true → b ≡ false → ⊥
 not_both p q = let h : true ≡ false = sym p ∙ q in cc
 

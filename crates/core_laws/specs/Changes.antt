@@ -1,9 +1,8 @@
 -- What one step does to the tasks and the asks of a version.
-use Rattle.std.specs.Prelude.{◌≡◌, ◌⊎◌, ℕ, Bool, true, false, cond, not, ◌&&◌, ◌||◌, eqb, List, Option}
+use Rattle.std.specs.Prelude.{◌≡◌, ◌≢◌, ◌⊎◌, Bool, true, cond, not, ◌&&◌, ◌||◌, List, [], ◌∷◌, ◌++◌, length, map, Option}
+use Rattle.dice_key.specs.Meaning.{Answered}
 use Rattle.dice_model.specs.Log.{Has}
-use Rattle.task_share.specs.Asked.{By, Promised, Tasked, Asked, is_by}
-use Rattle.journal.specs.declared.event.Told.{Told}
-use Rattle.journal.specs.Events.{is_for, live_at}
+use Rattle.task_share.specs.Asked.{By, Tasked, Asked, is_by}
 use Rattle.core_laws.specs.Tasks.{Task}
 
 module _ {K V : Type 0} (eq : K → K → Bool) where
@@ -42,12 +41,24 @@ module _ {K : Type 0} (eq : K → K → Bool) where
     pub asked : (d : K) → Has ds d → u.asks d (Tasked k) ≡ true
     pub only : (q : K) (a : By K) → u.asks q a ≡ true → (s.asks q a ≡ true) ⊎ (Has ds q × (a ≡ Tasked k))
 
-module _ {K : Type 0} where
-  -- no tasks and no asks
-  abbrev pub nobody : Asked K
-  nobody = record { live = λ q. false; asks = λ q a. false }
-
-  -- the asker is a promise that was made in the transaction t
-  abbrev pub is_promise_in : {V : Type 0} → List (Told K V) → ℕ → By K → Bool
-  is_promise_in R t (Promised i) = is_for (λ a. eqb t a.opened) (live_at R i)
-  is_promise_in R t (Tasked k) = false
+-- A has answers to the first batches of the trace T: those before the last batch are as in T, and in the last d is the first key whose
+-- answer is another
+pub record ChangesFirst {K V : Type 0} (T A : List (Answered K V)) (d : K) : Type 0 where
+  pub before : List (Answered K V)
+  pub batch : Answered K V
+  pub later : List (Answered K V)
+  pub trace_is : T ≡ before ++ batch ∷ later
+  pub answers : List V
+  pub answered : map (λ a. a.values) A ≡ map (λ b. b.values) before ++ answers ∷ []
+  pub keys_before : List K
+  pub keys_later : List K
+  pub same : List V
+  pub was_later : List V
+  pub now_later : List V
+  pub was : V
+  pub now : V
+  pub keys_are : batch.keys ≡ keys_before ++ d ∷ keys_later
+  pub values_are : batch.values ≡ same ++ was ∷ was_later
+  pub answers_are : answers ≡ same ++ now ∷ now_later
+  pub counted : length keys_before ≡ length same
+  pub changed : was ≢ now

@@ -5,7 +5,7 @@ use Rattle.dice_model.specs.Log.{Has, AreDistinct}
 use Rattle.task_share.specs.Asked.{Asked}
 use Rattle.journal.specs.declared.event.Told.{Told}
 use Rattle.journal.specs.Law.{IsLawfulBack}
-use Rattle.core_laws.specs.Tasks.{Work, Phase, IsReady, IsOut, IsWaiting, Standing, Works, Ended, Task, is_going}
+use Rattle.core_laws.specs.Tasks.{IsReady, IsOut, IsWaiting, Standing, Works, Ended, Task, is_going}
 use Rattle.core_laws.specs.Stands.{VersionStands, IsAtRest}
 
 -- the tasks and the asks of each version
@@ -104,3 +104,9 @@ pub record DeskTurns {K V : Type 0} (v : ℕ) (k : K) (was is : Option (Task K V
   pub ready : ListTurns (is_ready was) (is_ready is) (v, k) d.ready e.ready
   pub out : CountTurns (is_out was) (is_out is) d.out e.out
   pub live : CountTurns (is_going was) (is_going is) d.live e.live
+
+-- the same tasks are ready, and as many are out and at work; the room may be another
+pub record DeskStays {K : Type 0} (d e : Desk K) : Type 0 where
+  pub ready : e.ready ≡ d.ready
+  pub out : e.out ≡ d.out
+  pub live : e.live ≡ d.live

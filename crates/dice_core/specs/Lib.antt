@@ -2,3 +2,5 @@ pub mod Helds
 pub mod Hands
 pub mod Loads
 pub mod Shelves
+pub mod Entries
+pub mod Makings

@@ -3,12 +3,16 @@
 
 mod assignment;
 mod job;
+mod laws;
 mod name;
 mod parked;
 mod step;
+#[cfg(test)]
+mod tests;
 
 pub use assignment::{Assignment, Earlier};
 pub use job::Job;
+pub use laws::{jobs_stay_true, steps_tell_the_truth};
 pub use name::JobName;
 pub use parked::Parked;
 pub use step::{Report, Step};

@@ -1,5 +1,5 @@
 -- The cascade drops exactly the tasks that no promise holds.
-use Rattle.std.proofs.Common.{◌≡◌, ◌≤◌, ◌<◌, ◌+◌, ◌⊎◌, inl, inr, ℕ, zero, suc, Bool, true, false, not, cond, ◌&&◌, List, [], ◌∷◌, length, Option, Some, None, refl, sym, ap, ◌∙◌, subst, arith}
+use Rattle.std.proofs.Common.{◌≡◌, ◌≤◌, ◌<◌, ◌+◌, ◌⊎◌, inl, inr, ℕ, zero, suc, Bool, true, false, not, cond, ◌&&◌, List, [], ◌∷◌, length, Some, refl, sym, ap, ◌∙◌, subst, arith}
 use Rattle.std.specs.Map.{lookup, keys_of}
 use Rattle.dice_key.specs.Lawful.{IsEquality}
 use Rattle.task_share.specs.Asked.{By, Promised, Tasked, is_by, Asked, Held, by_promise, by_task, Leads, stays, asks_on, HasNoCircle, AskersLive, IsDone, Takes, IsSame, Cascade, DropsUnheld}
@@ -133,8 +133,11 @@ module _ {K : Type 0} where
         → (q : K) → (Has ks q → (s.live q ≡ true) × (Held s q → ⊥)) × (s.live q ≡ true → (Has ks q → ⊥) → Held s q × (t.live q ≡ true))
     drops s [] t all fin free living c done q = (
       λ h. absurd h,
-      λ v n. (climbs s all fin free living (λ k v. (let a = done k (c.live k ∙ v) in (a.0, sym (c.asks k a.0) ∙ a.1))) (length all) q [] (λ e g. elim g as (λ _. Leads s q e) [ inl i ↦ subst (Leads s q) i stays | inr b ↦ absurd b ])
-          (λ e g. elim g as (λ _. s.live e ≡ true) [ inl i ↦ subst (λ y. s.live y ≡ true) i v | inr b ↦ absurd b ]) ((λ b. b), tt) (omega arith), c.live q ∙ v),
+      λ v n. (
+        climbs s all fin free living (λ k v. (let a = done k (c.live k ∙ v) in (a.0, sym (c.asks k a.0) ∙ a.1))) (length all) q [] (λ e g. elim g as (λ _. Leads s q e) [ inl i ↦ subst (Leads s q) i stays | inr b ↦ absurd b ])
+            (λ e g. elim g as (λ _. s.live e ≡ true) [ inl i ↦ subst (λ y. s.live y ≡ true) i v | inr b ↦ absurd b ]) ((λ b. b), tt) (omega arith),
+        c.live q ∙ v,
+      ),
     )
     drops s (k ∷ ks) t all fin free living c done q =
         let u = c.0 in

@@ -1,5 +1,5 @@
 -- Idle tasks: what gives a key back to its place, takes a task out, and withdraws its asks.
-use Rattle.std.proofs.Common.{◌≡◌, ◌≤◌, ◌<◌, ◌+◌, inl, inr, ◌⊎◌, ℕ, suc, Bool, true, false, not, cond, ◌&&◌, ◌||◌, List, [], ◌∷◌, ◌++◌, length, map, Option, Some, None, is_some, unwrap_or, eqb, nat_eq, refl, sym, ap, ◌∙◌, subst, arith}
+use Rattle.std.proofs.Common.{◌≡◌, ◌≤◌, ◌+◌, inl, inr, ◌⊎◌, ℕ, suc, Bool, true, false, not, cond, ◌&&◌, ◌||◌, List, [], ◌∷◌, ◌++◌, length, map, Option, Some, None, is_some, nat_eq, refl, sym, ap, ◌∙◌, subst, arith}
 use Rattle.std.specs.Prelude.{option_and_then, MatchOption}
 use Rattle.std.specs.Arc.{arc_value}
 use Rattle.std.specs.Map.{lookup, set_value, remove_entry, values_of}
@@ -16,7 +16,7 @@ use Rattle.std.proofs.lemmas.Map.Entries.{sum_by-set_value, sum_by-remove_entry,
 use Rattle.dice_key.specs.Lawful.{IsEquality}
 use Rattle.task_share.specs.Asked.{By, Promised, Tasked, is_by}
 use Rattle.task_share.specs.Lists.{Has}
-use Rattle.task_share.specs.Seen.{Share, is_for, list_for, number_for, has_by, has_live, has_place, asks, waits_at, KeepsTasks, KeepsRoom}
+use Rattle.task_share.specs.Seen.{Share, is_for, list_for, number_for, has_by, has_live, has_place, asks, waits_at, ask_count}
 use Rattle.task_share.specs.Listed.{share_of, entry_of, shares_of, is_idle, kept_name, one_if, IsNamed, IsListed, IsChanged, Left, UsesRoom, Withdraws, Withdrawing, NoneIdle, IsKept, IsPopped, IsVacant, AllRun}
 use Rattle.task_share.specs.declared.place.Place.{Place}
 use Rattle.task_share.proofs.PlaceLemmas.{true_or_false, and_both, lookup_shares}
@@ -43,8 +43,12 @@ module _ {K T : Type 0} (eq : K → K → Bool) (law : IsEquality eq) where
   -- a candidate whose key has no place is no loss
   pub dropped_listed : (ps : List (K × Share K T)) (cs : List K) (k : K) (room : ℕ) → lookup (eq k) ps ≡ None → IsListed eq ps (cs ++ k ∷ []) room → IsListed eq ps cs room
   dropped_listed ps cs k room none l = record {
-    each = λ q p e. (let z = l.each q p e in record { idle = z.idle; named = z.named; runs = z.runs;
-        listed = λ n. elim (has_split cs k q (z.listed n)) as (λ _. Has cs q) [ inl h ↦ h | inr s ↦ absurd (none-some p (sym (subst (λ x. lookup (eq x) ps ≡ None) s none) ∙ e)) ] });
+    each = λ q p e. (let z = l.each q p e in record {
+      idle = z.idle;
+      named = z.named;
+      runs = z.runs;
+      listed = λ n. elim (has_split cs k q (z.listed n)) as (λ _. Has cs q) [ inl h ↦ h | inr s ↦ absurd (none-some p (sym (subst (λ x. lookup (eq x) ps ≡ None) s none) ∙ e)) ];
+    });
     fits = (let a = l.fits in let b = length-append cs (k ∷ []) in omega arith);
   }
 
@@ -55,8 +59,12 @@ module _ {K T : Type 0} (eq : K → K → Bool) (law : IsEquality eq) where
     each = λ q p e. elim (true_or_false (eq k q)) as (λ _. IsNamed cs q p) [
       | inl t ↦ (let s : k ≡ q = law.same k q t in
           subst (λ x. IsNamed cs x p) s (subst (λ (r : Share K T). IsNamed cs k r) (same_Some (record h { name = Some k }) p (sym here ∙ subst (λ x. lookup (eq x) qs ≡ Some p) (sym s) e)) at_key))
-      | inr t ↦ (let z = l.each q p (sym (others q t) ∙ e) in record { idle = z.idle; named = z.named; runs = z.runs;
-          listed = λ n. elim (has_split cs k q (z.listed n)) as (λ _. Has cs q) [ inl i ↦ i | inr s ↦ absurd (let a : eq k q ≡ true = subst (λ x. eq k x ≡ true) s (law.itself k) in let b : true ≡ false = sym a ∙ t in cc) ] })
+      | inr t ↦ (let z = l.each q p (sym (others q t) ∙ e) in record {
+        idle = z.idle;
+        named = z.named;
+        runs = z.runs;
+        listed = λ n. elim (has_split cs k q (z.listed n)) as (λ _. Has cs q) [ inl i ↦ i | inr s ↦ absurd (let a : eq k q ≡ true = subst (λ x. eq k x ≡ true) s (law.itself k) in let b : true ≡ false = sym a ∙ t in cc) ];
+      })
     ];
     fits = (let a = sum_by-set_value kept_name (eq k) ps h (record h { name = Some k }) known in
         let b : sum_by kept_name (values_of qs) ≡ sum_by kept_name (values_of (set_value (eq k) ps (record h { name = Some k }))) = ap (λ xs. sum_by kept_name (values_of xs)) set in
@@ -82,8 +90,12 @@ module _ {K T : Type 0} (eq : K → K → Bool) (law : IsEquality eq) where
     where
       by_test : (q : K) (p : Share K T) (b : Bool) → eq k q ≡ b → cond b None (lookup (eq q) ps) ≡ Some p → IsNamed cs q p
       by_test q p true t e = absurd (none-some p e)
-      by_test q p false t e = let z = l.each q p e in record { idle = z.idle; named = z.named; runs = z.runs;
-        listed = λ n. elim (has_split cs k q (z.listed n)) as (λ _. Has cs q) [ inl i ↦ i | inr s ↦ absurd (let a : eq k q ≡ true = subst (λ x. eq k x ≡ true) s (law.itself k) in let b : true ≡ false = sym a ∙ t in cc) ] }
+      by_test q p false t e = let z = l.each q p e in record {
+        idle = z.idle;
+        named = z.named;
+        runs = z.runs;
+        listed = λ n. elim (has_split cs k q (z.listed n)) as (λ _. Has cs q) [ inl i ↦ i | inr s ↦ absurd (let a : eq k q ≡ true = subst (λ x. eq k x ≡ true) s (law.itself k) in let b : true ≡ false = sym a ∙ t in cc) ];
+      }
 
   -- where no candidate is left, no task is idle
   pub none_idle : (ps : List (K × Share K T)) (room : ℕ) → IsListed eq ps [] room → NoneIdle eq ps
@@ -101,11 +113,11 @@ module _ {K T : Type 0} (eq : K → K → Bool) (law : IsEquality eq) where
       by_test true h = refl
       by_test false h = ap (λ rest. entry_of e ∷ rest) h
 
-  pub removed_less : {A : Type 0} (test : K → Bool) (es fs : List (Arc K A × Place K T)) → IsPermutation (remove_entry (λ a. test (arc_value a)) es) fs → sum_by kept_name (values_of (shares_of fs)) ≤ sum_by kept_name (values_of (shares_of es))
-  removed_less test es fs p =
-      let a = sum_by_values_permutation kept_name (shares_of (remove_entry (λ a. test (arc_value a)) es)) (shares_of fs) (IsPermutation-map entry_of (remove_entry (λ a. test (arc_value a)) es) fs p) in
-      let b : sum_by kept_name (values_of (shares_of (remove_entry (λ a. test (arc_value a)) es))) ≡ sum_by kept_name (values_of (remove_entry test (shares_of es))) = ap (λ xs. sum_by kept_name (values_of xs)) (remove_shares test es) in
-      let d = sum_by-remove_entry kept_name test (shares_of es) in
+  pub removed_less : {A : Type 0} (f : Share K T → ℕ) (test : K → Bool) (es fs : List (Arc K A × Place K T)) → IsPermutation (remove_entry (λ a. test (arc_value a)) es) fs → sum_by f (values_of (shares_of fs)) ≤ sum_by f (values_of (shares_of es))
+  removed_less f test es fs p =
+      let a = sum_by_values_permutation f (shares_of (remove_entry (λ a. test (arc_value a)) es)) (shares_of fs) (IsPermutation-map entry_of (remove_entry (λ a. test (arc_value a)) es) fs p) in
+      let b : sum_by f (values_of (shares_of (remove_entry (λ a. test (arc_value a)) es))) ≡ sum_by f (values_of (remove_entry test (shares_of es))) = ap (λ xs. sum_by f (values_of xs)) (remove_shares test es) in
+      let d = sum_by-remove_entry f test (shares_of es) in
       omega arith
 
   pub removed_gone : {A : Type 0} (key : Arc K A) (es fs : List (Arc K A × Place K T)) → ((q : Arc K A) → lookup (λ a. eq (arc_value q) (arc_value a)) fs ≡ cond (eq (arc_value key) (arc_value q)) None (lookup (λ a. eq (arc_value q) (arc_value a)) es))
@@ -188,8 +200,12 @@ module _ {K T : Type 0} (eq : K → K → Bool) (law : IsEquality eq) where
       by_tests false false c = refl
 
   pub withdrawing_done : (k : K) (all : List K) (ps qs : List (K × Share K T)) → Withdrawing eq k all [] ps qs → Withdraws eq k all ps qs
-  withdrawing_done k all ps qs w = record { tasks = w.gone.tasks; waits = w.gone.waits; room = w.gone.room;
-    asks = λ q a. w.gone.asks q a ∙ ap (λ b. asks eq ps q a && not (is_by eq (Tasked k) a && b)) (sym (w.split q)) }
+  withdrawing_done k all ps qs w = record {
+    tasks = w.gone.tasks;
+    waits = w.gone.waits;
+    room = w.gone.room;
+    asks = λ q a. w.gone.asks q a ∙ ap (λ b. asks eq ps q a && not (is_by eq (Tasked k) a && b)) (sym (w.split q));
+  }
 
   pub withdrawing_none : (k : K) (all : List K) (ps : List (K × Share K T)) → Withdrawing eq k all all ps ps
   withdrawing_none k all ps = record { done = []; split = λ q. by_bool (list_any (eq q) all); gone = withdraws_none eq law k ps }
@@ -247,8 +263,8 @@ module _ {K T : Type 0} (eq : K → K → Bool) (law : IsEquality eq) where
     no_asker (Promised n) = ap (list_any (nat_eq n)) vacant.promises
     no_asker (Tasked j) = ap (list_any (eq j)) vacant.askers
 
-    pub vacant_kept : IsKept eq ps qs
-    vacant_kept = record {
+    pub vacant_kept : ask_count qs ≤ ask_count ps → IsKept eq ps qs
+    vacant_kept less = record {
       tasks = record { tasks = by_place (option_and_then (λ (p : Share K T). p.task)) vacant.task; live = by_place (is_for has_live) vacant.live };
       asks = λ q a. by_place (is_for (λ p. has_by eq p a)) (no_asker a) q;
       waits = λ i d. by_place (λ o. list_any (eq d) (list_for (λ (p : Share K T). p.waits) o)) (ap (list_any (eq d)) vacant.waits) i;
@@ -257,6 +273,7 @@ module _ {K T : Type 0} (eq : K → K → Bool) (law : IsEquality eq) where
         promises = less_place (λ p. p.promise_room);
         askers = less_place (λ p. p.asker_room);
         waits = less_place (λ p. p.wait_room);
+        count = less;
       };
     }
       where
@@ -276,6 +293,15 @@ module _ {K T : Type 0} (eq : K → K → Bool) (law : IsEquality eq) where
       by_test : (b : Bool) (o : Option (Place K T)) → option_map share_of (cond b (Some v) o) ≡ cond b (Some (share_of v)) (option_map share_of o)
       by_test true o = refl
       by_test false o = refl
+
+  -- a place without askers adds no ask
+  pub put_count : {A : Type 0} (key : Arc K A) (v : Place K T) (es fs : List (Arc K A × Place K T)) → (share_of v).askers ≡ [] → IsPermutation ((key, v) ∷ es) fs → ask_count (shares_of fs) ≤ ask_count (shares_of es)
+  put_count key v es fs n p =
+      let f : Share K T → ℕ = λ (p : Share K T). length p.askers in
+      let a = sum_by_values_permutation f (shares_of ((key, v) ∷ es)) (shares_of fs) (IsPermutation-map entry_of ((key, v) ∷ es) fs p) in
+      let b = sum_by-cons f (share_of v) (values_of (shares_of es)) in
+      let d : length (share_of v).askers ≡ 0 = ap length n in
+      omega arith
 
   pub put_more : {A : Type 0} (key : Arc K A) (v : Place K T) (es fs : List (Arc K A × Place K T)) → IsPermutation ((key, v) ∷ es) fs → sum_by kept_name (values_of (shares_of fs)) ≤ sum_by kept_name (values_of (shares_of es)) + 1
   put_more key v es fs p =

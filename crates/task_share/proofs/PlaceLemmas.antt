@@ -1,8 +1,8 @@
 -- What a write to one place makes of all places.
 use Rattle.std.proofs.Common.{◌≡◌, ◌≤◌, ◌<◌, ◌+◌, inl, inr, ◌⊎◌, ℕ, suc, Bool, true, false, not, cond, ◌&&◌, ◌||◌, List, [], ◌∷◌, ◌++◌, length, map, Option, Some, None, is_some, unwrap_or, nat_eq, eqb, eqb-true, append-nil, Result, Ok, Err, refl, sym, ap, ◌∙◌, subst, arith}
-use Rattle.std.specs.Prelude.{OnOk, OnErr, IsOk, IfSome, IfNone}
+use Rattle.std.specs.Prelude.{IfOk, OnOk, OnErr, IsOk, IfSome, IfNone}
 use Rattle.std.specs.Arc.{arc_value}
-use Rattle.std.specs.Map.{lookup, set_value, remove_entry, values_of}
+use Rattle.std.specs.Map.{lookup, set_value, values_of}
 use Rattle.std.specs.List.{list_any, sum_by}
 use Rattle.std.specs.Option.{option_map, option_to_list}
 use Rattle.std.specs.declared.sync.Arc.{Arc}
@@ -12,7 +12,7 @@ use Rattle.std.proofs.lemmas.Map.Entries.{sum_by-set_value, sum_by-remove_entry}
 use Rattle.dice_key.specs.Lawful.{IsEquality}
 use Rattle.task_share.specs.Asked.{By, Promised, Tasked, is_by}
 use Rattle.task_share.specs.Lists.{Has}
-use Rattle.task_share.specs.Seen.{Share, has_by, has_live}
+use Rattle.task_share.specs.Seen.{Share, number_for, has_by, has_live, ask_count}
 use Rattle.task_share.specs.Listed.{share_of, entry_of, shares_of, is_idle, settled, released, kept_name, one_if, IsNamed, IsListed, AreIn, IsChanged, KeepsListed}
 use Rattle.task_share.specs.declared.place.Place.{Place}
 
@@ -105,7 +105,7 @@ module _ {K T : Type 0} (eq : K → K → Bool) (law : IsEquality eq) where
   pub changed_none : {A : Type 0} (es fs : List (Arc K A × Place K T)) (k : K) (R : Share K T → Share K T → Type 0) → fs ≡ es → lookup (λ a. eq k (arc_value a)) es ≡ None → IsChanged eq k R (shares_of es) (shares_of fs)
   changed_none es fs k R same e =
       let n = lookup_shares (eq k) es ∙ ap (option_map share_of) e in
-      subst (λ xs. IsChanged eq k R (shares_of es) (shares_of xs)) (sym same) (record { here = subst (λ o. AreIn R o o) (sym n) tt; others = λ q t. refl })
+      subst (λ xs. IsChanged eq k R (shares_of es) (shares_of xs)) (sym same) (record { here = subst (λ o. AreIn R o o) (sym n) tt; others = λ q t. refl; sums = λ f. refl })
 
   pub changed_written : {A : Type 0} (key : Arc K A) (es fs : List (Arc K A × Place K T)) (h w : Place K T) (R : Share K T → Share K T → Type 0) → IsWritten eq key es fs h w → R (share_of h) (share_of w) → IsChanged eq (arc_value key) R (shares_of es) (shares_of fs)
   changed_written {A} key es fs h w R i r =
@@ -113,6 +113,11 @@ module _ {K T : Type 0} (eq : K → K → Bool) (law : IsEquality eq) where
       let b = lookup_shares (eq (arc_value key)) fs ∙ ap (option_map share_of) i.here in record {
         here = subst (λ o. AreIn R o (lookup (eq (arc_value key)) (shares_of fs))) (sym a) (subst (λ o. AreIn R (Some (share_of h)) o) (sym b) r);
         others = λ q t. lookup_shares (eq q) fs ∙ (ap (option_map share_of) (i.others (other q) t) ∙ sym (lookup_shares (eq q) es));
+        sums = λ f. (let x = sum_by-set_value f (eq (arc_value key)) (shares_of es) (share_of h) (share_of w) a in
+            let y : sum_by f (values_of (shares_of fs)) ≡ sum_by f (values_of (set_value (eq (arc_value key)) (shares_of es) (share_of w))) = ap (λ xs. sum_by f (values_of (shares_of xs))) i.set ∙ ap (λ xs. sum_by f (values_of xs)) (set_shares (eq (arc_value key)) es w) in
+            let u : number_for f (lookup (eq (arc_value key)) (shares_of es)) ≡ f (share_of h) = ap (number_for f) a in
+            let v : number_for f (lookup (eq (arc_value key)) (shares_of fs)) ≡ f (share_of w) = ap (number_for f) b in
+            omega arith);
       }
     where
       other : K → Arc K A
@@ -265,3 +270,32 @@ any_last p (y ∷ ys) x e = ap (λ b. p y || b) (any_last p ys x e) ∙ or_true 
 pub no_more : {X : Type 0} (xs : List X) → (0 < length xs → ⊥) → xs ≡ []
 no_more [] f = refl
 no_more (x ∷ xs) f = absurd (f (let l : length (x ∷ xs) ≡ suc (length xs) = refl in omega arith))
+
+-- how many keys there are after a removal, an insertion, and where they stay
+pub fewer_count : {K A : Type 0} (b : Bool) (old new : List (Arc K A)) → length new + cond b 1 0 ≡ length old → length (map arc_value new) ≤ length (map arc_value old) + 0
+fewer_count b old new e = let x = length-map new arc_value in let y = length-map old arc_value in by_bool b e
+  where
+    by_bool : (b : Bool) → length new + cond b 1 0 ≡ length old → length (map arc_value new) ≤ length (map arc_value old) + 0
+    by_bool true e = let x = length-map new arc_value in let y = length-map old arc_value in omega arith
+    by_bool false e = let x = length-map new arc_value in let y = length-map old arc_value in omega arith
+
+pub more_count : {K A E : Type 0} (r : Result Bool E) (old new : List (Arc K A)) → IfOk r (λ b. length new ≡ length old + cond b 1 0) → OnErr r (new ≡ old) → length (map arc_value new) ≤ length (map arc_value old) + 1
+more_count (Ok true) old new done kept = let x = length-map new arc_value in let y = length-map old arc_value in omega (arith, done)
+more_count (Ok false) old new done kept = let x = length-map new arc_value in let y = length-map old arc_value in omega (arith, done)
+more_count (Err e) old new done kept = let x : length (map arc_value new) ≡ length (map arc_value old) = ap (λ ks. length (map arc_value ks)) kept in omega arith
+
+pub same_count : {K A : Type 0} (old new : List (Arc K A)) → new ≡ old → length (map arc_value new) ≤ length (map arc_value old) + 0
+same_count old new e = let x : length (map arc_value new) ≡ length (map arc_value old) = ap (λ ks. length (map arc_value ks)) e in omega arith
+
+pub fewer_by_one : {K A X : Type 0} (r : Option X) (x : X) (old new : List (Arc K A)) → r ≡ Some x → length new + cond (is_some r) 1 0 ≡ length old → suc (length (map arc_value new)) ≡ length (map arc_value old)
+fewer_by_one None x old new e l = absurd (none-some x e)
+fewer_by_one (Some y) x old new e l = let a = length-map new arc_value in let b = length-map old arc_value in omega (arith, l)
+
+-- where a place lost an asking task, there is an ask fewer
+pub popped_fewer : {K T A : Type 0} (eq : K → K → Bool) → IsEquality eq → (key : Arc K A) (es fs : List (Arc K A × Place K T)) (h w : Place K T) (mid : Share K T) → IsWritten eq key es fs h w → share_of w ≡ settled mid → suc (length mid.askers) ≡ length (share_of h).askers → ask_count (shares_of fs) < ask_count (shares_of es)
+popped_fewer {K} {T} {A} eq law key es fs h w mid i was less =
+    let c = changed_written eq law key es fs h w (λ p r. Unit {0}) i tt in
+    let s = c.sums (λ (p : Share K T). length p.askers) in
+    let a : number_for (λ (p : Share K T). length p.askers) (lookup (eq (arc_value key)) (shares_of es)) ≡ length (share_of h).askers = ap (number_for (λ (p : Share K T). length p.askers)) (lookup_shares (eq (arc_value key)) es ∙ ap (option_map share_of) i.known) in
+    let b : number_for (λ (p : Share K T). length p.askers) (lookup (eq (arc_value key)) (shares_of fs)) ≡ length mid.askers = ap (number_for (λ (p : Share K T). length p.askers)) (lookup_shares (eq (arc_value key)) fs ∙ ap (option_map share_of) i.here) ∙ ap (λ (p : Share K T). length p.askers) was in
+    omega arith

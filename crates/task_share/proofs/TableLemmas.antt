@@ -1,17 +1,16 @@
 -- What each call makes of a table, from what it makes of its places.
-use Rattle.std.proofs.Common.{◌≡◌, ◌≤◌, ◌<◌, ◌+◌, inl, inr, ◌⊎◌, ℕ, suc, Bool, true, false, not, cond, ◌&&◌, ◌||◌, List, [], ◌∷◌, ◌++◌, length, Option, Some, None, is_some, nat_eq, eqb, eq-eqb, refl, sym, ap, ◌∙◌, subst, arith}
-use Rattle.std.specs.Prelude.{option_and_then, IfSome, IfNone, OnSome}
+use Rattle.std.proofs.Common.{◌≡◌, ◌≤◌, ◌<◌, ◌+◌, inl, inr, ◌⊎◌, ℕ, Bool, true, false, not, cond, ◌&&◌, ◌||◌, List, [], ◌∷◌, length, Option, Some, None, is_some, nat_eq, eq-eqb, refl, sym, ap, ◌∙◌, subst, arith}
+use Rattle.std.specs.Prelude.{option_and_then, IsSome, OnSome}
 use Rattle.std.specs.Option.{option_map}
 use Rattle.std.specs.Map.{lookup}
 use Rattle.std.specs.List.{list_any}
-use Rattle.std.proofs.lemmas.Option.{same_Some, none-some}
 use Rattle.dice_key.specs.Lawful.{IsEquality}
 use Rattle.task_share.specs.Asked.{By, Promised, Tasked, is_by, Takes, IsDone}
-use Rattle.task_share.specs.Seen.{Share, is_for, list_for, number_for, has_by, has_live, task_at, is_live, asks, waits_at, asked_of, has_place, promise_room, asker_room, wait_room, KeepsTasks, KeepsAsks, KeepsRoom, KeepsOtherRoom, UsesRoomOf}
+use Rattle.task_share.specs.Seen.{Share, is_for, list_for, number_for, has_by, has_live, task_at, is_live, asks, waits_at, asked_of, has_place, promise_room, asker_room, wait_room, ask_count, KeepsTasks, KeepsAsks, KeepsRoom, KeepsOtherRoom, UsesRoomOf}
 use Rattle.task_share.specs.Lent.{WritesTask}
-use Rattle.task_share.specs.Listed.{is_idle, AreIn, IsChanged, Turns, Joined, Left, Stays, UsesRoom, IsKept, IsMirrored, Withdraws, IsTaken, IsPopped, NoneIdle}
-use Rattle.task_share.proofs.PlaceLemmas.{true_or_false, and_both, idle_unasked}
-use Rattle.task_share.proofs.TurnLemmas.{same_cond, asks_turned, waits_turned, task_turned, test_turned, tasks_kept, room_kept, place_kept, number_kept, by_key, tasks_on, room_on, stays_kept, kept_itself}
+use Rattle.task_share.specs.Listed.{is_idle, IsListed, AreIn, IsChanged, Turns, Joined, Left, UsesRoom, IsKept, IsMirrored, Withdraws, IsPopped, NoneIdle}
+use Rattle.task_share.proofs.PlaceLemmas.{and_both, idle_unasked}
+use Rattle.task_share.proofs.TurnLemmas.{same_cond, asks_turned, waits_turned, task_turned, test_turned, tasks_kept, count_kept, room_kept, place_kept, number_kept, by_key, tasks_on, room_on}
 
 no_number : (b : Bool) (m n : ℕ) → m ≤ n + cond b 0 0 → m ≤ n + 0
 no_number true m n h = omega arith
@@ -30,6 +29,14 @@ module _ {K T : Type 0} (eq : K → K → Bool) (law : IsEquality eq) where
   -- where askers and waits are as before, they still agree
   pub mirrored_same : (ps qs : List (K × Share K T)) → KeepsAsks eq ps qs → ((k d : K) → list_any (eq d) (waits_at eq qs k) ≡ list_any (eq d) (waits_at eq ps k)) → IsMirrored eq ps → IsMirrored eq qs
   mirrored_same ps qs a w m d k = a d (Tasked k) ∙ (m d k ∙ sym (w k d))
+
+  -- a key whose task has not ended has one
+  pub live_there : (ps : List (K × Share K T)) (cs : List K) (room : ℕ) → IsListed eq ps cs room → (k : K) → is_live eq ps k ≡ true → IsSome (task_at eq ps k)
+  live_there ps cs room l k e = by_place (lookup (eq k) ps) refl e
+    where
+      by_place : (o : Option (Share K T)) → lookup (eq k) ps ≡ o → is_for has_live o ≡ true → IsSome (option_and_then (λ (p : Share K T). p.task) o)
+      by_place None i f = cc
+      by_place (Some p) i f = (l.each k p i).runs f
 
   -- a task is put to the place of k
   module _ (ps qs : List (K × Share K T)) (k : K) (t : T) (c : IsChanged eq k (λ p r. Turns eq (λ o. Some t) (λ e. true) (λ x b. b) (λ d b. b) p r × UsesRoom 0 0 0 p r) ps qs) where
@@ -136,6 +143,9 @@ module _ {K T : Type 0} (eq : K → K → Bool) (law : IsEquality eq) where
         by_bools false true = refl
         by_bools false false = refl
 
+    pub promise_joined_count : ask_count qs ≤ ask_count ps
+    promise_joined_count = let a = count_kept eq law ps qs k _ c 0 (λ p r i. i.1.count) in omega arith
+
     pub promise_joined_room : UsesRoomOf eq (λ q. cond (eq k q) 1 0) (λ q. 0) (λ q. 0) ps qs
     promise_joined_room = record {
       places = λ q h. place_kept eq law ps qs k _ c q ∙ h;
@@ -176,6 +186,9 @@ module _ {K T : Type 0} (eq : K → K → Bool) (law : IsEquality eq) where
           by_bools false true false = refl
           by_bools false false true = refl
           by_bools false false false = refl
+
+      pub task_joined_count : ask_count rs ≤ ask_count ps + 1
+      task_joined_count = let a = count_kept eq law ps qs k _ c 1 (λ p r i. i.1.count) in let b = count_kept eq law qs rs j _ w 0 (λ p r i. i.1.count) in omega arith
 
       pub task_joined_room : UsesRoomOf eq (λ q. 0) (λ q. cond (eq k q) 1 0) (λ q. cond (eq j q) 1 0) ps rs
       task_joined_room = record {
@@ -231,6 +244,7 @@ module _ {K T : Type 0} (eq : K → K → Bool) (law : IsEquality eq) where
       promises = λ q n. (let a = ap (number_for (λ (p : Share K T). p.promise_room)) (c.others q n) in let b = w.room.promises q in omega arith);
       askers = λ q n. (let a = ap (number_for (λ (p : Share K T). p.asker_room)) (c.others q n) in let b = w.room.askers q in omega arith);
       waits = λ q n. (let a = ap (number_for (λ (p : Share K T). p.wait_room)) (c.others q n) in let b = w.room.waits q in omega arith);
+      count = (let a = count_kept eq law ps qs k _ c 0 (λ p r i. i.1.count) in let b = w.room.count in omega arith);
     }
 
   -- an idle task is popped, and its asks are withdrawn
@@ -302,6 +316,7 @@ module _ {K T : Type 0} (eq : K → K → Bool) (law : IsEquality eq) where
       promises = λ q n. (let a = ap (number_for (λ (r : Share K T). r.promise_room)) (other q n) in let b = w.room.promises q in let d = p.kept.room.promises q in omega arith);
       askers = λ q n. (let a = ap (number_for (λ (r : Share K T). r.asker_room)) (other q n) in let b = w.room.askers q in let d = p.kept.room.askers q in omega arith);
       waits = λ q n. (let a = ap (number_for (λ (r : Share K T). r.wait_room)) (other q n) in let b = w.room.waits q in let d = p.kept.room.waits q in omega arith);
+      count = (let a = p.taken.count in let b = w.room.count in let d = p.kept.room.count in omega arith);
     }
 
   -- where no task is idle, each that has not ended has an asker
@@ -358,6 +373,7 @@ module _ {K T : Type 0} (eq : K → K → Bool) (law : IsEquality eq) where
         promises = λ q. at_most _ _ (at_place (number_for (λ (p : Share K T). p.promise_room)) (λ p. refl) q);
         askers = λ q. at_most _ _ (at_place (number_for (λ (p : Share K T). p.asker_room)) (λ p. refl) q);
         waits = λ q. at_most _ _ (at_place (number_for (λ (p : Share K T). p.wait_room)) (λ p. refl) q);
+        count = (let a = c.sums (λ (p : Share K T). length p.askers) in let b = at_place (number_for (λ (p : Share K T). length p.askers)) (λ p. refl) k in omega arith);
       };
     }
       where

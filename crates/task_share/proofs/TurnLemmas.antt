@@ -1,13 +1,12 @@
 -- What a change at one key makes of tasks, askers, waits and room.
-use Rattle.std.proofs.Common.{◌≡◌, ◌≤◌, ◌<◌, ◌+◌, inl, inr, ◌⊎◌, ℕ, Bool, true, false, not, cond, ◌&&◌, ◌||◌, List, Option, Some, None, is_some, refl, sym, ap, ◌∙◌, subst, arith}
+use Rattle.std.proofs.Common.{◌≡◌, ◌≤◌, ◌+◌, ℕ, Bool, true, false, cond, List, length, Option, Some, None, is_some, refl, sym, ap, ◌∙◌, subst, arith}
 use Rattle.std.specs.Prelude.{option_and_then}
 use Rattle.std.specs.Map.{lookup}
 use Rattle.std.specs.List.{list_any}
 use Rattle.dice_key.specs.Lawful.{IsEquality}
-use Rattle.task_share.specs.Asked.{By, Promised, Tasked, is_by}
-use Rattle.task_share.specs.Seen.{Share, is_for, list_for, number_for, has_by, has_live, task_at, is_live, asks, waits_at, has_place, promise_room, asker_room, wait_room, KeepsTasks, KeepsAsks, KeepsRoom}
-use Rattle.task_share.specs.Listed.{AreIn, IsChanged, Turns, Stays, UsesRoom, IsKept, Withdraws}
-use Rattle.task_share.proofs.PlaceLemmas.{true_or_false}
+use Rattle.task_share.specs.Asked.{By}
+use Rattle.task_share.specs.Seen.{Share, is_for, list_for, number_for, has_by, has_live, task_at, is_live, asks, waits_at, has_place, ask_count, KeepsTasks, KeepsRoom}
+use Rattle.task_share.specs.Listed.{AreIn, IsChanged, Turns, Stays, UsesRoom, IsKept}
 
 pub same_cond : {X : Type 0} (b : Bool) (x : X) → cond b x x ≡ x
 same_cond true x = refl
@@ -91,12 +90,23 @@ module _ {K T : Type 0} (eq : K → K → Bool) (law : IsEquality eq) (ps qs : L
       by_places (Some p) None i = absurd i
       by_places (Some p) (Some r) i = (step p r i).0
 
+  -- at most n asks of tasks more
+  pub count_kept : (n : ℕ) → ((p r : Share K T) → R p r → length r.askers ≤ length p.askers + n) → ask_count qs ≤ ask_count ps + n
+  count_kept n step = by_places (lookup (eq k) ps) (lookup (eq k) qs) c.here (c.sums (λ (p : Share K T). length p.askers))
+    where
+      by_places : (o r : Option (Share K T)) → AreIn R o r → ask_count qs + number_for (λ (p : Share K T). length p.askers) o ≡ ask_count ps + number_for (λ (p : Share K T). length p.askers) r → ask_count qs ≤ ask_count ps + n
+      by_places None None i e = omega arith
+      by_places None (Some r) i e = absurd i
+      by_places (Some p) None i e = absurd i
+      by_places (Some p) (Some r) i e = let l = step p r i in omega arith
+
   pub room_kept : ((p r : Share K T) → R p r → UsesRoom 0 0 0 p r) → KeepsRoom eq ps qs
   room_kept step = record {
     places = λ q h. place_kept q ∙ h;
     promises = λ q. drop_cond (eq k q) _ _ (number_kept (λ (p : Share K T). p.promise_room) 0 (λ p r i. (step p r i).promises) q);
     askers = λ q. drop_cond (eq k q) _ _ (number_kept (λ (p : Share K T). p.asker_room) 0 (λ p r i. (step p r i).askers) q);
     waits = λ q. drop_cond (eq k q) _ _ (number_kept (λ (p : Share K T). p.wait_room) 0 (λ p r i. (step p r i).waits) q);
+    count = (let n = count_kept 0 (λ p r i. (step p r i).count) in omega arith);
   }
     where
       drop_cond : (b : Bool) (m n : ℕ) → m ≤ n + cond b 0 0 → m ≤ n
@@ -114,7 +124,7 @@ module _ {K T : Type 0} (eq : K → K → Bool) (law : IsEquality eq) (ps qs : L
 
 module _ {K T : Type 0} (eq : K → K → Bool) where
   pub room_itself : (ps : List (K × Share K T)) → KeepsRoom eq ps ps
-  room_itself ps = record { places = λ q h. h; promises = λ q. omega arith; askers = λ q. omega arith; waits = λ q. omega arith }
+  room_itself ps = record { places = λ q h. h; promises = λ q. omega arith; askers = λ q. omega arith; waits = λ q. omega arith; count = omega arith }
 
   pub room_on : (ps qs rs : List (K × Share K T)) → KeepsRoom eq ps qs → KeepsRoom eq qs rs → KeepsRoom eq ps rs
   room_on ps qs rs a b = record {
@@ -122,6 +132,7 @@ module _ {K T : Type 0} (eq : K → K → Bool) where
     promises = λ q. (let x = a.promises q in let y = b.promises q in omega arith);
     askers = λ q. (let x = a.askers q in let y = b.askers q in omega arith);
     waits = λ q. (let x = a.waits q in let y = b.waits q in omega arith);
+    count = (let x = a.count in let y = b.count in omega arith);
   }
 
   pub tasks_on : (ps qs rs : List (K × Share K T)) → KeepsTasks eq ps qs → KeepsTasks eq qs rs → KeepsTasks eq ps rs

@@ -1,5 +1,4 @@
 -- The code's askers, without pointers.
-use Rattle.std.specs.Prelude.{Bool, List}
 use Rattle.std.specs.Arc.{arc_value}
 use Rattle.task_share.specs.Asked.{By, Promised, Tasked}
 use Rattle.task_share.specs.declared.asker.Asker.{Asker}

@@ -1,15 +1,15 @@
 -- What a table keeps of its candidates, and what becomes of one place.
-use Rattle.std.specs.Prelude.{◌≡◌, ◌≤◌, ◌+◌, ℕ, Bool, true, false, not, cond, ◌&&◌, ◌||◌, eqb, List, [], ◌++◌, length, map, Option, Some, None, is_some}
+use Rattle.std.specs.Prelude.{◌≡◌, ◌≤◌, ◌+◌, ℕ, Bool, true, false, not, cond, ◌&&◌, ◌||◌, eqb, List, [], length, map, Option, Some, None, is_some}
 use Rattle.std.specs.Arc.{arc_value}
 use Rattle.std.specs.Map.{lookup, values_of}
 use Rattle.std.specs.List.{list_any, sum_by}
-use Rattle.std.specs.Option.{option_map, option_to_list}
+use Rattle.std.specs.Option.{option_map}
 use Rattle.std.specs.HashSet.{spare}
 use Rattle.std.specs.declared.sync.Arc.{Arc}
-use Rattle.task_share.specs.Asked.{By, Promised, Tasked, is_by}
+use Rattle.task_share.specs.Asked.{By, Tasked, is_by}
 use Rattle.task_share.specs.Lists.{Has}
 pub use Rattle.task_share.specs.Seen.{IsMirrored}
-use Rattle.task_share.specs.Seen.{Share, has_live, has_by, asks, waits_at, KeepsTasks, KeepsAsks, KeepsRoom}
+use Rattle.task_share.specs.Seen.{Share, number_for, has_live, has_by, asks, waits_at, ask_count, KeepsTasks, KeepsAsks, KeepsRoom}
 use Rattle.task_share.specs.declared.place.Place.{Place}
 
 -- a place without its pointers
@@ -89,12 +89,14 @@ AreIn R (Some x) (Some y) = R x y
 pub record IsChanged {K T : Type 0} (eq : K → K → Bool) (k : K) (R : Share K T → Share K T → Type 0) (ps qs : List (K × Share K T)) : Type 0 where
   pub here : AreIn R (lookup (eq k) ps) (lookup (eq k) qs)
   pub others : (q : K) → eq k q ≡ false → lookup (eq q) qs ≡ lookup (eq q) ps
+  pub sums : (f : Share K T → ℕ) → sum_by f (values_of qs) + number_for f (lookup (eq k) ps) ≡ sum_by f (values_of ps) + number_for f (lookup (eq k) qs)
 
--- the room of a place: m promises, n askers and l waits were used of it at most
+-- the room of a place: m promises, n askers and l waits were used of it at most, and at most n tasks more ask
 pub record UsesRoom {K T : Type 0} (m n l : ℕ) (p r : Share K T) : Type 0 where
   pub promises : p.promise_room ≤ r.promise_room + m
   pub askers : p.asker_room ≤ r.asker_room + n
   pub waits : p.wait_room ≤ r.wait_room + l
+  pub count : length r.askers ≤ length p.askers + n
 
 -- the task of a place changes by t, whether it has not ended by e, its askers by A and its waits by W
 pub record Turns {K T : Type 0} (eq : K → K → Bool) (t : Option T → Option T) (e : Bool → Bool) (A : By K → Bool → Bool) (W : K → Bool → Bool) (p r : Share K T) : Type 0 where
@@ -143,6 +145,7 @@ pub record IsTaken {K T : Type 0} (eq : K → K → Bool) (k : K) (p : Share K T
   pub there : lookup (eq k) ps ≡ Some p
   pub idle : is_idle p ≡ true
   pub gone : (q : K) → lookup (eq q) qs ≡ cond (eq k q) None (lookup (eq q) ps)
+  pub count : ask_count qs ≤ ask_count ps
 
 -- the task t of k was idle, and is taken out with what it waits for, after keys went back to their places
 pub record IsPopped {K T : Type 0} (eq : K → K → Bool) (k : K) (t : T) (waits : List K) (ps qs : List (K × Share K T)) : Type 0 where

@@ -1,7 +1,7 @@
 -- A table as its users see it: a list of keys with what is kept at each, read by key.
-use Rattle.std.specs.Prelude.{◌≡◌, ◌≤◌, ◌+◌, ℕ, Bool, true, false, not, ◌&&◌, nat_eq, List, [], Option, Some, None, option_and_then, is_some}
-use Rattle.std.specs.Map.{lookup}
-use Rattle.std.specs.List.{list_any}
+use Rattle.std.specs.Prelude.{◌≡◌, ◌≤◌, ◌+◌, ℕ, Bool, true, false, nat_eq, List, [], length, Option, Some, None, option_and_then, is_some}
+use Rattle.std.specs.Map.{lookup, values_of}
+use Rattle.std.specs.List.{list_any, sum_by}
 use Rattle.task_share.specs.Asked.{By, Promised, Tasked, Asked}
 
 -- what is kept at a key: its task, if there is one, and whether it is there and has not ended; the promises and the tasks that ask for the key, the
@@ -38,6 +38,10 @@ has_live p = p.live
 abbrev pub has_by : {K T : Type 0} → (K → K → Bool) → Share K T → By K → Bool
 has_by eq p (Promised n) = list_any (nat_eq n) p.promises
 has_by eq p (Tasked j) = list_any (eq j) p.askers
+
+-- how many asks of tasks there are
+abbrev pub ask_count : {K T : Type 0} → List (K × Share K T) → ℕ
+ask_count {K} {T} ps = sum_by (λ (p : Share K T). length p.askers) (values_of ps)
 
 module _ {K T : Type 0} (eq : K → K → Bool) where
   -- the task of a key, ended or not
@@ -87,19 +91,21 @@ module _ {K T : Type 0} (eq : K → K → Bool) where
   abbrev pub KeepsAsks : List (K × Share K T) → List (K × Share K T) → Type 0
   KeepsAsks ps qs = (q : K) (a : By K) → asks qs q a ≡ asks ps q a
 
-  -- the room made ahead is still there
+  -- the room made ahead is still there, and there are no more asks of tasks
   pub record KeepsRoom (ps qs : List (K × Share K T)) : Type 0 where
     pub places : (q : K) → has_place ps q ≡ true → has_place qs q ≡ true
     pub promises : (q : K) → promise_room ps q ≤ promise_room qs q
     pub askers : (q : K) → asker_room ps q ≤ asker_room qs q
     pub waits : (q : K) → wait_room ps q ≤ wait_room qs q
+    pub count : ask_count qs ≤ ask_count ps
 
-  -- the room made ahead is still there, but for that of one key
+  -- the room made ahead is still there, but for that of one key, and there are no more asks of tasks
   pub record KeepsOtherRoom (k : K) (ps qs : List (K × Share K T)) : Type 0 where
     pub places : (q : K) → eq k q ≡ false → has_place ps q ≡ true → has_place qs q ≡ true
     pub promises : (q : K) → eq k q ≡ false → promise_room ps q ≤ promise_room qs q
     pub askers : (q : K) → eq k q ≡ false → asker_room ps q ≤ asker_room qs q
     pub waits : (q : K) → eq k q ≡ false → wait_room ps q ≤ wait_room qs q
+    pub count : ask_count qs ≤ ask_count ps
 
   -- of the room made ahead at most this was used: m q for promises, n q for asking tasks and l q for waits of each key q
   pub record UsesRoomOf (m n l : K → ℕ) (ps qs : List (K × Share K T)) : Type 0 where

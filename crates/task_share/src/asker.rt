@@ -13,6 +13,13 @@ pub enum Asker<K> {
     Task(Arc<K>),
 }
 
+/// Those who ask for a key: the numbers of the promises and the keys of the tasks, each in no order.
+#[derive(Drop)]
+pub struct Askers<'a, K> {
+    pub promises: &'a [u64],
+    pub tasks: &'a [Arc<K>],
+}
+
 /// One task's wait for another, with the pointers that the table keeps of it, so that it can be added without memory.
 #[derive(Drop)]
 pub struct Wait<K> {

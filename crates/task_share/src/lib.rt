@@ -9,9 +9,9 @@ mod places;
 mod room;
 mod table;
 
-pub use asker::{Asker, Wait};
+pub use asker::{Asker, Askers, Wait};
 pub use cascade::drops_unheld;
-pub use table::Table;
+pub use table::{Table, table_in_order};
 
 #[cfg(test)]
 mod tests;

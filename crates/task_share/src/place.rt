@@ -34,16 +34,11 @@ pub fn is_running<K: Eq + Hash + Drop, T: Drop>(place: &Place<K, T>) -> bool
 pub fn is_unasked<K: Eq + Hash + Drop, T: Drop>(place: &Place<K, T>) -> bool
     ensures { result ≡ is_idle (share_of place.now) }
 {
-    is_running(place)
-        && place.promises.is_empty()
-        && place.askers.is_empty()
+    is_running(place) && place.promises.is_empty() && place.askers.is_empty()
 }
 
 /// Where nobody asks for the task, its key goes to the candidates. It takes no memory.
-pub fn settle<K: Eq + Hash + Drop, T: Drop>(
-    place: &mut Place<K, T>,
-    candidates: &mut Vec<Arc<K>>,
-)
+pub fn settle<K: Eq + Hash + Drop, T: Drop>(place: &mut Place<K, T>, candidates: &mut Vec<Arc<K>>)
     requires { is_some place.old.name ≡ true → length candidates.old.items < vec_capacity candidates.old }
     ensures place { share_of place.new ≡ settled (share_of place.old) }
     ensures candidates { map arc_value candidates.new.items ≡ map arc_value candidates.old.items ++ option_to_list (released (share_of place.old)) }

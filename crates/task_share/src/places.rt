@@ -4,7 +4,7 @@ ghost use Rattle.std.specs.Arc.{arc_value};
 ghost use Rattle.std.specs.List.{list_any};
 ghost use Rattle.dice_key.specs.Lawful.{IsEquality};
 ghost use Rattle.task_share.specs.Asked.{By, Promised, Tasked, is_by};
-ghost use Rattle.task_share.specs.Seen.{asks, waits_at, has_place, promise_room, asker_room, wait_room};
+ghost use Rattle.task_share.specs.Seen.{asks, waits_at, ask_count, has_place, promise_room, asker_room, wait_room};
 ghost use Rattle.task_share.specs.Listed.{shares_of, IsListed, KeepsListed, IsChanged, Turns, Joined, Left, Stays, UsesRoom};
 
 use crate::place::{Place, settle};
@@ -64,6 +64,7 @@ pub fn pop_asker<K: Eq + Hash + Drop, T: Drop>(
     requires listed { IsListed K.eq (shares_of places.old.entries) (map arc_value candidates.old.items) (vec_capacity candidates.old) }
     ensures listed { IsListed K.eq (shares_of places.new.entries) (map arc_value candidates.new.items) (vec_capacity candidates.new) }
     ensures some { IfSome result (λ j. (asks K.eq (shares_of places.old.entries) (arc_value key.now) (Tasked (arc_value j)) ≡ true) × IsChanged K.eq (arc_value key.now) (λ p r. Left K.eq (Tasked (arc_value j)) p r × UsesRoom 0 0 0 p r) (shares_of places.old.entries) (shares_of places.new.entries)) }
+    ensures fewer { IfSome result (λ j. ask_count (shares_of places.new.entries) < ask_count (shares_of places.old.entries)) }
     ensures none { IfNone result (((j : K) → asks K.eq (shares_of places.old.entries) (arc_value key.now) (Tasked j) ≡ false) × IsChanged K.eq (arc_value key.now) (λ p r. Stays K.eq p r × UsesRoom 0 0 0 p r) (shares_of places.old.entries) (shares_of places.new.entries)) }
 {
     let Some(place) = places.get_mut(key) else {

@@ -1,5 +1,5 @@
 //! The table of tasks.
-ghost use Rattle.std.specs.Prelude.{◌≡◌, ◌<◌, ◌≤◌, ◌+◌, ◌⊎◌, ◌&&◌, ◌||◌, not, nat_eq, ℕ, [], true, false, Some, None, cond, map, if◌then◌else◌, IfSome, IfNone, OnOk, OnErr};
+ghost use Rattle.std.specs.Prelude.{◌≡◌, ◌<◌, ◌≤◌, ◌+◌, ◌⊎◌, ◌&&◌, ◌||◌, not, nat_eq, ℕ, [], true, false, Some, None, cond, map, if◌then◌else◌, IsSome, IfSome, IfNone, OnOk, OnErr};
 ghost use Rattle.std.specs.Arc.{arc_value};
 ghost use Rattle.std.specs.List.{list_any};
 ghost use Rattle.std.specs.Option.{option_copied, option_copied_mut};
@@ -8,12 +8,15 @@ ghost use Rattle.dice_key.specs.Lawful.{IsEquality};
 ghost use Rattle.task_share.specs.Asked.{By, Promised, Tasked, is_by, IsDone, Takes};
 ghost use Rattle.task_share.specs.Askers.{by_of};
 ghost use Rattle.task_share.specs.Lent.{LendsTask};
-ghost use Rattle.task_share.specs.Seen.{task_at, is_live, asks, waits_at, asked_of, IsMirrored, has_place, promise_room, asker_room, wait_room, KeepsTasks, KeepsAsks, KeepsRoom, KeepsOtherRoom, UsesRoomOf};
+ghost use Rattle.task_share.specs.Seen.{task_at, is_live, asks, waits_at, asked_of, ask_count, IsMirrored, has_place, promise_room, asker_room, wait_room, KeepsTasks, KeepsAsks, KeepsRoom, KeepsOtherRoom, UsesRoomOf};
 
-use crate::asker::{Asker, Wait};
+use crate::asker::{Asker, Askers, Wait};
 use crate::idle::{pop_idle, withdraw};
 use crate::place::{Place, is_running};
-use crate::places::{add_asker, add_promise, add_wait, drop_wait, end_task, leave_promise, leave_task, pop_asker, put_task};
+use crate::places::{
+    add_asker, add_promise, add_wait, drop_wait, end_task, leave_promise, leave_task, pop_asker,
+    put_task,
+};
 use crate::room;
 use dice_key::NoMemory;
 use std::alloc::Global;
@@ -26,6 +29,9 @@ use std::sync::Arc;
 ///
 /// A key may have a task, which has ended or not, and askers: promises and other tasks. A task waits for the keys that it asks
 /// for. Askers are a set: who joins twice has joined once.
+///
+/// A call takes constant time, however many tasks and askers there are, but for growth; `ended` and `next_unasked` take it for
+/// each key that the task waited for, and `next_unasked` for each candidate, which an earlier call made.
 #[derive(Drop)]
 pub struct Table<K: Eq + Hash + Drop, T: Drop> {
     places: HashMap<Arc<K>, Place<K, T>>,
@@ -137,6 +143,7 @@ impl<K: Eq + Hash + Drop, T: Drop> Table<K, T> {
         ensures tasks { KeepsTasks K.eq self.old self.new }
         ensures asks { (q : K) (a : By K) → asks K.eq self.new q a ≡ (asks K.eq self.old q a || (K.eq (arc_value key.now) q && is_by K.eq (Promised number) a)) }
         ensures room { UsesRoomOf K.eq (λ q. if K.eq (arc_value key.now) q then 1 else 0) (λ q. 0) (λ q. 0) self.old self.new }
+        ensures count { ask_count self.new ≤ ask_count self.old }
     {
         add_promise(&mut self.places, key, number);
     }
@@ -148,6 +155,7 @@ impl<K: Eq + Hash + Drop, T: Drop> Table<K, T> {
         ensures tasks { KeepsTasks K.eq self.old self.new }
         ensures asks { (q : K) (a : By K) → asks K.eq self.new q a ≡ (asks K.eq self.old q a || (K.eq wait.key q && is_by K.eq (Tasked wait.asker) a)) }
         ensures room { UsesRoomOf K.eq (λ q. 0) (λ q. if K.eq wait.key q then 1 else 0) (λ q. if K.eq wait.asker q then 1 else 0) self.old self.new }
+        ensures count { ask_count self.new ≤ ask_count self.old + 1 }
     {
         let (key, asker, kept_asker) = wait.into_parts();
         add_asker(&mut self.places, &key, kept_asker);
@@ -159,6 +167,7 @@ impl<K: Eq + Hash + Drop, T: Drop> Table<K, T> {
         ensures tasks { KeepsTasks K.eq self.old self.new }
         ensures asks { OnOk result ((q : K) (a : By K) → asks K.eq self.new q a ≡ (asks K.eq self.old q a || (K.eq (arc_value key.now) q && is_by K.eq (by_of asker) a))) }
         ensures err { OnErr result (KeepsAsks K.eq self.old self.new) }
+        ensures count { ask_count self.new ≤ ask_count self.old + 1 }
     {
         match asker {
             Asker::Promise(number) => self.join_promise(key, number),
@@ -170,6 +179,7 @@ impl<K: Eq + Hash + Drop, T: Drop> Table<K, T> {
         ensures tasks { KeepsTasks K.eq self.old self.new }
         ensures asks { OnOk result ((q : K) (a : By K) → asks K.eq self.new q a ≡ (asks K.eq self.old q a || (K.eq (arc_value key.now) q && is_by K.eq (Promised number) a))) }
         ensures err { OnErr result (KeepsAsks K.eq self.old self.new) }
+        ensures count { ask_count self.new ≤ ask_count self.old + 1 }
     {
         self.reserve_promise(key)?;
         self.add_promise(key, number);
@@ -180,6 +190,7 @@ impl<K: Eq + Hash + Drop, T: Drop> Table<K, T> {
         ensures tasks { KeepsTasks K.eq self.old self.new }
         ensures asks { OnOk result ((q : K) (a : By K) → asks K.eq self.new q a ≡ (asks K.eq self.old q a || (K.eq (arc_value key.now) q && is_by K.eq (Tasked (arc_value asker.now)) a))) }
         ensures err { OnErr result (KeepsAsks K.eq self.old self.new) }
+        ensures count { ask_count self.new ≤ ask_count self.old + 1 }
     {
         let wait = Wait::new(key, asker)?;
         self.reserve_asker(key)?;
@@ -218,10 +229,13 @@ impl<K: Eq + Hash + Drop, T: Drop> Table<K, T> {
     }
 
     /// Takes one asking task away from a key, and gives its key; `None` exactly where no task asks for the key. It takes no memory.
+    ///
+    /// Each asker that it gives lowers the number of asks of tasks, so a loop over it ends.
     pub fn take_asker(&mut self, key: &Arc<K>) -> Option<Arc<K>>
         ensures tasks { KeepsTasks K.eq self.old self.new }
         ensures asked { IfSome result (λ j. asks K.eq self.old (arc_value key.now) (Tasked (arc_value j)) ≡ true) }
         ensures asks { IfSome result (λ j. (q : K) (a : By K) → asks K.eq self.new q a ≡ (asks K.eq self.old q a && not (K.eq (arc_value key.now) q && is_by K.eq (Tasked (arc_value j)) a))) }
+        ensures fewer { IfSome result (λ j. ask_count self.new < ask_count self.old) }
         ensures none { IfNone result (((j : K) → asks K.eq self.old (arc_value key.now) (Tasked j) ≡ false) × KeepsAsks K.eq self.old self.new) }
         ensures room { KeepsRoom K.eq self.old self.new }
     {
@@ -288,34 +302,40 @@ impl<K: Eq + Hash + Drop, T: Drop> Table<K, T> {
         }
     }
 
-    /// The promises that ask for the key, each once, in no order.
-    pub fn promises(&self, key: &Arc<K>) -> &[u64]
-        ensures { (n : ℕ) → list_any (nat_eq n) result.now ≡ asks K.eq self.now (arc_value key.now) (Promised n) }
+    /// The askers of the key, which may be none.
+    pub fn askers(&self, key: &Arc<K>) -> Askers<'_, K>
+        ensures promises { (n : ℕ) → list_any (nat_eq n) result.promises.now ≡ asks K.eq self.now (arc_value key.now) (Promised n) }
+        ensures tasks { (j : K) → list_any (K.eq j) (map arc_value result.tasks.now) ≡ asks K.eq self.now (arc_value key.now) (Tasked j) }
     {
         match self.places.get(key) {
-            Some(place) => place.promises.as_slice(),
-            None => &[],
+            Some(place) => Askers {
+                promises: place.promises.as_slice(),
+                tasks: place.askers.as_slice(),
+            },
+            None => Askers {
+                promises: &[],
+                tasks: &[],
+            },
         }
     }
 
-    /// The tasks that ask for the key, each once, in no order.
-    pub fn askers(&self, key: &Arc<K>) -> &[Arc<K>]
-        ensures { (j : K) → list_any (K.eq j) (map arc_value result.now) ≡ asks K.eq self.now (arc_value key.now) (Tasked j) }
-    {
-        match self.places.get(key) {
-            Some(place) => place.askers.as_slice(),
-            None => &[],
-        }
-    }
-
-    /// The keys that the task of the key waits for, each once, in no order. They are those that it asks for.
+    /// The keys that the task of the key waits for, in no order. They are those that it asks for (`table_in_order`).
     pub fn waits(&self, key: &Arc<K>) -> &[Arc<K>]
-        ensures keys { map arc_value result.now ≡ waits_at K.eq self.now (arc_value key.now) }
-        ensures asked { IsMirrored K.eq self.now }
+        ensures { map arc_value result.now ≡ waits_at K.eq self.now (arc_value key.now) }
     {
         match self.places.get(key) {
             Some(place) => place.waits.as_slice(),
             None => &[],
         }
     }
+}
+
+/// What every table keeps: keys that are equal are the same, a task waits for just the keys that it asks for, and a key whose task
+/// has not ended has one. It does no work, and hands these facts to its caller.
+pub fn table_in_order<K: Eq + Hash + Drop, T: Drop>(table: &Table<K, T>)
+    ensures equality { IsEquality K.eq }
+    ensures waits { IsMirrored K.eq table.now }
+    ensures there { (k : K) → is_live K.eq table.now k ≡ true → IsSome (task_at K.eq table.now k) }
+{
+    let _ = &table.places;
 }

@@ -15,11 +15,7 @@ fn make(table: &mut Table<u32, u64>, key: &Arc<u32>, task: u64) -> Result<bool, 
 }
 
 /// The tasks 10 of key 1 and 20 of key 2; 1 asks for 2, and promises 8 and 9 for 1.
-fn shared(
-    alloc: Global,
-    one: &Arc<u32>,
-    two: &Arc<u32>,
-) -> Result<Table<u32, u64>, NoMemory> {
+fn shared(alloc: Global, one: &Arc<u32>, two: &Arc<u32>) -> Result<Table<u32, u64>, NoMemory> {
     let mut table = Table::new(alloc);
     make(&mut table, one, 10)?;
     make(&mut table, two, 20)?;
@@ -60,21 +56,17 @@ fn a_task_made_anew_keeps_its_askers(rt: HostRuntime) -> Result<(), Fail> {
     assert_eq!(rt; table.waits(&one).len(), 0);
     assert_eq!(rt; make(&mut table, &one, 30)?, true);
     if let Some(task) = table.task_mut(&one) {
-        *task += 1;
+        *task = 31;
     }
     assert_eq!(rt; table.task(&one).copied(), Some(31));
-    assert_eq!(rt; table.promises(&one), [8, 9].as_slice());
+    assert_eq!(rt; table.askers(&one).promises, [8, 9].as_slice());
     assert_eq!(rt; next(&mut table), Some((2, 20)));
     assert_eq!(rt; next(&mut table), None);
     Ok(())
 }
 
 /// What `shared` makes, in room made ahead.
-fn reserved(
-    alloc: Global,
-    one: &Arc<u32>,
-    two: &Arc<u32>,
-) -> Result<Table<u32, u64>, NoMemory> {
+fn reserved(alloc: Global, one: &Arc<u32>, two: &Arc<u32>) -> Result<Table<u32, u64>, NoMemory> {
     let mut table = Table::new(alloc);
     table.reserve(one)?;
     table.make_reserved(one, 10);
@@ -93,8 +85,8 @@ fn room_made_ahead_is_filled(rt: HostRuntime) -> Result<(), Fail> {
     let two = Arc::new(rt.alloc(), 2)?;
     let mut table = reserved(rt.alloc(), &one, &two)?;
     assert_eq!(rt; table.task(&one).copied(), Some(10));
-    assert_eq!(rt; table.promises(&one), [8].as_slice());
-    assert_eq!(rt; table.askers(&two).len(), 1);
+    assert_eq!(rt; table.askers(&one).promises, [8].as_slice());
+    assert_eq!(rt; table.askers(&two).tasks.len(), 1);
     assert_eq!(rt; table.waits(&one).len(), 1);
     assert_eq!(rt; table.take_asker(&two).map(|key| *key), Some(1));
     assert_eq!(rt; table.take_asker(&two).map(|key| *key), None);

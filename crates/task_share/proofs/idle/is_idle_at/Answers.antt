@@ -1,10 +1,9 @@
-use Rattle.std.proofs.Common.{ap, sym, ◌∙◌, Some, None}
+use Rattle.std.proofs.Common.{ap, sym, ◌∙◌}
 use Rattle.std.specs.Arc.{arc_value}
 use Rattle.std.specs.Option.{option_copied, option_map}
 use Rattle.task_share.specs.Seen.{is_for}
 use Rattle.task_share.specs.Listed.{share_of, is_idle}
 use Rattle.task_share.proofs.PlaceLemmas.{lookup_shares}
-use Rattle.task_share.proofs.TurnLemmas.{any_for}
 use Rattle.task_share.proofs.idle.is_idle_at.Goals as goal
 
 pub returns-in-Some : goal.returns-in-Some

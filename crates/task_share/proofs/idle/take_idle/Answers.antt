@@ -1,16 +1,11 @@
-use Rattle.std.proofs.Common.{◌≡◌, is_some, length, ◌++◌, ◌≤◌, ◌+◌, ℕ, Bool, true, false, not, cond, ◌&&◌, ◌||◌, List, [], ◌∷◌, map, Some, None, refl, sym, ap, ◌∙◌, subst, arith}
-use Rattle.std.specs.Prelude.{IsSome, IfSome, IfNone}
-use Rattle.std.specs.Arc.{arc_value, arc_with_value}
-use Rattle.std.specs.Map.{lookup}
-use Rattle.std.specs.Option.{option_copied_mut, option_map}
-use Rattle.std.specs.Vec.{vec_capacity}
-use Rattle.task_share.specs.Asked.{Promised, Tasked}
-use Rattle.task_share.specs.Seen.{Share, asks, waits_at, has_by, has_live, is_for, task_at}
-use Rattle.task_share.specs.Listed.{share_of, shares_of, is_idle, IsListed, IsChanged, KeepsListed, Turns, UsesRoom, Left, Joined, Stays, IsKept, IsTaken, IsPopped, NoneIdle, Withdraws, Withdrawing}
-use Rattle.task_share.specs.declared.place.Place.{Place}
-use Rattle.task_share.proofs.PlaceLemmas.{lookup_shares, set_shares, and_both, no_more, IsWritten, changed_none, changed_written, written_listed, has_room, left_promise, left_task, left_wait, joined_promise, joined_task, joined_wait, list_any_values, kept_listed, kept_none, inserted, asked_busy, ended_busy}
-use Rattle.task_share.proofs.TurnLemmas.{stays_kept, kept_itself, kept_on}
-use Rattle.task_share.proofs.IdleLemmas.{dropped_listed, back_listed, taken_listed, none_idle, removed_less, removed_gone, withdraws_none, withdraws_more, popped, popped_on, withdrawing_none, all_run, withdrawing_more, withdrawing_done}
+use Rattle.std.proofs.Common.{◌≡◌, is_some, length, true, false, refl, sym, ap, ◌∙◌}
+use Rattle.std.specs.Arc.{arc_value}
+use Rattle.std.specs.Option.{option_map}
+use Rattle.task_share.specs.Seen.{Share, has_live, is_for}
+use Rattle.task_share.specs.Listed.{kept_name, share_of, shares_of, is_idle}
+use Rattle.task_share.proofs.PlaceLemmas.{lookup_shares, and_both}
+use Rattle.task_share.proofs.TurnLemmas.{kept_itself}
+use Rattle.task_share.proofs.IdleLemmas.{taken_listed, removed_less, removed_gone}
 use Rattle.task_share.proofs.idle.take_idle.Goals as goal
 
 pub returns-in_default-clause-listed : goal.returns-in_default-clause-listed
@@ -18,7 +13,7 @@ returns-in_default-clause-listed g c = λ cs room l.
     let eq = g.K.PartialEq.eq in
     let key = c.args.key in
     let gone = removed_gone eq c.requires.equality key c.args.places.now.entries c.remove.new.self.entries (λ q. c.remove.ensures.updates.0 q) in
-    let less = removed_less eq c.requires.equality (eq (arc_value key)) c.args.places.now.entries c.remove.new.self.entries c.remove.ensures.entries in
+    let less = removed_less eq c.requires.equality kept_name (eq (arc_value key)) c.args.places.now.entries c.remove.new.self.entries c.remove.ensures.entries in
     taken_listed eq c.requires.equality (shares_of c.args.places.now.entries) (shares_of c.remove.new.self.entries) cs (arc_value key) room gone less l
 
 pub returns-in_default-task-clause-listed : goal.returns-in_default-task-clause-listed
@@ -26,7 +21,7 @@ returns-in_default-task-clause-listed g c = λ cs room l.
     let eq = g.K.PartialEq.eq in
     let key = c.args.key in
     let gone = removed_gone eq c.requires.equality key c.args.places.now.entries c.remove.new.self.entries (λ q. c.remove.ensures.updates.0 q) in
-    let less = removed_less eq c.requires.equality (eq (arc_value key)) c.args.places.now.entries c.remove.new.self.entries c.remove.ensures.entries in
+    let less = removed_less eq c.requires.equality kept_name (eq (arc_value key)) c.args.places.now.entries c.remove.new.self.entries c.remove.ensures.entries in
     taken_listed eq c.requires.equality (shares_of c.args.places.now.entries) (shares_of c.remove.new.self.entries) cs (arc_value key) room gone less l
 
 pub returns-in_default-task-clause-none : goal.returns-in_default-task-clause-none
@@ -42,7 +37,7 @@ returns-clause-listed g c = λ cs room l.
     let eq = g.K.PartialEq.eq in
     let key = c.args.key in
     let gone = removed_gone eq c.requires.equality key c.args.places.now.entries c.remove.new.self.entries (λ q. c.remove.ensures.updates.0 q) in
-    let less = removed_less eq c.requires.equality (eq (arc_value key)) c.args.places.now.entries c.remove.new.self.entries c.remove.ensures.entries in
+    let less = removed_less eq c.requires.equality kept_name (eq (arc_value key)) c.args.places.now.entries c.remove.new.self.entries c.remove.ensures.entries in
     taken_listed eq c.requires.equality (shares_of c.args.places.now.entries) (shares_of c.remove.new.self.entries) cs (arc_value key) room gone less l
 
 pub returns-clause-some : goal.returns-clause-some
@@ -52,4 +47,4 @@ returns-clause-some g c =
     let found = lookup_shares (eq (arc_value key)) c.args.places.now.entries ∙ ap (option_map share_of) (sym c.remove.ensures.value ∙ c.in-Some.is) in
     let idle : is_idle (share_of c.in-Some.place) ≡ true = sym (ap (is_for is_idle) found) ∙ (sym c.is_idle_at.ensures ∙ c.if-not-is_idle_at.false) in
     let gone = removed_gone eq c.requires.equality key c.args.places.now.entries c.remove.new.self.entries (λ q. c.remove.ensures.updates.0 q) in
-    record { mid = shares_of c.args.places.now.entries; kept = kept_itself eq (shares_of c.args.places.now.entries); place = share_of c.in-Some.place; taken = record { there = found; idle = idle; gone = gone }; task = c.in-Some-task.is; waited = refl }
+    record { mid = shares_of c.args.places.now.entries; kept = kept_itself eq (shares_of c.args.places.now.entries); place = share_of c.in-Some.place; taken = record { there = found; idle = idle; gone = gone; count = removed_less eq c.requires.equality (λ (p : Share g.row.K.Denot g.row.T.Denot). length p.askers) (eq (arc_value key)) c.args.places.now.entries c.remove.new.self.entries c.remove.ensures.entries }; task = c.in-Some-task.is; waited = refl }

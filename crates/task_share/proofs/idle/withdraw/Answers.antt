@@ -1,16 +1,9 @@
-use Rattle.std.proofs.Common.{◌≡◌, is_some, length, ◌++◌, ◌≤◌, ◌+◌, ℕ, Bool, true, false, not, cond, ◌&&◌, ◌||◌, List, [], ◌∷◌, map, Some, None, refl, sym, ap, ◌∙◌, subst, arith}
-use Rattle.std.specs.Prelude.{IsSome, IfSome, IfNone}
-use Rattle.std.specs.Arc.{arc_value, arc_with_value}
-use Rattle.std.specs.Map.{lookup}
-use Rattle.std.specs.Option.{option_copied_mut, option_map}
-use Rattle.std.specs.Vec.{vec_capacity}
-use Rattle.task_share.specs.Asked.{Promised, Tasked}
-use Rattle.task_share.specs.Seen.{Share, asks, waits_at, has_by, has_live, is_for, task_at}
-use Rattle.task_share.specs.Listed.{share_of, shares_of, is_idle, IsListed, IsChanged, KeepsListed, Turns, UsesRoom, Left, Joined, Stays, IsKept, IsTaken, IsPopped, NoneIdle, Withdraws, Withdrawing}
-use Rattle.task_share.specs.declared.place.Place.{Place}
-use Rattle.task_share.proofs.PlaceLemmas.{lookup_shares, set_shares, and_both, no_more, IsWritten, changed_none, changed_written, written_listed, has_room, left_promise, left_task, left_wait, joined_promise, joined_task, joined_wait, list_any_values, kept_listed, kept_none, inserted, asked_busy, ended_busy}
-use Rattle.task_share.proofs.TurnLemmas.{stays_kept, kept_itself, kept_on}
-use Rattle.task_share.proofs.IdleLemmas.{dropped_listed, back_listed, taken_listed, none_idle, removed_less, removed_gone, withdraws_none, withdraws_more, popped, popped_on, withdrawing_none, all_run, withdrawing_more, withdrawing_done}
+use Rattle.std.proofs.Common.{map, ap, subst}
+use Rattle.std.specs.Prelude.{IsSome}
+use Rattle.std.specs.Arc.{arc_value}
+use Rattle.task_share.specs.Listed.{shares_of, Withdrawing}
+use Rattle.task_share.proofs.PlaceLemmas.{no_more}
+use Rattle.task_share.proofs.IdleLemmas.{popped, withdrawing_none, withdrawing_more, withdrawing_done}
 use Rattle.task_share.proofs.idle.withdraw.Goals as goal
 
 pub loop-asked-init : goal.loop-asked-init

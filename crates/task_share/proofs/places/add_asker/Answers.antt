@@ -1,17 +1,16 @@
-use Rattle.std.proofs.Common.{◌≡◌, ◌<◌, ◌⊎◌, nat_eq, eq-eqb, ◌≤◌, ◌+◌, ℕ, Bool, true, false, not, cond, ◌&&◌, ◌||◌, List, [], ◌∷◌, map, Some, None, refl, sym, ap, ◌∙◌, subst, arith}
-use Rattle.std.specs.Prelude.{IsSome, IfSome, IfNone}
+use Rattle.std.proofs.Common.{◌≡◌, ◌<◌, ◌⊎◌, true, cond, Some, None, refl, sym, ap, ◌∙◌, subst, arith}
+use Rattle.std.specs.Prelude.{IsSome}
 use Rattle.std.specs.Arc.{arc_value, arc_with_value}
 use Rattle.std.specs.Map.{lookup}
 use Rattle.std.specs.List.{list_any}
 use Rattle.std.specs.HashSet.{spare}
 use Rattle.std.specs.Option.{option_map}
 use Rattle.std.specs.Option.{option_copied_mut}
-use Rattle.std.specs.Vec.{vec_capacity}
-use Rattle.task_share.specs.Asked.{Promised, Tasked}
-use Rattle.task_share.specs.Seen.{Share, asks, waits_at, has_by, is_for, list_for, number_for}
-use Rattle.task_share.specs.Listed.{share_of, shares_of, is_idle, IsListed, IsChanged, KeepsListed, Turns, UsesRoom, Left, Joined, Stays}
+use Rattle.task_share.specs.Asked.{Tasked}
+use Rattle.task_share.specs.Seen.{Share, has_by, is_for, number_for}
+use Rattle.task_share.specs.Listed.{share_of}
 use Rattle.task_share.specs.declared.place.Place.{Place}
-use Rattle.task_share.proofs.PlaceLemmas.{lookup_shares, IsWritten, changed_none, changed_written, written_listed, has_room, left_promise, left_task, left_wait, joined_promise, joined_task, joined_wait, list_any_values, kept_listed, kept_none, inserted, asked_busy, ended_busy}
+use Rattle.task_share.proofs.PlaceLemmas.{lookup_shares, more_count, IsWritten, changed_none, changed_written, joined_task, list_any_values, kept_listed, kept_none, inserted, asked_busy}
 use Rattle.task_share.proofs.places.add_asker.Goals as goal
 
 pub returns-in_default-clause-listed : goal.returns-in_default-clause-listed
@@ -52,4 +51,4 @@ returns-clause-changed g c =
     let found = lookup_shares (eq (arc_value key)) c.args.places.now.entries ∙ ap (option_map share_of) known in
     let b : (list_any (λ x. eq (arc_value c.args.asker) (arc_value x)) h.askers.keys ≡ true) ⊎ (0 < spare h.askers) = subst (λ t. (t ≡ true) ⊎ (0 < spare h.askers)) (list_any_values (eq (arc_value c.args.asker)) h.askers.keys) (subst (λ o. (is_for (λ (p : Share g.row.K.Denot g.row.T.Denot). has_by eq p (Tasked (arc_value c.args.asker))) o ≡ true) ⊎ (0 < number_for (λ (p : Share g.row.K.Denot g.row.T.Denot). p.asker_room) o)) found c.requires.room) in
     let d = inserted c.insert.result (list_any (λ x. eq (arc_value c.args.asker) (arc_value x)) h.askers.keys) (spare h.askers) _ c.insert.ensures.updates c.insert.ensures.absent c.insert.ensures.succeeds b in
-    changed_written eq c.requires.equality key c.args.places.now.entries (c.get_mut.follows.lender w).entries h w _ i (record { task = refl; live = refl; asks = joined_task eq (share_of h) (share_of w) (arc_value c.args.asker) refl (λ q. list_any_values (eq q) w.askers.keys ∙ (d.0 (arc_with_value c.args.asker q) ∙ ap (cond (eq (arc_value c.args.asker) q) true) (sym (list_any_values (eq q) h.askers.keys)))); waits = λ d. refl }, record { promises = omega arith; askers = omega (arith, c.insert.ensures.spare); waits = omega arith })
+    changed_written eq c.requires.equality key c.args.places.now.entries (c.get_mut.follows.lender w).entries h w _ i (record { task = refl; live = refl; asks = joined_task eq (share_of h) (share_of w) (arc_value c.args.asker) refl (λ q. list_any_values (eq q) w.askers.keys ∙ (d.0 (arc_with_value c.args.asker q) ∙ ap (cond (eq (arc_value c.args.asker) q) true) (sym (list_any_values (eq q) h.askers.keys)))); waits = λ d. refl }, record { promises = omega arith; askers = omega (arith, c.insert.ensures.spare); waits = omega arith; count = more_count c.insert.result h.askers.keys c.insert.new.self.keys c.insert.ensures.len c.insert.ensures.err })

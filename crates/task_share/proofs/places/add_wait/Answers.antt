@@ -1,17 +1,15 @@
-use Rattle.std.proofs.Common.{◌≡◌, ◌<◌, ◌⊎◌, nat_eq, eq-eqb, ◌≤◌, ◌+◌, ℕ, Bool, true, false, not, cond, ◌&&◌, ◌||◌, List, [], ◌∷◌, map, Some, None, refl, sym, ap, ◌∙◌, subst, arith}
-use Rattle.std.specs.Prelude.{IsSome, IfSome, IfNone}
+use Rattle.std.proofs.Common.{◌≡◌, ◌<◌, ◌⊎◌, true, cond, Some, None, refl, sym, ap, ◌∙◌, subst, arith}
+use Rattle.std.specs.Prelude.{IsSome}
 use Rattle.std.specs.Arc.{arc_value, arc_with_value}
 use Rattle.std.specs.Map.{lookup}
 use Rattle.std.specs.List.{list_any}
 use Rattle.std.specs.HashSet.{spare}
 use Rattle.std.specs.Option.{option_map}
 use Rattle.std.specs.Option.{option_copied_mut}
-use Rattle.std.specs.Vec.{vec_capacity}
-use Rattle.task_share.specs.Asked.{Promised, Tasked}
-use Rattle.task_share.specs.Seen.{Share, asks, waits_at, has_by, is_for, list_for, number_for}
-use Rattle.task_share.specs.Listed.{share_of, shares_of, is_idle, IsListed, IsChanged, KeepsListed, Turns, UsesRoom, Left, Joined, Stays}
+use Rattle.task_share.specs.Seen.{Share, list_for, number_for}
+use Rattle.task_share.specs.Listed.{share_of}
 use Rattle.task_share.specs.declared.place.Place.{Place}
-use Rattle.task_share.proofs.PlaceLemmas.{lookup_shares, IsWritten, changed_none, changed_written, written_listed, has_room, left_promise, left_task, left_wait, joined_promise, joined_task, joined_wait, list_any_values, kept_listed, kept_none, inserted, asked_busy, ended_busy}
+use Rattle.task_share.proofs.PlaceLemmas.{lookup_shares, IsWritten, changed_none, changed_written, joined_wait, list_any_values, kept_listed, kept_none, inserted}
 use Rattle.task_share.proofs.places.add_wait.Goals as goal
 
 pub returns-in_default-clause-listed : goal.returns-in_default-clause-listed
@@ -49,4 +47,4 @@ returns-clause-changed g c =
     let found = lookup_shares (eq (arc_value key)) c.args.places.now.entries ∙ ap (option_map share_of) known in
     let b : (list_any (λ x. eq (arc_value c.args.asked) (arc_value x)) h.waits.keys ≡ true) ⊎ (0 < spare h.waits) = subst (λ t. (t ≡ true) ⊎ (0 < spare h.waits)) (list_any_values (eq (arc_value c.args.asked)) h.waits.keys) (subst (λ o. (list_any (eq (arc_value c.args.asked)) (list_for (λ (p : Share g.row.K.Denot g.row.T.Denot). p.waits) o) ≡ true) ⊎ (0 < number_for (λ (p : Share g.row.K.Denot g.row.T.Denot). p.wait_room) o)) found c.requires.room) in
     let d = inserted c.insert.result (list_any (λ x. eq (arc_value c.args.asked) (arc_value x)) h.waits.keys) (spare h.waits) _ c.insert.ensures.updates c.insert.ensures.absent c.insert.ensures.succeeds b in
-    changed_written eq c.requires.equality key c.args.places.now.entries (c.get_mut.follows.lender w).entries h w _ i (record { task = refl; live = refl; asks = λ a. refl; waits = joined_wait eq (share_of h) (share_of w) (arc_value c.args.asked) (λ q. list_any_values (eq q) w.waits.keys ∙ (d.0 (arc_with_value c.args.asked q) ∙ ap (cond (eq (arc_value c.args.asked) q) true) (sym (list_any_values (eq q) h.waits.keys)))) }, record { promises = omega arith; askers = omega arith; waits = omega (arith, c.insert.ensures.spare) })
+    changed_written eq c.requires.equality key c.args.places.now.entries (c.get_mut.follows.lender w).entries h w _ i (record { task = refl; live = refl; asks = λ a. refl; waits = joined_wait eq (share_of h) (share_of w) (arc_value c.args.asked) (λ q. list_any_values (eq q) w.waits.keys ∙ (d.0 (arc_with_value c.args.asked q) ∙ ap (cond (eq (arc_value c.args.asked) q) true) (sym (list_any_values (eq q) h.waits.keys)))) }, record { promises = omega arith; askers = omega arith; waits = omega (arith, c.insert.ensures.spare); count = omega arith })

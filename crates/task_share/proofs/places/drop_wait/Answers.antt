@@ -1,14 +1,11 @@
-use Rattle.std.proofs.Common.{◌≡◌, ◌≤◌, ◌+◌, ℕ, Bool, true, false, not, cond, ◌&&◌, ◌||◌, List, [], ◌∷◌, map, Some, None, refl, sym, ap, ◌∙◌, subst, arith}
-use Rattle.std.specs.Prelude.{IsSome, IfSome, IfNone}
+use Rattle.std.proofs.Common.{◌≡◌, false, cond, Some, None, refl, sym, ap, ◌∙◌, subst, arith}
+use Rattle.std.specs.Prelude.{IsSome}
 use Rattle.std.specs.Arc.{arc_value, arc_with_value}
 use Rattle.std.specs.Map.{lookup}
 use Rattle.std.specs.Option.{option_copied_mut}
-use Rattle.std.specs.Vec.{vec_capacity}
-use Rattle.task_share.specs.Asked.{Promised, Tasked}
-use Rattle.task_share.specs.Seen.{Share, asks, waits_at, has_by}
-use Rattle.task_share.specs.Listed.{share_of, shares_of, is_idle, IsListed, IsChanged, KeepsListed, Turns, UsesRoom, Left, Joined, Stays}
+use Rattle.task_share.specs.Listed.{share_of}
 use Rattle.task_share.specs.declared.place.Place.{Place}
-use Rattle.task_share.proofs.PlaceLemmas.{IsWritten, changed_none, changed_written, written_listed, has_room, left_promise, left_task, left_wait, joined_promise, joined_task, joined_wait, list_any_values, kept_listed, kept_none, inserted, asked_busy, ended_busy}
+use Rattle.task_share.proofs.PlaceLemmas.{IsWritten, changed_none, changed_written, left_wait, list_any_values, kept_listed, kept_none}
 use Rattle.task_share.proofs.places.drop_wait.Goals as goal
 
 pub returns-in_default-clause-listed : goal.returns-in_default-clause-listed
@@ -43,4 +40,4 @@ returns-clause-changed g c =
     let o = c.get_mut.follows.holds w in
     let u = o.3 (subst IsSome (sym known) refl) in
     let i : IsWritten eq key c.args.places.now.entries (c.get_mut.follows.lender w).entries h w = record { known = known; set = o.0; here = u.1; others = u.2 } in
-    changed_written eq c.requires key c.args.places.now.entries (c.get_mut.follows.lender w).entries h w _ i (record { task = refl; live = refl; asks = λ a. refl; waits = left_wait eq (share_of h) (share_of w) (arc_value c.args.asked.now) (λ q. list_any_values (eq q) w.waits.keys ∙ (c.swap_remove.ensures.updates.0 (arc_with_value c.args.asked.now q) ∙ ap (cond (eq (arc_value c.args.asked.now) q) false) (sym (list_any_values (eq q) h.waits.keys)))) }, record { promises = omega arith; askers = omega arith; waits = omega (arith, c.swap_remove.ensures.room.0) })
+    changed_written eq c.requires key c.args.places.now.entries (c.get_mut.follows.lender w).entries h w _ i (record { task = refl; live = refl; asks = λ a. refl; waits = left_wait eq (share_of h) (share_of w) (arc_value c.args.asked.now) (λ q. list_any_values (eq q) w.waits.keys ∙ (c.swap_remove.ensures.updates.0 (arc_with_value c.args.asked.now q) ∙ ap (cond (eq (arc_value c.args.asked.now) q) false) (sym (list_any_values (eq q) h.waits.keys)))) }, record { promises = omega arith; askers = omega arith; waits = omega (arith, c.swap_remove.ensures.room.0); count = omega arith })

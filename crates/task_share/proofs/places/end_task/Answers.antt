@@ -1,17 +1,14 @@
-use Rattle.std.proofs.Common.{◌≡◌, ◌<◌, ◌⊎◌, ◌++◌, length, append-nil, nat_eq, eq-eqb, ◌≤◌, ◌+◌, ℕ, Bool, true, false, not, cond, ◌&&◌, ◌||◌, List, [], ◌∷◌, map, Some, None, refl, sym, ap, ◌∙◌, subst, arith}
-use Rattle.std.specs.Prelude.{IsSome, IfSome, IfNone}
-use Rattle.std.specs.Arc.{arc_value, arc_with_value}
+use Rattle.std.proofs.Common.{◌≡◌, false, map, Some, None, refl, sym, ap, ◌∙◌, subst, arith}
+use Rattle.std.specs.Prelude.{IsSome}
+use Rattle.std.specs.Arc.{arc_value}
 use Rattle.std.specs.Map.{lookup}
 use Rattle.std.specs.List.{list_any}
-use Rattle.std.specs.HashSet.{spare}
-use Rattle.std.specs.Option.{option_map, option_to_list}
+use Rattle.std.specs.Option.{option_map}
 use Rattle.std.specs.Option.{option_copied_mut}
-use Rattle.std.specs.Vec.{vec_capacity}
-use Rattle.task_share.specs.Asked.{Promised, Tasked}
-use Rattle.task_share.specs.Seen.{Share, asks, waits_at, has_by, is_for, list_for, number_for}
-use Rattle.task_share.specs.Listed.{share_of, shares_of, is_idle, IsListed, IsChanged, KeepsListed, Turns, UsesRoom, Left, Joined, Stays}
+use Rattle.task_share.specs.Seen.{Share, list_for}
+use Rattle.task_share.specs.Listed.{share_of}
 use Rattle.task_share.specs.declared.place.Place.{Place}
-use Rattle.task_share.proofs.PlaceLemmas.{lookup_shares, same_asks, if_some, if_none, any_last, no_more, IsWritten, changed_none, changed_written, written_listed, has_room, left_promise, left_task, left_wait, joined_promise, joined_task, joined_wait, list_any_values, kept_listed, kept_none, inserted, asked_busy, ended_busy}
+use Rattle.task_share.proofs.PlaceLemmas.{lookup_shares, IsWritten, changed_none, changed_written, kept_listed, kept_none, ended_busy}
 use Rattle.task_share.proofs.places.end_task.Goals as goal
 
 pub returns-in_default-clause-listed : goal.returns-in_default-clause-listed
@@ -62,4 +59,4 @@ returns-clause-changed g c =
     let o = c.get_mut.follows.holds w in
     let u = o.3 (subst IsSome (sym known) refl) in
     let i : IsWritten eq key c.args.places.now.entries (c.get_mut.follows.lender w).entries h w = record { known = known; set = o.0; here = u.1; others = u.2 } in
-    changed_written eq c.requires key c.args.places.now.entries (c.get_mut.follows.lender w).entries h w _ i (record { task = refl; live = refl; asks = λ a. refl; waits = λ d. ap (λ s. list_any (eq d) (map arc_value s.keys)) c.replace.ensures.after ∙ ap (λ ks. list_any (eq d) (map arc_value ks)) c.new-none.ensures.empty }, record { promises = omega arith; askers = omega arith; waits = omega arith })
+    changed_written eq c.requires key c.args.places.now.entries (c.get_mut.follows.lender w).entries h w _ i (record { task = refl; live = refl; asks = λ a. refl; waits = λ d. ap (λ s. list_any (eq d) (map arc_value s.keys)) c.replace.ensures.after ∙ ap (λ ks. list_any (eq d) (map arc_value ks)) c.new-none.ensures.empty }, record { promises = omega arith; askers = omega arith; waits = omega arith; count = omega arith })

@@ -1,14 +1,12 @@
-use Rattle.std.proofs.Common.{◌≡◌, ◌≤◌, ◌+◌, ℕ, Bool, true, false, not, cond, ◌&&◌, ◌||◌, List, [], ◌∷◌, map, Some, None, refl, sym, ap, ◌∙◌, subst, arith}
-use Rattle.std.specs.Prelude.{IsSome, IfSome, IfNone}
+use Rattle.std.proofs.Common.{◌≡◌, false, cond, map, Some, None, refl, sym, ap, ◌∙◌, subst, arith}
+use Rattle.std.specs.Prelude.{IsSome}
 use Rattle.std.specs.Arc.{arc_value, arc_with_value}
 use Rattle.std.specs.Map.{lookup}
 use Rattle.std.specs.Option.{option_copied_mut}
 use Rattle.std.specs.Vec.{vec_capacity}
-use Rattle.task_share.specs.Asked.{Promised, Tasked}
-use Rattle.task_share.specs.Seen.{Share, asks, waits_at, has_by}
-use Rattle.task_share.specs.Listed.{share_of, shares_of, is_idle, IsListed, IsChanged, KeepsListed, Turns, UsesRoom, Left, Joined, Stays}
+use Rattle.task_share.specs.Listed.{share_of, shares_of, IsListed}
 use Rattle.task_share.specs.declared.place.Place.{Place}
-use Rattle.task_share.proofs.PlaceLemmas.{IsWritten, changed_none, changed_written, written_listed, has_room, left_promise, left_task, left_wait, joined_promise, joined_task, joined_wait, list_any_values, kept_listed, kept_none, inserted, asked_busy, ended_busy}
+use Rattle.task_share.proofs.PlaceLemmas.{fewer_count, IsWritten, changed_none, changed_written, written_listed, has_room, left_task, list_any_values}
 use Rattle.task_share.proofs.places.leave_task.Goals as goal
 
 pub returns-in_default-clause-changed : goal.returns-in_default-clause-changed
@@ -47,4 +45,4 @@ returns-clause-changed g c =
     let i : IsWritten eq key c.args.places.now.entries (c.get_mut.follows.lender w).entries h w = record { known = known; set = o.0; here = u.1; others = u.2 } in
     let mid : Place g.row.K.Denot g.row.T.Denot = record { task = h.task; live = h.live; promises = h.promises; askers = c.swap_remove.new.self; waits = h.waits; name = h.name } in
     changed_written eq c.requires.equality key c.args.places.now.entries (c.get_mut.follows.lender w).entries h w _ i
-    (rw c.settle.ensures.place (record { task = refl; live = refl; asks = left_task eq (share_of h) (share_of mid) (arc_value c.args.asker.now) refl (λ q. list_any_values (eq q) mid.askers.keys ∙ (c.swap_remove.ensures.updates.0 (arc_with_value c.args.asker.now q) ∙ ap (cond (eq (arc_value c.args.asker.now) q) false) (sym (list_any_values (eq q) h.askers.keys)))); waits = λ d. refl }, record { promises = omega arith; askers = omega (arith, c.swap_remove.ensures.room.0); waits = omega arith }))
+    (rw c.settle.ensures.place (record { task = refl; live = refl; asks = left_task eq (share_of h) (share_of mid) (arc_value c.args.asker.now) refl (λ q. list_any_values (eq q) mid.askers.keys ∙ (c.swap_remove.ensures.updates.0 (arc_with_value c.args.asker.now q) ∙ ap (cond (eq (arc_value c.args.asker.now) q) false) (sym (list_any_values (eq q) h.askers.keys)))); waits = λ d. refl }, record { promises = omega arith; askers = omega (arith, c.swap_remove.ensures.room.0); waits = omega arith; count = fewer_count c.swap_remove.result h.askers.keys c.swap_remove.new.self.keys c.swap_remove.ensures.len }))

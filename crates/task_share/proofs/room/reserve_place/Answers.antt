@@ -1,17 +1,14 @@
-use Rattle.std.proofs.Common.{◌≡◌, length, ◌<◌, is_some, ◌≤◌, ◌+◌, ℕ, Bool, true, false, not, cond, ◌&&◌, ◌||◌, List, [], ◌∷◌, map, Some, None, refl, sym, ap, ◌∙◌, subst, arith}
-use Rattle.std.specs.Prelude.{MatchOption, IsSome, IfSome, IfNone}
-use Rattle.std.specs.Arc.{arc_value, arc_with_value}
+use Rattle.std.proofs.Common.{◌≡◌, length, is_some, true, map, None, sym, ap, ◌∙◌, subst, arith}
+use Rattle.std.specs.Arc.{arc_value}
 use Rattle.std.specs.Map.{lookup}
-use Rattle.std.specs.Option.{option_copied_mut, option_map}
+use Rattle.std.specs.Option.{option_map}
 use Rattle.std.specs.Vec.{vec_capacity}
-use Rattle.task_share.specs.Asked.{Promised, Tasked}
-use Rattle.task_share.specs.Seen.{Share, asks, waits_at, has_by, has_place, is_for, number_for}
-use Rattle.task_share.specs.Listed.{share_of, entry_of, shares_of, IsVacant, IsKept, is_idle, IsListed, IsChanged, KeepsListed, Turns, UsesRoom, Left, Joined, Stays}
-use Rattle.task_share.specs.declared.place.Place.{Place}
-use Rattle.task_share.proofs.PlaceLemmas.{lookup_shares, IsWritten, changed_none, changed_written, written_listed, has_room, left_promise, left_task, left_wait, joined_promise, joined_task, joined_wait, list_any_values, kept_listed, kept_none, inserted, asked_busy, ended_busy}
+use Rattle.task_share.specs.Seen.{has_place}
+use Rattle.task_share.specs.Listed.{share_of, entry_of, shares_of, IsVacant, IsKept, IsListed}
+use Rattle.task_share.proofs.PlaceLemmas.{lookup_shares}
 use Rattle.std.proofs.lemmas.List.{length-map}
 use Rattle.task_share.proofs.TurnLemmas.{kept_itself}
-use Rattle.task_share.proofs.IdleLemmas.{room_grown, vacant_placed, vacant_listed, vacant_kept, put_at, put_more, still_some, is_missing, at_none}
+use Rattle.task_share.proofs.IdleLemmas.{room_grown, vacant_placed, vacant_listed, vacant_kept, put_at, put_more, put_count, still_some, is_missing, at_none}
 use Rattle.task_share.proofs.room.reserve_place.Goals as goal
 
 pub returns-then-contains_key-clause-kept : goal.returns-then-contains_key-clause-kept
@@ -93,7 +90,8 @@ returns-clause-kept g c =
     let none : lookup (eq (arc_value key)) ps ≡ None = subst (λ x. lookup (eq x) ps ≡ None) (sym same) (lookup_shares (eq (arc_value c.args.key.now)) c.args.places.now.entries ∙ ap (option_map share_of) missing) in
     let put = put_at eq law key v c.args.places.now.entries fs (λ q. c.in_ok-insert.ensures.updates.0 q) in
     let vac : IsVacant (arc_value key) (share_of v) = subst (λ x. IsVacant x (share_of v)) (c.in_ok-try_clone.ensures ∙ sym same) c.vacant-place.ensures in
-    vacant_kept eq law ps (shares_of fs) (arc_value key) (share_of v) none put vac
+    let gone : c.in_ok-insert.field-0 ≡ None = c.in_ok-insert.ensures.old ∙ subst (λ x. lookup (λ a. eq x (arc_value a)) c.args.places.now.entries ≡ None) (sym same) missing in
+    vacant_kept eq law ps (shares_of fs) (arc_value key) (share_of v) none put vac (put_count eq law key v c.args.places.now.entries fs vac.askers (at_none _ c.in_ok-insert.field-0 gone c.in_ok-insert.ensures.entries))
 
 pub returns-clause-ok : goal.returns-clause-ok
 returns-clause-ok g c =

@@ -1,15 +1,13 @@
-use Rattle.std.proofs.Common.{◌≡◌, ◌<◌, is_some, ◌≤◌, ◌+◌, ℕ, Bool, true, false, not, cond, ◌&&◌, ◌||◌, List, [], ◌∷◌, map, Some, None, refl, sym, ap, ◌∙◌, subst, arith}
-use Rattle.std.specs.Prelude.{IsSome, IfSome, IfNone}
-use Rattle.std.specs.Arc.{arc_value, arc_with_value}
+use Rattle.std.proofs.Common.{◌≡◌, is_some, ◌≤◌, true, false, map, Some, None, refl, sym, ap, ◌∙◌, subst, arith}
+use Rattle.std.specs.Prelude.{IsSome}
+use Rattle.std.specs.Arc.{arc_value}
 use Rattle.std.specs.Map.{lookup}
 use Rattle.std.specs.List.{list_any}
 use Rattle.std.specs.Option.{option_copied_mut, option_map}
-use Rattle.std.specs.Vec.{vec_capacity}
-use Rattle.task_share.specs.Asked.{Promised, Tasked}
-use Rattle.task_share.specs.Seen.{Share, asks, waits_at, has_by, is_for, number_for}
-use Rattle.task_share.specs.Listed.{share_of, shares_of, is_idle, IsListed, IsChanged, KeepsListed, Turns, UsesRoom, Left, Joined, Stays}
+use Rattle.task_share.specs.Seen.{Share, number_for}
+use Rattle.task_share.specs.Listed.{share_of}
 use Rattle.task_share.specs.declared.place.Place.{Place}
-use Rattle.task_share.proofs.PlaceLemmas.{lookup_shares, IsWritten, changed_none, changed_written, written_listed, has_room, left_promise, left_task, left_wait, joined_promise, joined_task, joined_wait, same_asks, list_any_values, kept_listed, kept_none, inserted, asked_busy, ended_busy}
+use Rattle.task_share.proofs.PlaceLemmas.{lookup_shares, IsWritten, changed_none, changed_written, kept_listed, kept_none}
 use Rattle.task_share.proofs.room.reserve_waits.Goals as goal
 
 pub returns-in_default-clause-changed : goal.returns-in_default-clause-changed
@@ -47,7 +45,7 @@ returns-in_err-reserve-clause-changed g c =
     let o = c.get_mut.follows.holds w in
     let u = o.3 (subst IsSome (sym known) refl) in
     let i : IsWritten eq key c.args.places.now.entries (c.get_mut.follows.lender w).entries h w = record { known = known; set = o.0; here = u.1; others = u.2 } in
-    changed_written eq c.requires key c.args.places.now.entries (c.get_mut.follows.lender w).entries h w _ i (record { task = refl; live = refl; asks = λ a. refl; waits = λ d. ap (list_any (eq d)) (ap (map arc_value) c.reserve.ensures.keys) }, record { promises = omega arith; askers = omega arith; waits = omega (arith, c.reserve.ensures.room.0) })
+    changed_written eq c.requires key c.args.places.now.entries (c.get_mut.follows.lender w).entries h w _ i (record { task = refl; live = refl; asks = λ a. refl; waits = λ d. ap (list_any (eq d)) (ap (map arc_value) c.reserve.ensures.keys) }, record { promises = omega arith; askers = omega arith; waits = omega (arith, c.reserve.ensures.room.0); count = omega arith })
 
 pub returns-clause-listed : goal.returns-clause-listed
 returns-clause-listed g c =
@@ -71,7 +69,7 @@ returns-clause-changed g c =
     let o = c.get_mut.follows.holds w in
     let u = o.3 (subst IsSome (sym known) refl) in
     let i : IsWritten eq key c.args.places.now.entries (c.get_mut.follows.lender w).entries h w = record { known = known; set = o.0; here = u.1; others = u.2 } in
-    changed_written eq c.requires key c.args.places.now.entries (c.get_mut.follows.lender w).entries h w _ i (record { task = refl; live = refl; asks = λ a. refl; waits = λ d. ap (list_any (eq d)) (ap (map arc_value) c.reserve.ensures.keys) }, record { promises = omega arith; askers = omega arith; waits = omega (arith, c.reserve.ensures.room.0) })
+    changed_written eq c.requires key c.args.places.now.entries (c.get_mut.follows.lender w).entries h w _ i (record { task = refl; live = refl; asks = λ a. refl; waits = λ d. ap (list_any (eq d)) (ap (map arc_value) c.reserve.ensures.keys) }, record { promises = omega arith; askers = omega arith; waits = omega (arith, c.reserve.ensures.room.0); count = omega arith })
 
 pub returns-clause-ok : goal.returns-clause-ok
 returns-clause-ok g c = λ e.

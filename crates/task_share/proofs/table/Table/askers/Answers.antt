@@ -1,24 +1,29 @@
-use Rattle.std.proofs.Common.{◌≡◌, ◌≤◌, ◌<◌, ◌⊎◌, ◌∙◌, sym, ap, subst, refl, ℕ, Some, None, true, false, not, cond, ◌&&◌, ◌||◌, map, Option, List, [], is_some, nat_eq}
-use Rattle.std.specs.Prelude.{option_and_then, IfSome, IfNone}
+use Rattle.std.proofs.Common.{◌≡◌, ◌∙◌, sym, ap, subst, false, map, List, nat_eq}
 use Rattle.std.specs.Arc.{arc_value}
 use Rattle.std.specs.List.{list_any}
-use Rattle.std.specs.Map.{lookup}
 use Rattle.std.specs.Option.{option_copied, option_map}
-use Rattle.std.specs.Vec.{vec_capacity}
-use Rattle.task_share.specs.Asked.{By, Promised, Tasked, is_by, IsDone, Takes}
-use Rattle.task_share.specs.Seen.{Share, is_for, list_for, has_by, has_live, task_at, is_live, asks, waits_at, asked_of, has_place, promise_room, asker_room, wait_room, KeepsTasks, KeepsAsks, KeepsRoom, KeepsOtherRoom, UsesRoomOf}
-use Rattle.task_share.specs.Listed.{share_of, shares_of, IsListed, IsMirrored, IsWhole, IsKept, IsChanged, Turns, UsesRoom, Left, Joined}
-use Rattle.task_share.proofs.PlaceLemmas.{lookup_shares, list_any_values}
-use Rattle.task_share.proofs.TurnLemmas.{stays_kept, kept_on}
-use Rattle.task_share.proofs.TableLemmas.{mirrored_same, put_tasks, put_live, put_asks, put_mirrored, put_room, promise_left_asks, promise_left_tasks, promise_left_mirrored, promise_left_room, task_left_asks, task_left_tasks, task_left_mirrored, task_left_room, promise_joined_asks, promise_joined_tasks, promise_joined_mirrored, promise_joined_room, wait_space, task_joined_asks, task_joined_tasks, task_joined_mirrored, task_joined_room, ended_asks, ended_tasks, ended_live, ended_mirrored, ended_room, popped_asks, popped_live, popped_takes, popped_task, popped_tasks, popped_mirrored, popped_room, done_from}
+use Rattle.task_share.specs.Asked.{Promised, Tasked}
+use Rattle.task_share.specs.Seen.{Share, is_for, has_by, asks}
+use Rattle.task_share.specs.Listed.{share_of}
+use Rattle.task_share.proofs.PlaceLemmas.{lookup_shares}
 use Rattle.task_share.proofs.table.Table.askers.Goals as goal
 
-pub returns-in-Some : goal.returns-in-Some
-returns-in-Some g c = λ j.
-    subst (λ (ps : List (g.row.K.Denot × Share g.row.K.Denot g.row.T.Denot)). list_any (g.K.PartialEq.eq j) (map arc_value c.as_slice.result.now) ≡ asks g.K.PartialEq.eq ps (arc_value c.args.key.now) (Tasked j)) c.self.view_is
-    (ap (λ ks. list_any (g.K.PartialEq.eq j) (map arc_value ks)) c.as_slice.ensures.keys ∙ sym (ap (is_for (λ (p : Share g.row.K.Denot g.row.T.Denot). has_by g.K.PartialEq.eq p (Tasked j))) (lookup_shares (g.K.PartialEq.eq (arc_value c.args.key.now)) c.self.inside.places.entries ∙ ap (option_map share_of) (sym c.get.ensures.value ∙ ap option_copied c.in-Some.is))))
+pub returns-in-Some-clause-promises : goal.returns-in-Some-clause-promises
+returns-in-Some-clause-promises g c = λ n.
+    subst (λ (ps : List (g.row.K.Denot × Share g.row.K.Denot g.row.T.Denot)). list_any (nat_eq n) c.as_slice.result.now ≡ asks g.K.PartialEq.eq ps (arc_value c.args.key.now) (Promised n)) c.self.view_is
+    (ap (list_any (nat_eq n)) c.as_slice.ensures.keys ∙ sym (ap (is_for (λ (p : Share g.row.K.Denot g.row.T.Denot). has_by g.K.PartialEq.eq p (Promised n))) (lookup_shares (g.K.PartialEq.eq (arc_value c.args.key.now)) c.self.inside.places.entries ∙ ap (option_map share_of) (sym c.get.ensures.value ∙ ap option_copied c.in-Some.is))))
 
-pub returns-in-None : goal.returns-in-None
-returns-in-None g c = λ j.
+pub returns-in-Some-clause-tasks : goal.returns-in-Some-clause-tasks
+returns-in-Some-clause-tasks g c = λ j.
+    subst (λ (ps : List (g.row.K.Denot × Share g.row.K.Denot g.row.T.Denot)). list_any (g.K.PartialEq.eq j) (map arc_value c.as_slice-in-Some.result.now) ≡ asks g.K.PartialEq.eq ps (arc_value c.args.key.now) (Tasked j)) c.self.view_is
+    (ap (λ ks. list_any (g.K.PartialEq.eq j) (map arc_value ks)) c.as_slice-in-Some.ensures.keys ∙ sym (ap (is_for (λ (p : Share g.row.K.Denot g.row.T.Denot). has_by g.K.PartialEq.eq p (Tasked j))) (lookup_shares (g.K.PartialEq.eq (arc_value c.args.key.now)) c.self.inside.places.entries ∙ ap (option_map share_of) (sym c.get.ensures.value ∙ ap option_copied c.in-Some.is))))
+
+pub returns-in-None-clause-promises : goal.returns-in-None-clause-promises
+returns-in-None-clause-promises g c = λ n.
+    subst (λ (ps : List (g.row.K.Denot × Share g.row.K.Denot g.row.T.Denot)). false ≡ asks g.K.PartialEq.eq ps (arc_value c.args.key.now) (Promised n)) c.self.view_is
+    (sym (ap (is_for (λ (p : Share g.row.K.Denot g.row.T.Denot). has_by g.K.PartialEq.eq p (Promised n))) (lookup_shares (g.K.PartialEq.eq (arc_value c.args.key.now)) c.self.inside.places.entries ∙ ap (option_map share_of) (sym c.get.ensures.value ∙ ap option_copied c.in-None.is))))
+
+pub returns-in-None-clause-tasks : goal.returns-in-None-clause-tasks
+returns-in-None-clause-tasks g c = λ j.
     subst (λ (ps : List (g.row.K.Denot × Share g.row.K.Denot g.row.T.Denot)). false ≡ asks g.K.PartialEq.eq ps (arc_value c.args.key.now) (Tasked j)) c.self.view_is
     (sym (ap (is_for (λ (p : Share g.row.K.Denot g.row.T.Denot). has_by g.K.PartialEq.eq p (Tasked j))) (lookup_shares (g.K.PartialEq.eq (arc_value c.args.key.now)) c.self.inside.places.entries ∙ ap (option_map share_of) (sym c.get.ensures.value ∙ ap option_copied c.in-None.is))))

@@ -1,16 +1,9 @@
-use Rattle.std.proofs.Common.{◌≡◌, ◌≤◌, ◌<◌, ◌⊎◌, ◌∙◌, sym, ap, subst, refl, ℕ, Some, None, true, false, not, cond, ◌&&◌, ◌||◌, map, Option, List}
-use Rattle.std.specs.Prelude.{IfSome, IfNone}
+use Rattle.std.proofs.Common.{◌≡◌, subst, not, ◌&&◌, List}
 use Rattle.std.specs.Arc.{arc_value}
-use Rattle.std.specs.List.{list_any}
-use Rattle.std.specs.Map.{lookup}
-use Rattle.std.specs.Option.{option_copied, option_map}
-use Rattle.std.specs.Vec.{vec_capacity}
-use Rattle.task_share.specs.Asked.{By, Promised, Tasked, is_by, IsDone, Takes}
-use Rattle.task_share.specs.Seen.{Share, is_for, list_for, has_by, has_live, task_at, is_live, asks, waits_at, asked_of, has_place, promise_room, asker_room, wait_room, KeepsTasks, KeepsAsks, KeepsRoom, KeepsOtherRoom, UsesRoomOf}
-use Rattle.task_share.specs.Listed.{share_of, shares_of, IsListed, IsMirrored, IsWhole, IsKept, IsChanged, Turns, UsesRoom, Left, Joined, Stays}
-use Rattle.task_share.proofs.PlaceLemmas.{lookup_shares, list_any_values, if_ok}
-use Rattle.task_share.proofs.TurnLemmas.{stays_kept, kept_on, tasks_on, room_on}
-use Rattle.task_share.proofs.TableLemmas.{mirrored_same, put_tasks, put_live, put_asks, put_mirrored, put_room, promise_left_asks, promise_left_tasks, promise_left_mirrored, promise_left_room, task_left_asks, task_left_tasks, task_left_mirrored, task_left_room, promise_joined_asks, promise_joined_tasks, promise_joined_mirrored, promise_joined_room, wait_space, task_joined_asks, task_joined_tasks, task_joined_mirrored, task_joined_room, ended_asks, ended_tasks, ended_live, ended_mirrored, ended_room, popped_asks, popped_live, popped_takes, popped_task, popped_tasks, popped_mirrored, popped_room, done_from}
+use Rattle.task_share.specs.Asked.{By, Tasked, is_by}
+use Rattle.task_share.specs.Seen.{Share, asks, KeepsTasks, KeepsRoom}
+use Rattle.task_share.specs.Listed.{shares_of}
+use Rattle.task_share.proofs.TableLemmas.{task_left_asks, task_left_tasks, task_left_mirrored, task_left_room}
 use Rattle.task_share.proofs.table.Table.leave_by_task.Goals as goal
 
 pub invariant_of-self : goal.invariant_of-self

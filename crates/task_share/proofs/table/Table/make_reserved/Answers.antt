@@ -1,8 +1,6 @@
-use Rattle.std.proofs.Common.{◌≡◌, ◌∙◌, sym, ap, subst, Some, true, map}
 use Rattle.std.specs.Arc.{arc_value}
-use Rattle.task_share.specs.Seen.{has_place}
 use Rattle.task_share.specs.Listed.{shares_of}
-use Rattle.task_share.proofs.TableLemmas.{put_tasks, put_live, put_asks, put_mirrored, put_room}
+use Rattle.task_share.proofs.TableLemmas.{put_mirrored}
 use Rattle.task_share.proofs.table.Table.make_reserved.Goals as goal
 
 pub invariant_of-self : goal.invariant_of-self

@@ -1,16 +1,10 @@
-use Rattle.std.proofs.Common.{◌≡◌, ◌≤◌, ◌<◌, ◌⊎◌, ◌∙◌, sym, ap, subst, refl, ℕ, Some, None, true, false, not, cond, ◌&&◌, ◌||◌, map, Option, List}
-use Rattle.std.specs.Prelude.{IfSome, IfNone}
+use Rattle.std.proofs.Common.{arith, ◌≡◌, ◌<◌, subst, true, false, not, ◌&&◌, List}
 use Rattle.std.specs.Arc.{arc_value}
-use Rattle.std.specs.List.{list_any}
-use Rattle.std.specs.Map.{lookup}
-use Rattle.std.specs.Option.{option_copied, option_map}
-use Rattle.std.specs.Vec.{vec_capacity}
-use Rattle.task_share.specs.Asked.{By, Promised, Tasked, is_by, IsDone, Takes}
-use Rattle.task_share.specs.Seen.{Share, is_for, list_for, has_by, has_live, task_at, is_live, asks, waits_at, asked_of, has_place, promise_room, asker_room, wait_room, KeepsTasks, KeepsAsks, KeepsRoom, KeepsOtherRoom, UsesRoomOf}
-use Rattle.task_share.specs.Listed.{share_of, shares_of, IsListed, IsMirrored, IsWhole, IsKept, IsChanged, Turns, UsesRoom, Left, Joined, Stays}
-use Rattle.task_share.proofs.PlaceLemmas.{lookup_shares, list_any_values, if_ok}
-use Rattle.task_share.proofs.TurnLemmas.{stays_kept, kept_on, tasks_on, room_on}
-use Rattle.task_share.proofs.TableLemmas.{mirrored_same, put_tasks, put_live, put_asks, put_mirrored, put_room, promise_left_asks, promise_left_tasks, promise_left_mirrored, promise_left_room, task_left_asks, task_left_tasks, task_left_mirrored, task_left_room, promise_joined_asks, promise_joined_tasks, promise_joined_mirrored, promise_joined_room, wait_space, task_joined_asks, task_joined_tasks, task_joined_mirrored, task_joined_room, ended_asks, ended_tasks, ended_live, ended_mirrored, ended_room, popped_asks, popped_live, popped_takes, popped_task, popped_tasks, popped_mirrored, popped_room, done_from}
+use Rattle.task_share.specs.Asked.{By, Tasked, is_by}
+use Rattle.task_share.specs.Seen.{Share, ask_count, asks, KeepsTasks, KeepsAsks, KeepsRoom}
+use Rattle.task_share.specs.Listed.{shares_of, UsesRoom, Stays}
+use Rattle.task_share.proofs.TurnLemmas.{count_kept, stays_kept}
+use Rattle.task_share.proofs.TableLemmas.{mirrored_same, task_left_asks, task_left_tasks, task_left_mirrored, task_left_room}
 use Rattle.task_share.proofs.table.Table.take_asker.Goals as goal
 
 pub invariant_of-self : goal.invariant_of-self
@@ -46,3 +40,7 @@ returns-clause-asks g c = subst (λ (ps : List (g.row.K.Denot × Share g.row.K.D
 pub returns-clause-room : goal.returns-clause-room
 returns-clause-room g c = subst (λ (ps : List (g.row.K.Denot × Share g.row.K.Denot g.row.T.Denot)). KeepsRoom g.K.PartialEq.eq ps (shares_of c.drop_wait.new.places.entries)) c.self.view_is
     (task_left_room g.K.PartialEq.eq c.self.invariant.0 (shares_of c.self.inside.places.entries) (shares_of c.pop_asker.new.places.entries) (shares_of c.drop_wait.new.places.entries) (arc_value c.args.key.now) (arc_value c.in-Some.asker) c.in-Some.ensures.some.1 c.drop_wait.ensures.changed)
+
+pub returns-clause-fewer : goal.returns-clause-fewer
+returns-clause-fewer g c = subst (λ (ps : List (g.row.K.Denot × Share g.row.K.Denot g.row.T.Denot)). ask_count (shares_of c.drop_wait.new.places.entries) < ask_count ps) c.self.view_is
+    (let l = count_kept g.K.PartialEq.eq c.self.invariant.0 (shares_of c.pop_asker.new.places.entries) (shares_of c.drop_wait.new.places.entries) (arc_value c.in-Some.asker) _ c.drop_wait.ensures.changed 0 (λ p r i. i.1.count) in let m = c.in-Some.ensures.fewer in omega arith)

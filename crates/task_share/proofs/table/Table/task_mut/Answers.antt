@@ -1,5 +1,5 @@
-use Rattle.std.proofs.Common.{◌≡◌, ◌∙◌, sym, ap, subst, refl, Some, None, true, false, map, Option, List, is_some}
-use Rattle.std.specs.Prelude.{IsSome, OnSome, option_and_then}
+use Rattle.std.proofs.Common.{◌≡◌, ◌∙◌, sym, ap, subst, refl, Some, true, false, map, List, is_some}
+use Rattle.std.specs.Prelude.{IsSome, option_and_then}
 use Rattle.std.specs.Arc.{arc_value}
 use Rattle.std.specs.Map.{lookup}
 use Rattle.std.specs.Option.{option_copied_mut, option_map, ghost_name_of}
@@ -25,11 +25,13 @@ invariant_of-self-lent g c = λ r.
       λ t. (let w : Place g.row.K.Denot g.row.T.Denot = record { task = Some t; live = h.live; promises = h.promises; askers = h.askers; waits = h.waits; name = h.name } in
           let o = c.get_mut.follows.holds w in
           let u = o.3 (subst IsSome (sym known) refl) in
-          let i : IsWritten eq key es (c.get_mut.follows.lender w).entries h w = record { known = known; set = o.0; here = u.1; others = u.2 } in
-          (law, record {
-            listed = kept_listed eq law key es (c.get_mut.follows.lender w).entries h w i refl (λ e. e) (λ r e. refl) _ _ c.self.invariant.1.listed;
-            mirrored = written_mirrored eq law (shares_of es) (shares_of (c.get_mut.follows.lender w).entries) (arc_value key) t (changed_written eq law key es (c.get_mut.follows.lender w).entries h w _ i refl) c.self.invariant.1.mirrored;
-          })),
+          let i : IsWritten eq key es (c.get_mut.follows.lender w).entries h w = record { known = known; set = o.0; here = u.1; others = u.2 } in (
+            law,
+            record {
+              listed = kept_listed eq law key es (c.get_mut.follows.lender w).entries h w i refl (λ e. e) (λ r e. refl) _ _ c.self.invariant.1.listed;
+              mirrored = written_mirrored eq law (shares_of es) (shares_of (c.get_mut.follows.lender w).entries) (arc_value key) t (changed_written eq law key es (c.get_mut.follows.lender w).entries h w _ i refl) c.self.invariant.1.mirrored;
+            },
+          )),
       (let e = (c.get_mut.follows.holds h).0 ∙ set_value_same (λ a. eq (arc_value key) (arc_value a)) es h known in
           (law, subst (λ xs. IsWhole eq (shares_of xs) (map arc_value c.self.inside.candidates.items) (vec_capacity c.self.inside.candidates)) (sym e) c.self.invariant.1)),
     )

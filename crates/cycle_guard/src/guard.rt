@@ -1,0 +1,91 @@
+//! The search for a circle.
+ghost use Rattle.std.specs.Prelude.{◌≡◌, ◌<◌, map, reverse, IfOk, IfSome, IfNone, OnSome};
+ghost use Rattle.std.specs.Arc.{arc_value};
+ghost use Rattle.std.specs.Option.{option_copied, option_map};
+ghost use Rattle.task_share.specs.Asked.{Leads};
+ghost use Rattle.task_share.specs.Seen.{asked_of};
+ghost use Rattle.cycle_guard.specs.Circle.{IsCircle};
+ghost use Rattle.cycle_guard.specs.Search.{next_wait};
+
+use dice_key::{NoMemory, Path};
+use std::alloc::Global;
+use std::collections::HashSet;
+use std::hash::Hash;
+use std::sync::Arc;
+use task_share::{Table, table_in_order};
+
+/// The circle that would be closed if the task of `from` waited for that of `to`: a path exactly where `to` leads to `from` by
+/// waits, or is `from`. It begins with `from`, then `to`; each key waits for the next, and the last for the first.
+///
+/// Each wait is passed at most once. Where `to` waits for nothing the answer takes no memory.
+pub fn would_close<K: Eq + Hash + Drop, T: Drop>(
+    alloc: Global,
+    table: &Table<K, T>,
+    from: &Arc<K>,
+    to: &Arc<K>,
+) -> Result<Option<Path<K>>, NoMemory>
+    ensures path { IfOk result (λ o. IfSome o (λ p. IsCircle (asked_of K.eq table.now) (arc_value from.now) (arc_value to.now) p)) }
+    ensures some { IfOk result (λ o. IfSome o (λ p. Leads (asked_of K.eq table.now) (arc_value to.now) (arc_value from.now))) }
+    ensures none { IfOk result (λ o. IfNone o (Leads (asked_of K.eq table.now) (arc_value to.now) (arc_value from.now) → ⊥)) }
+{
+    table_in_order(table);
+    if from == to {
+        let mut keys = Vec::new(alloc);
+        keys.push(Arc::try_clone(from)?)?;
+        return Ok(Some(Path::from_keys(keys)));
+    }
+    if table.waits(to).is_empty() {
+        return Ok(None);
+    }
+    search(alloc, table, from, to)
+}
+
+/// The search from `to`, which is not `from`, depth first; the path from `from` to the key in hand is kept.
+fn search<K: Eq + Hash + Drop, T: Drop>(
+    alloc: Global,
+    table: &Table<K, T>,
+    from: &Arc<K>,
+    to: &Arc<K>,
+) -> Result<Option<Path<K>>, NoMemory>
+    requires { arc_value from.now ≡ arc_value to.now → ⊥ }
+    ensures path { IfOk result (λ o. IfSome o (λ p. IsCircle (asked_of K.eq table.now) (arc_value from.now) (arc_value to.now) p)) }
+    ensures some { IfOk result (λ o. IfSome o (λ p. Leads (asked_of K.eq table.now) (arc_value to.now) (arc_value from.now))) }
+    ensures none { IfOk result (λ o. IfNone o (Leads (asked_of K.eq table.now) (arc_value to.now) (arc_value from.now) → ⊥)) }
+{
+    table_in_order(table);
+    let mut path = Vec::new(alloc);
+    path.push(Arc::try_clone(from)?)?;
+    path.push(Arc::try_clone(to)?)?;
+    let mut seen = HashSet::new(alloc);
+    seen.insert(Arc::try_clone(to)?)?;
+    let mut passed: Vec<usize> = Vec::new(alloc);
+    passed.push(0)?;
+    while let Some(count) = passed.pop() {
+        let Some(next) = wait_at(table, &path, count) else {
+            path.pop();
+            continue;
+        };
+        passed.push(count + 1)?;
+        if next == from {
+            return Ok(Some(Path::from_keys(path)));
+        }
+        if seen.insert(Arc::try_clone(next)?)? {
+            path.push(Arc::try_clone(next)?)?;
+            passed.push(0)?;
+        }
+    }
+    Ok(None)
+}
+
+/// The wait number `count` of the last key of a path, from 0.
+fn wait_at<'a, K: Eq + Hash + Drop, T: Drop>(
+    table: &'a Table<K, T>,
+    path: &[Arc<K>],
+    count: usize,
+) -> Option<&'a Arc<K>>
+    ensures next { option_map arc_value (option_copied result) ≡ next_wait K.eq table.now (reverse (map arc_value path.now)) count }
+    ensures fits { OnSome result (count < usize.MAX) }
+{
+    let last = path.last()?;
+    table.waits(last).get(count)
+}
