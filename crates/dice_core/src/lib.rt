@@ -2,6 +2,7 @@
 #![tactic(auto)]
 
 mod desk;
+mod end;
 mod task;
 mod value;
 
