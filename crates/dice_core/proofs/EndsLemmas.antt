@@ -18,6 +18,7 @@ use Rattle.core_laws.specs.Stands.{VersionStands}
 use Rattle.core_laws.specs.Changes.{Puts}
 use Rattle.core_laws.specs.Desk.{World, Desk, DeskTurns, AreAll, Loses, Stand, with_version, is_ready, is_out, ready_in, out_in}
 use Rattle.core_laws.proofs.Counts.{all_alike, all_fewer, counted}
+use Rattle.core_laws.proofs.Held.{going_where_waiting}
 use Rattle.core_laws.proofs.Turns.{pair_test, task_here, task_there, with_twice, stands_here}
 use Rattle.core_laws.proofs.StepsEnds.{drops_stand}
 use Rattle.dice_core.specs.Helds.{Held, task_of, held_ended}
@@ -125,6 +126,9 @@ module _ {K V : Type 0} (eq : K → K → Bool) where
   pub same_asked : (ps qs : List (K × Share K (Held K V))) → KeepsTasks eq ps qs → KeepsAsks eq ps qs → asked_of eq qs ≡ asked_of eq ps
   same_asked ps qs h a = λ i. record { live = λ q. h.live q i; asks = λ q b. a q b i }
 
+  pub same_table : (v : ℕ) (w : World K V) (ps qs : List (K × Share K (Held K V))) → KeepsTasks eq ps qs → KeepsAsks eq ps qs → seen_world eq v ps w ≡ seen_world eq v qs w
+  same_table v w ps qs t a = λ i. with_version v (sym (same_asked ps qs t a) i) (sym (same_tasks ps qs t) i) w
+
   -- names stay where a task was taken out
   pub named_drop : (v : ℕ) (k : K) (ps qs : List (K × Share K (Held K V))) → ((q : K) → task_at eq qs q ≡ cond (eq k q) None (task_at eq ps q)) → AreNamed eq v ps → AreNamed eq v qs
   named_drop v k ps qs h named q t there = by_test (eq k q) (sym (h q) ∙ there)
@@ -153,6 +157,7 @@ module _ {K V : Type 0} (eq : K → K → Bool) (equality : IsEquality eq) (m : 
     going = here.live;
     room = (let r = st.room in omega arith);
     named = named;
+    askers = λ q j e. (let z = here.waiting q j e in here.live j ∙ going_where_waiting (tasks_of eq ps j) z.0 z.1);
   }
     where
       here : VersionStands eq m R v W (asked_of eq ps) (tasks_of eq ps)
@@ -179,7 +184,7 @@ module _ {K V : Type 0} (eq : K → K → Bool) (equality : IsEquality eq) (m : 
   }
     where
       same : seen_world eq v ps w ≡ seen_world eq v qs w
-      same = λ i. with_version v (sym (same_asked eq ps qs t a) i) (sym (same_tasks eq ps qs t) i) w
+      same = same_table eq v w ps qs t a
 
 -- ---- tasks that are dropped
 

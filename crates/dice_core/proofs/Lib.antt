@@ -5,3 +5,4 @@ pub mod Shelf
 pub mod EndsLemmas
 pub mod CascadeLemmas
 pub mod EndedLemmas
+pub mod TellLemmas

@@ -1,16 +1,22 @@
 -- Tasks that end, and tasks that are dropped.
-use Rattle.std.specs.Prelude.{◌≡◌, ◌≤◌, ◌*◌, ◌<◌, ◌⊎◌, ℕ, Bool, true, false, cond, not, ◌&&◌, List, [], ◌∷◌, ◌++◌, map, Option, Some, None}
+use Rattle.std.specs.Prelude.{◌≡◌, ◌≤◌, ◌*◌, ◌<◌, ◌⊎◌, ℕ, Bool, true, false, cond, not, ◌&&◌, List, [], ◌∷◌, ◌++◌, map, reverse, Option, Some, None}
 use Rattle.std.specs.Arc.{arc_value}
 use Rattle.std.specs.List.{list_any}
-use Rattle.dice_model.specs.Log.{Has, AreDistinct}
+use Rattle.dice_key.specs.Meaning.{Meaning}
+use Rattle.dice_model.specs.Log.{Has}
 use Rattle.task_share.specs.Asked.{By, Tasked, is_by, Takes, Cascade}
 use Rattle.task_share.specs.Seen.{Share, task_at, is_live, asks, asked_of, KeepsTasks, KeepsAsks, KeepsOtherRoom}
 use Rattle.journal.specs.declared.event.Told.{Told}
 use Rattle.journal.specs.declared.event.Told.TheVariants.{Drop}
-use Rattle.core_laws.specs.Tasks.{IsReady, IsOut, IsWaiting, Outcome, Standing, Works, Ended, goes_on, is_going}
-use Rattle.core_laws.specs.Desk.{is_ready, is_out}
+use Rattle.journal.specs.declared.event.Told.TheVariants as event
+use Rattle.journal.specs.Events.{commits_of}
+use Rattle.core_laws.specs.Tasks.{IsReady, IsOut, IsWaiting, Outcome, WithValue, WithCycle, WithNothing, Standing, Works, Ended, goes_on, is_going}
+use Rattle.core_laws.specs.Stands.{CycleStands}
+use Rattle.core_laws.specs.Desk.{World, is_ready, is_out}
+use Rattle.dice_core.specs.declared.end.How.{How}
+use Rattle.dice_core.specs.declared.end.How.TheVariants.{Lost, Cycle}
 use Rattle.dice_core.specs.Helds.{Held, held_ended}
-use Rattle.dice_core.specs.Hands.{DeskSeen, tasks_of, AreNamed, with_event, with_ended, with_told_next, Unreadies, Leaves}
+use Rattle.dice_core.specs.Hands.{DeskSeen, tasks_of, AreNamed, with_event, with_ended, with_told_next, Unreadies, Leaves, Working}
 
 -- a task that stood so, of this version and key, is no more among those that are ready or out
 abbrev pub Quits : {K V : Type 0} → Standing K V → ℕ × K → DeskSeen K V → DeskSeen K V → Type 0
@@ -28,6 +34,7 @@ module _ {K V : Type 0} (eq : K → K → Bool) (v : ℕ) where
     pub going : (q : K) → is_live eq ps q ≡ is_going (tasks_of eq ps q)
     pub room : 2 * d.live ≤ d.spare
     pub named : AreNamed eq v ps
+    pub askers : (q j : K) → asks eq ps q (Tasked j) ≡ true → is_live eq ps j ≡ true
 
   -- the task h of k, which was at work and which nobody asked for, is dropped
   pub record DropsTask (k : K) (h : Held K V) (ps qs : List (K × Share K (Held K V))) (d e : DeskSeen K V) : Type 0 where
@@ -71,3 +78,51 @@ module _ {K V : Type 0} (eq : K → K → Bool) (v : ℕ) where
     pub mid : DeskSeen K V
     pub tells : TellsEnd k h o x ps qs d mid
     pub desk : e ≡ with_told_next mid k
+
+-- how tasks end that are given up with one: as lost, or with this circle; where there is no memory for the circle, as lost too
+abbrev pub ComesOf : {K V : Type 0} → Option (List K) → Outcome K V → Type 0
+ComesOf None o = o ≡ WithNothing
+ComesOf (Some p) o = (o ≡ WithCycle p) ⊎ (o ≡ WithNothing)
+
+-- the circle, where there is one
+abbrev pub path_of : {K : Type 0} → How K → Option (List K)
+path_of Lost = None
+path_of (Cycle p) = Some (arc_value p.now)
+
+-- the event that tells how a task ended
+abbrev pub told_end : {K V : Type 0} → ℕ → K → Outcome K V → Told K V
+told_end v k (WithValue x) = event.End v k
+told_end v k (WithCycle p) = event.Cyclic v k
+told_end v k WithNothing = event.Lost v k
+
+module _ {K V : Type 0} (eq : K → K → Bool) (m : Meaning K V) where
+  -- the key reaches the circle, where there is one
+  abbrev pub ReachesPath : Option (List K) → List (List (K × V)) → ℕ → K → Type 0
+  ReachesPath None C v k = Unit {0}
+  ReachesPath (Some p) C v k = CycleStands eq m C v k p
+
+  -- what holds while the askers of ended tasks are told: those whose askers are still to be told are on the list, and each reaches the circle
+  pub record Telling (path : Option (List K)) (v : ℕ) (w : World K V) (owed : ℕ) (ps : List (K × Share K (Held K V))) (d : DeskSeen K V) : Type 0 where
+    pub working : Working eq m v (reverse d.ended) w owed ps d
+    pub reached : (q : K) → Has d.ended q → ReachesPath path (commits_of (reverse d.events)) v q
+
+module _ {K V : Type 0} (eq : K → K → Bool) where
+  -- nobody asks for the last key on the list, which is taken off
+  pub record HasTold (ps qs : List (K × Share K (Held K V))) (d e : DeskSeen K V) : Type 0 where
+    pub key : K
+    pub none : (j : K) → asks eq ps key (Tasked j) ≡ false
+    pub tasks : KeepsTasks eq ps qs
+    pub asks : KeepsAsks eq ps qs
+    pub desk : d ≡ with_told_next e key
+
+module _ {K V : Type 0} (eq : K → K → Bool) (v : ℕ) where
+  -- a task that asks for a key on the list ends
+  pub record EndsAsker (path : Option (List K)) (ps qs : List (K × Share K (Held K V))) (d e : DeskSeen K V) : Type 0 where
+    pub key : K
+    pub listed : Has d.ended key
+    pub asker : K
+    pub asks : asks eq ps key (Tasked asker) ≡ true
+    pub held : Held K V
+    pub came : Outcome K V
+    pub comes : ComesOf path came
+    pub ends : ListsEnd eq v asker held came (told_end v asker came) ps qs d e
