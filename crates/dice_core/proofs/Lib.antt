@@ -6,3 +6,5 @@ pub mod EndsLemmas
 pub mod CascadeLemmas
 pub mod EndedLemmas
 pub mod TellLemmas
+pub mod AllLemmas
+pub mod DifferLemmas

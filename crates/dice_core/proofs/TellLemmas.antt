@@ -16,9 +16,16 @@ use Rattle.core_laws.proofs.Turns.{stands_here}
 use Rattle.core_laws.proofs.StepsWaits.{told_stand}
 use Rattle.dice_core.specs.Helds.{Held}
 use Rattle.dice_core.specs.Hands.{DeskSeen, desk_of, tasks_of, seen_world, with_event, with_ended, with_told_next, KeepsDesk, Working}
-use Rattle.dice_core.specs.Endings.{Knows, TellsEnd, ListsEnd, ComesOf, told_end, ReachesPath, Telling, EndsAsker, HasTold}
+use Rattle.dice_core.specs.declared.end.How.{How}
+use Rattle.dice_core.specs.declared.end.How.TheVariants.{Lost, Cycle}
+use Rattle.dice_core.specs.Endings.{path_of, Knows, TellsEnd, ListsEnd, ComesOf, told_end, ReachesPath, Telling, EndsAsker, HasTold}
 use Rattle.dice_core.proofs.EndsLemmas.{back_more, quits_keeps, same_table}
 use Rattle.dice_core.proofs.EndedLemmas.{lost_on, cycle_on, listed_on}
+
+-- how a task ends that is given up
+pub comes_lost : {K V : Type 0} (h : How K) (o : Outcome K V) → o ≡ WithNothing → ComesOf (path_of h) o
+comes_lost Lost o e = e
+comes_lost (Cycle p) o e = inr e
 
 module _ {K V : Type 0} where
   -- an end tells of no commit

@@ -4,8 +4,8 @@ use Rattle.std.specs.Arc.{arc_value}
 use Rattle.std.specs.List.{list_any}
 use Rattle.dice_key.specs.Meaning.{Meaning}
 use Rattle.dice_model.specs.Log.{Has}
-use Rattle.task_share.specs.Asked.{By, Tasked, is_by, Takes, Cascade}
-use Rattle.task_share.specs.Seen.{Share, task_at, is_live, asks, asked_of, KeepsTasks, KeepsAsks, KeepsOtherRoom}
+use Rattle.task_share.specs.Asked.{By, Promised, Tasked, is_by, Takes, Cascade}
+use Rattle.task_share.specs.Seen.{Share, task_at, is_live, asks, asked_of, KeepsTasks, KeepsAsks, KeepsRoom, KeepsOtherRoom}
 use Rattle.journal.specs.declared.event.Told.{Told}
 use Rattle.journal.specs.declared.event.Told.TheVariants.{Drop}
 use Rattle.journal.specs.declared.event.Told.TheVariants as event
@@ -16,7 +16,7 @@ use Rattle.core_laws.specs.Desk.{World, is_ready, is_out}
 use Rattle.dice_core.specs.declared.end.How.{How}
 use Rattle.dice_core.specs.declared.end.How.TheVariants.{Lost, Cycle}
 use Rattle.dice_core.specs.Helds.{Held, held_ended}
-use Rattle.dice_core.specs.Hands.{DeskSeen, tasks_of, AreNamed, with_event, with_ended, with_told_next, Unreadies, Leaves, Working}
+use Rattle.dice_core.specs.Hands.{DeskSeen, tasks_of, AreNamed, with_event, with_ended, with_told_next, Unreadies, Leaves, Returns, Working}
 
 -- a task that stood so, of this version and key, is no more among those that are ready or out
 abbrev pub Quits : {K V : Type 0} → Standing K V → ℕ × K → DeskSeen K V → DeskSeen K V → Type 0
@@ -126,3 +126,26 @@ module _ {K V : Type 0} (eq : K → K → Bool) (v : ℕ) where
     pub came : Outcome K V
     pub comes : ComesOf path came
     pub ends : ListsEnd eq v asker held came (told_end v asker came) ps qs d e
+
+  -- these tasks end, in this order: the first of them is that of k, and each other one asked for one of them; all of them were at work; no other
+  -- task changes, and no promise
+  pub record EndsTasks (path : Option (List K)) (k : K) (es : List (K × Outcome K V)) (ps qs : List (K × Share K (Held K V))) (d e : DeskSeen K V) : Type 0 where
+    pub events : e.events ≡ d.events ++ map (λ (p : K × Outcome K V). told_end v p.0 p.1) es
+    pub first : (o : Outcome K V) × Has es (k, o)
+    pub comes : (p : K × Outcome K V) → Has es p → ComesOf path p.1
+    pub asked : (p : K × Outcome K V) → Has es p → (p.0 ≡ k) ⊎ ((q : K × Outcome K V) × Has es q × (asks eq ps q.0 (Tasked p.0) ≡ true))
+    pub ended : (p : K × Outcome K V) → Has es p → (h : Held K V) × (task_at eq ps p.0 ≡ Some h) × (goes_on h.standing ≡ true) × (task_at eq qs p.0 ≡ Some (held_ended h.name p.1))
+    pub others : (q : K) → ((p : K × Outcome K V) → Has es p → p.0 ≡ q → ⊥) → task_at eq qs q ≡ task_at eq ps q
+    pub fewer : (q : K) (a : By K) → asks eq qs q a ≡ true → asks eq ps q a ≡ true
+    pub promises : (q : K) (n : ℕ) → asks eq qs q (Promised n) ≡ asks eq ps q (Promised n)
+
+  -- the check of k, which was out, has become the task g, which is ready, and this event tells it
+  pub record BeginsAnew (k : K) (h g : Held K V) (x : Told K V) (ps qs : List (K × Share K (Held K V))) (d e : DeskSeen K V) : Type 0 where
+    pub was : task_at eq ps k ≡ Some h
+    pub tasks : (q : K) → task_at eq qs q ≡ cond (eq k q) (Some g) (task_at eq ps q)
+    pub live : (q : K) → is_live eq qs q ≡ is_live eq ps q
+    pub asks : KeepsAsks eq ps qs
+    pub room : KeepsRoom eq ps qs
+    pub ready : DeskSeen K V
+    pub returns : Returns (v, k) d ready
+    pub desk : e ≡ with_event ready x

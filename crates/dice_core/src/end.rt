@@ -14,7 +14,7 @@ ghost use Rattle.core_laws.specs.Desk.{World, ready_in, out_in};
 ghost use Rattle.dice_core.specs.Helds.{Held, came};
 ghost use Rattle.dice_core.specs.Loads.{AreCopies};
 ghost use Rattle.dice_core.specs.Hands.{Working, Cleaning};
-ghost use Rattle.dice_core.specs.Endings.{Quits, Knows, DropsTask, DropsTasks, EndsTask, TellsEnd, ListsEnd, ComesOf, path_of, told_end, ReachesPath, EndsAsker, HasTold};
+ghost use Rattle.dice_core.specs.Endings.{Quits, Knows, DropsTask, DropsTasks, EndsTask, TellsEnd, ListsEnd, ComesOf, path_of, told_end, ReachesPath, EndsAsker, HasTold, EndsTasks};
 
 use crate::Tasks;
 use crate::desk::Desk;
@@ -198,6 +198,7 @@ fn tell_one<U: Universe>(
     ensures some { result ≡ true → EndsAsker U.Key.eq version (path_of how.now) tasks.old tasks.new desk.old desk.new ⊎ HasTold U.Key.eq tasks.old tasks.new desk.old desk.new }
     ensures none { result ≡ false → (desk.old.ended ≡ []) × (desk.new ≡ desk.old) × (tasks.new ≡ tasks.old) }
 {
+    laws_of::<U>();
     let Some(last) = desk.last_ended() else {
         return false;
     };
@@ -228,6 +229,7 @@ pub(crate) fn end_all<U: Universe>(
     requires live { is_live U.Key.eq tasks.old (arc_value key) ≡ true }
     requires ended { desk.old.ended ≡ [] }
     requires reached { ReachesPath U.Key.eq U.meaning (path_of how.now) (commits_of (reverse desk.old.events)) version (arc_value key) }
+    ensures ends { (es : List (U.Key × Came U.Key U.Value)) × EndsTasks U.Key.eq version (path_of how.now) (arc_value key) es tasks.old tasks.new desk.old desk.new }
     ensures ended { desk.new.ended ≡ [] }
     ensures kept { (w : World U.Key U.Value) (owed : ℕ) → Working U.Key.eq U.meaning version [] w owed tasks.old desk.old → Working U.Key.eq U.meaning version [] w owed tasks.new desk.new }
 {
