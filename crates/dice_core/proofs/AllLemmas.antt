@@ -1,5 +1,5 @@
 -- Which tasks end where one is given up, and all that ask for it.
-use Rattle.std.proofs.Common.{◌≡◌, ◌⊎◌, inl, inr, ℕ, Bool, true, false, cond, not, ◌&&◌, List, [], ◌∷◌, ◌++◌, map, Option, Some, None, refl, sym, ap, ◌∙◌, subst, append_assoc}
+use Rattle.std.proofs.Common.{◌≡◌, ◌⊎◌, inl, inr, ◌+◌, ◌-◌, ◌≤◌, ◌*◌, ℕ, Bool, true, false, cond, not, ◌&&◌, List, [], ◌∷◌, ◌++◌, map, Option, Some, None, refl, sym, ap, ◌∙◌, subst, arith, append_assoc}
 use Rattle.std.proofs.lemmas.List.{map-append}
 use Rattle.dice_key.specs.Lawful.{IsEquality}
 use Rattle.dice_model.specs.Log.{Has}
@@ -10,13 +10,25 @@ use Rattle.core_laws.specs.Tasks.{Outcome, goes_on}
 use Rattle.core_laws.proofs.Counts.{has_append, has_front, has_last}
 use Rattle.core_laws.proofs.Shapes.{both_parts}
 use Rattle.dice_core.specs.Helds.{Held, held_ended}
-use Rattle.dice_core.specs.Hands.{DeskSeen, with_told_next}
+use Rattle.dice_core.specs.Hands.{DeskSeen, with_event, with_ended, with_told_next}
 use Rattle.dice_core.specs.Endings.{EndsTask, TellsEnd, ListsEnd, ComesOf, told_end, EndsAsker, HasTold, EndsTasks}
+use Rattle.dice_core.proofs.EndsLemmas.{quits_keeps}
+use Rattle.dice_core.proofs.CascadeLemmas.{quits_room}
 use Rattle.dice_core.proofs.TellLemmas.{told_events, told_ended}
 
 module _ {K V : Type 0} (eq : K → K → Bool) (equality : IsEquality eq) (v : ℕ) where
   lists_events : (k : K) (h : Held K V) (o : Outcome K V) (x : Told K V) (ps qs : List (K × Share K (Held K V))) (d e : DeskSeen K V) → ListsEnd eq v k h o x ps qs d e → e.events ≡ d.events ++ x ∷ []
   lists_events k h o x ps qs d e l = ap (λ (y : DeskSeen K V). y.events) l.desk ∙ told_events eq v k h o x ps qs d l.mid l.tells
+
+  -- the room that was made ahead is still there
+  lists_rooms : (k : K) (h : Held K V) (o : Outcome K V) (x : Told K V) (ps qs : List (K × Share K (Held K V))) (d e : DeskSeen K V) → ListsEnd eq v k h o x ps qs d e → (e.ready_room ≡ d.ready_room) × (e.live_room ≡ d.live_room)
+  lists_rooms k h o x ps qs d e l =
+      let t = l.tells in
+      let left = t.ends.left in
+      let same : e ≡ with_told_next (with_event (with_ended left) x) k = l.desk ∙ ap (λ (y : DeskSeen K V). with_told_next y k) (t.desk ∙ ap (λ (y : DeskSeen K V). with_event y x) t.ends.desk) in
+      let a : e.live_room ≡ (left.live_room + 1) - 1 = ap (λ (y : DeskSeen K V). y.live_room) same in
+      let b = (quits_keeps h.standing (v, k) d left t.ends.quits).live_room in
+      (ap (λ (y : DeskSeen K V). y.ready_room) same ∙ quits_room h.standing (v, k) d left t.ends.quits, omega arith)
 
   -- where the task ends
   ends_here : (k : K) (h : Held K V) (o : Outcome K V) (ps qs : List (K × Share K (Held K V))) (d e : DeskSeen K V) → EndsTask eq v k h o ps qs d e → task_at eq qs k ≡ Some (held_ended h.name o)
@@ -55,6 +67,8 @@ module _ {K V : Type 0} (eq : K → K → Bool) (equality : IsEquality eq) (v : 
       others = λ q n. ends_there k h o ps qs d l.tells.mid l.tells.ends q (n (k, o) (inl refl));
       fewer = ends_fewer k h o ps qs d l.tells.mid l.tells.ends;
       promises = ends_promises k h o ps qs d l.tells.mid l.tells.ends;
+      ready_room = (lists_rooms k h o (told_end v k o) ps qs d e l).0;
+      live_room = (let r = (lists_rooms k h o (told_end v k o) ps qs d e l).1 in omega arith);
     }
 
     module _ (k : K) (es : List (K × Outcome K V)) (ps qs rs : List (K × Share K (Held K V))) (d e f : DeskSeen K V) (all : EndsTasks eq v path k es ps qs d e) where
@@ -76,6 +90,8 @@ module _ {K V : Type 0} (eq : K → K → Bool) (equality : IsEquality eq) (v : 
         others = λ q n. ends_there a.asker a.held a.came qs rs e a.ends.tells.mid a.ends.tells.ends q (n (a.asker, a.came) (has_last es (a.asker, a.came))) ∙ all.others q (λ p i. n p (has_front es (a.asker, a.came) p i));
         fewer = λ q b i. all.fewer q b (ends_fewer a.asker a.held a.came qs rs e a.ends.tells.mid a.ends.tells.ends q b i);
         promises = λ q n. ends_promises a.asker a.held a.came qs rs e a.ends.tells.mid a.ends.tells.ends q n ∙ all.promises q n;
+        ready_room = (lists_rooms a.asker a.held a.came (told_end v a.asker a.came) qs rs e f a.ends).0 ∙ all.ready_room;
+        live_room = (let r = (lists_rooms a.asker a.held a.came (told_end v a.asker a.came) qs rs e f a.ends).1 in let s = all.live_room in omega arith);
       }
         where
           tell : K × Outcome K V → Told K V
@@ -101,6 +117,8 @@ module _ {K V : Type 0} (eq : K → K → Bool) (equality : IsEquality eq) (v : 
         others = λ q n. t.tasks.tasks q ∙ all.others q n;
         fewer = λ q a i. all.fewer q a (sym (t.asks q a) ∙ i);
         promises = λ q n. t.asks q (Promised n) ∙ all.promises q n;
+        ready_room = ap (λ (y : DeskSeen K V). y.ready_room) (sym t.desk) ∙ all.ready_room;
+        live_room = (let r : e.live_room ≡ f.live_room - 1 = ap (λ (y : DeskSeen K V). y.live_room) t.desk in let s = all.live_room in omega arith);
       }
 
       -- what is on the list then is among these

@@ -62,3 +62,36 @@ module _ {K V : Type 0} (eq : K → K → Bool) (equality : IsEquality eq) (m : 
 
         quits : Quits h.standing (v, k) d (record begins.ready { ready = d.ready })
         quits = subst (λ s. Quits s (v, k) d (record begins.ready { ready = d.ready })) (sym at) (record { ready = refl; out = begins.returns.out; count = begins.returns.count; room = begins.returns.room; rest = record { events = begins.returns.rest.events; live = begins.returns.rest.live; ended = begins.returns.rest.ended; spare = begins.returns.rest.spare; live_room = begins.returns.rest.live_room } })
+
+module _ {K V : Type 0} (eq : K → K → Bool) (equality : IsEquality eq) (v : ℕ) where
+  -- a task that is written as begun anew
+  pub begins_anew : (k : K) (h g t : Held K V) (x : Told K V) (ps qs : List (K × Share K (Held K V))) (d r e : DeskSeen K V) → task_at eq ps k ≡ Some h → t ≡ g → WritesTask eq k ps qs t → Returns (v, k) d r → e ≡ with_event r x → BeginsAnew eq v k h g x ps qs d e
+  begins_anew k h g t x ps qs d r e was is writes returns desk = record {
+    was = was;
+    tasks = λ q. writes.tasks q ∙ by_test q (eq k q) refl;
+    live = writes.live;
+    asks = writes.asks;
+    room = writes.room;
+    ready = r;
+    returns = returns;
+    desk = desk;
+  }
+    where
+      by_test : (q : K) (b : Bool) → eq k q ≡ b → cond b (option_map (λ _. t) (task_at eq ps q)) (task_at eq ps q) ≡ cond b (Some g) (task_at eq ps q)
+      by_test q false i = refl
+      by_test q true i =
+          let j : task_at eq ps q ≡ Some h = subst (λ z. task_at eq ps z ≡ Some h) (equality.same k q i) was in
+          ap (λ (z : Option (Held K V)). option_map (λ _. t) z) j ∙ ap Some is
+
+  -- the same in other words
+  pub begins_so : (k : K) (f h g i : Held K V) (x y : Told K V) (ps qs : List (K × Share K (Held K V))) (d e : DeskSeen K V) → BeginsAnew eq v k f g x ps qs d e → task_at eq ps k ≡ Some h → g ≡ i → x ≡ y → BeginsAnew eq v k h i y ps qs d e
+  begins_so k f h g i x y ps qs d e b at p q = subst (λ (z : Held K V). BeginsAnew eq v k h z y ps qs d e) p (subst (λ (z : Told K V). BeginsAnew eq v k h g z ps qs d e) q (record {
+    was = at;
+    tasks = b.tasks;
+    live = b.live;
+    asks = b.asks;
+    room = b.room;
+    ready = b.ready;
+    returns = b.returns;
+    desk = b.desk;
+  }))

@@ -138,6 +138,8 @@ module _ {K V : Type 0} (eq : K → K → Bool) (v : ℕ) where
     pub others : (q : K) → ((p : K × Outcome K V) → Has es p → p.0 ≡ q → ⊥) → task_at eq qs q ≡ task_at eq ps q
     pub fewer : (q : K) (a : By K) → asks eq qs q a ≡ true → asks eq ps q a ≡ true
     pub promises : (q : K) (n : ℕ) → asks eq qs q (Promised n) ≡ asks eq ps q (Promised n)
+    pub ready_room : e.ready_room ≡ d.ready_room
+    pub live_room : d.live_room ≤ e.live_room
 
   -- the check of k, which was out, has become the task g, which is ready, and this event tells it
   pub record BeginsAnew (k : K) (h g : Held K V) (x : Told K V) (ps qs : List (K × Share K (Held K V))) (d e : DeskSeen K V) : Type 0 where

@@ -1,7 +1,6 @@
 use Rattle.std.specs.Arc.{arc_value}
 use Rattle.journal.specs.Tell.{told}
 use Rattle.dice_core.proofs.EndedLemmas.{value_on, kept_on}
-use Rattle.dice_core.proofs.DifferLemmas.{differs_on}
 use Rattle.dice_core.proofs.end.end_value.Goals as goal
 
 pub returns-clause-ended : goal.returns-clause-ended
