@@ -85,7 +85,7 @@ module _ {K V : Type 0} (eq : K → K → Bool) (equality : IsEquality eq) (v : 
         ended = λ p i. elim (has_append es (a.asker, a.came) p i) as (λ _. (g : Held K V) × (task_at eq ps p.0 ≡ Some g) × (goes_on g.standing ≡ true) × (task_at eq rs p.0 ≡ Some (held_ended g.name p.1))) [
           | inl j ↦ (let w = all.ended p j in (w.0, w.1, w.2, ends_there a.asker a.held a.came qs rs e a.ends.tells.mid a.ends.tells.ends p.0 (λ s. new p j (sym s)) ∙ w.3))
           | inr j ↦ subst (λ (z : K × Outcome K V). (g : Held K V) × (task_at eq ps z.0 ≡ Some g) × (goes_on g.standing ≡ true) × (task_at eq rs z.0 ≡ Some (held_ended g.name z.1))) j
-            (a.held, sym (all.others a.asker new) ∙ a.ends.tells.ends.was, a.ends.tells.ends.going, ends_here a.asker a.held a.came qs rs e a.ends.tells.mid a.ends.tells.ends)
+              (a.held, sym (all.others a.asker new) ∙ a.ends.tells.ends.was, a.ends.tells.ends.going, ends_here a.asker a.held a.came qs rs e a.ends.tells.mid a.ends.tells.ends)
         ];
         others = λ q n. ends_there a.asker a.held a.came qs rs e a.ends.tells.mid a.ends.tells.ends q (n (a.asker, a.came) (has_last es (a.asker, a.came))) ∙ all.others q (λ p i. n p (has_front es (a.asker, a.came) p i));
         fewer = λ q b i. all.fewer q b (ends_fewer a.asker a.held a.came qs rs e a.ends.tells.mid a.ends.tells.ends q b i);

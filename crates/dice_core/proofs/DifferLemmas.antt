@@ -31,7 +31,7 @@ module _ {K V : Type 0} (eq : K → K → Bool) (equality : IsEquality eq) (m : 
     pub differs_on : BeginsAnew eq v k h (anew h) (Start v k (Differs b i)) ps qs d e → ChangesFirst T A i → (W : List K) (w : World K V) (owed : ℕ) → Working eq m v W w (owed + 1) ps d → Working eq m v W w owed qs e
     differs_on begins changed W w owed work =
         let step = differs_stand eq equality m law (reverse d.events) v w W (asked_of eq ps) (asked_of eq qs) (tasks_of eq ps) (tasks_of eq qs) k (task_of h) T A y b i (desk_of d) (desk_of (with_event begins.ready (Start v k (Differs b i)))) (owed + 1) owed work.stand
-          there at changed (work.wanted k live) begins.asks begins.live put turns room in
+        there at changed (work.wanted k live) begins.asks begins.live put turns room in
         subst (λ (z : DeskSeen K V). Working eq m v W w owed qs z) (sym begins.desk) (record {
           stand = subst (λ z. Stand eq m z v W (seen_world eq v qs w) (desk_of (with_event begins.ready (Start v k (Differs b i)))) owed) (sym told) step.1;
           outs = outs_after eq equality v k (Some (task_of (anew h))) (asked_of eq ps) (asked_of eq qs) (tasks_of eq ps) (tasks_of eq qs) w put refl d (record begins.ready { ready = d.ready }) (task_of h) there quits work.outs;

@@ -147,7 +147,7 @@ module _ {K V : Type 0} (eq : K → K → Bool) (equality : IsEquality eq) (m : 
       lives = lives_of k ps qs tells.ends.live;
       put = puts_of eq k (Some (held_ended h.name o)) ps qs tells.ends.tasks;
       turns = subst (λ (y : Option (Task K V)). DeskTurns v k y (Some (record { born = h.name.born; standing = Ended o })) (desk_of d) (desk_of (with_event (with_ended tells.ends.left) x))) (sym there)
-        (quits_turns v k h.name.born (Some (record { born = h.name.born; standing = Ended o })) refl refl refl d tells.ends.left x (known.live k live) h.standing tells.ends.going tells.ends.quits);
+          (quits_turns v k h.name.born (Some (record { born = h.name.born; standing = Ended o })) refl refl refl d tells.ends.left x (known.live k live) h.standing tells.ends.going tells.ends.quits);
       room = (let r = work.stand.room in let l = keeps.live in let s = keeps.spare in let n = known.live k live in omega arith);
     }
       where
@@ -202,7 +202,7 @@ module _ {K V : Type 0} (eq : K → K → Bool) (equality : IsEquality eq) (m : 
         let same : g ≡ h = let i = tells.ends.was in cc in
         let f = facts k h (WithValue y) (End v k) ps qs d e tells W w owed work in
         let r = ends_stand eq equality m law (reverse d.events) v w W (asked_of eq ps) (asked_of eq qs) (tasks_of eq ps) (tasks_of eq qs) k (task_of h) A y (desk_of d) (desk_of (with_event (with_ended tells.ends.left) (End v k))) owed owed work.stand
-          f.there (ap (λ (z : Held K V). z.standing) (sym same) ∙ stood) done f.wanted f.withdrawn f.lives f.put f.turns f.room in
+        f.there (ap (λ (z : Held K V). z.standing) (sym same) ∙ stood) done f.wanted f.withdrawn f.lives f.put f.turns f.room in
         (goes_so k h (WithValue y) (End v k) ps qs d e tells W w owed work tt r.1, r.3)
 
     pub kept_on : (y : V) (x : Told K V) → TellsEnd eq v k h (WithValue y) x ps qs d e → (W : List K) (w : World K V) (owed : ℕ) → Working eq m v W w owed ps d → (b : ℕ) → x ≡ Keep v k b
@@ -213,7 +213,7 @@ module _ {K V : Type 0} (eq : K → K → Bool) (equality : IsEquality eq) (m : 
         let same : g ≡ h = let i = tells.ends.was in cc in
         let f = facts k h (WithValue y) (Keep v k b) ps qs d e tells W w owed work in
         let r = keeps_stand eq equality m law (reverse d.events) v w W (asked_of eq ps) (asked_of eq qs) (tasks_of eq ps) (tasks_of eq qs) k (task_of h) T A y b (desk_of d) (desk_of (with_event (with_ended tells.ends.left) (Keep v k b))) owed owed work.stand
-          f.there (ap (λ (z : Held K V). z.standing) (sym same) ∙ stood) equal f.wanted f.withdrawn f.lives f.put f.turns f.room in
+        f.there (ap (λ (z : Held K V). z.standing) (sym same) ∙ stood) equal f.wanted f.withdrawn f.lives f.put f.turns f.room in
         (goes_so k h (WithValue y) (Keep v k b) ps qs d e tells W w owed work tt r.1, r.3)
 
   -- a key that is put on the list changes nothing of this

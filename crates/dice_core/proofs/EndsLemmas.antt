@@ -6,7 +6,7 @@ use Rattle.std.specs.Option.{option_map}
 use Rattle.dice_key.specs.Lawful.{IsEquality, IsLawful}
 use Rattle.dice_key.specs.Meaning.{Meaning}
 use Rattle.dice_model.specs.Log.{Has, AreDistinct}
-use Rattle.task_share.specs.Asked.{By, Tasked, Asked, is_by}
+use Rattle.task_share.specs.Asked.{By, Tasked, Asked, is_by, IsDone}
 use Rattle.task_share.specs.Seen.{Share, task_at, is_live, asks, asked_of, KeepsTasks, KeepsAsks}
 use Rattle.journal.specs.declared.event.Told.{Told}
 use Rattle.journal.specs.declared.event.Told.TheVariants.{Drop}
@@ -21,6 +21,7 @@ use Rattle.core_laws.proofs.Counts.{all_alike, all_fewer, counted}
 use Rattle.core_laws.proofs.Held.{going_where_waiting}
 use Rattle.core_laws.proofs.Turns.{pair_test, task_here, task_there, with_twice, stands_here}
 use Rattle.core_laws.proofs.StepsEnds.{drops_stand}
+use Rattle.core_laws.proofs.StepsRests.{wanted_stand}
 use Rattle.dice_core.specs.Helds.{Held, task_of, held_ended}
 use Rattle.dice_core.specs.Hands.{DeskSeen, desk_of, tasks_of, AreNamed, seen_world, with_event, with_ended, Stays, KeepsDesk, Unreadies, Leaves, Working, Cleaning}
 use Rattle.dice_core.specs.Endings.{Quits, Knows, DropsTask}
@@ -186,16 +187,34 @@ module _ {K V : Type 0} (eq : K → K → Bool) (equality : IsEquality eq) (m : 
       same : seen_world eq v ps w ≡ seen_world eq v qs w
       same = same_table eq v w ps qs t a
 
+-- ---- before the cascade and after it
+
+module _ {K V : Type 0} (eq : K → K → Bool) (equality : IsEquality eq) (m : Meaning K V) (law : IsLawful m) (v : ℕ) where
+  pub cleaning_of : (w : World K V) (owed : ℕ) (ps : List (K × Share K (Held K V))) (d : DeskSeen K V) → Working eq m v [] w owed ps d → Cleaning eq m v w owed ps d
+  cleaning_of w owed ps d h = record { stand = h.stand; outs = h.outs; named = h.named }
+
+  -- where each task at work has an asker it is wanted
+  pub working_of : (w : World K V) (owed : ℕ) (ps : List (K × Share K (Held K V))) (d : DeskSeen K V) → IsDone (asked_of eq ps) → Cleaning eq m v w owed ps d → Working eq m v [] w owed ps d
+  working_of w owed ps d done h = record {
+    stand = h.stand;
+    outs = h.outs;
+    named = h.named;
+    wanted = wanted_stand eq equality m law (reverse d.events) v w [] (asked_of eq ps) (tasks_of eq ps) (desk_of d) owed h.stand done;
+  }
+
 -- ---- tasks that are dropped
 
 module _ {K V : Type 0} (eq : K → K → Bool) (equality : IsEquality eq) (m : Meaning K V) (law : IsLawful m) (v : ℕ) where
   pub dropped : (k : K) (h : Held K V) (ps qs : List (K × Share K (Held K V))) (d e : DeskSeen K V) → DropsTask eq v k h ps qs d e → (w : World K V) (owed : ℕ) → Cleaning eq m v w owed ps d → ended_at (reverse d.events) ≡ Some v
       → Cleaning eq m v w owed qs e × (ended_at (reverse e.events) ≡ Some v)
-  dropped k h ps qs d e drops w owed c after = let step = drops_stand eq equality m law (reverse d.events) v w [] (asked_of eq ps) (asked_of eq qs) (tasks_of eq ps) (tasks_of eq qs) k (desk_of d) (desk_of (with_event (with_ended drops.left) (Drop v k))) owed owed c.stand drops.takes put after turns room in (record {
-    stand = subst (λ (y : DeskSeen K V). Stand eq m (reverse y.events) v [] (seen_world eq v qs w) (desk_of y) owed) (sym drops.desk) (subst (λ z. Stand eq m z v [] (seen_world eq v qs w) (desk_of next) owed) (sym told) step.1);
-    outs = subst (λ (y : DeskSeen K V). AreAll (λ (p : ℕ × K). is_out ((seen_world eq v qs w).tasks p.0 p.1)) y.out) (sym drops.desk) (outs_after eq equality v k None (asked_of eq ps) (asked_of eq qs) (tasks_of eq ps) (tasks_of eq qs) w put refl d drops.left (task_of h) there drops.quits c.outs);
-    named = named_drop eq v k ps qs drops.tasks c.named;
-  }, subst (λ (y : DeskSeen K V). ended_at (reverse y.events) ≡ Some v) (sym drops.desk) (ap ended_at told ∙ step.2))
+  dropped k h ps qs d e drops w owed c after = let step = drops_stand eq equality m law (reverse d.events) v w [] (asked_of eq ps) (asked_of eq qs) (tasks_of eq ps) (tasks_of eq qs) k (desk_of d) (desk_of (with_event (with_ended drops.left) (Drop v k))) owed owed c.stand drops.takes put after turns room in (
+    record {
+      stand = subst (λ (y : DeskSeen K V). Stand eq m (reverse y.events) v [] (seen_world eq v qs w) (desk_of y) owed) (sym drops.desk) (subst (λ z. Stand eq m z v [] (seen_world eq v qs w) (desk_of next) owed) (sym told) step.1);
+      outs = subst (λ (y : DeskSeen K V). AreAll (λ (p : ℕ × K). is_out ((seen_world eq v qs w).tasks p.0 p.1)) y.out) (sym drops.desk) (outs_after eq equality v k None (asked_of eq ps) (asked_of eq qs) (tasks_of eq ps) (tasks_of eq qs) w put refl d drops.left (task_of h) there drops.quits c.outs);
+      named = named_drop eq v k ps qs drops.tasks c.named;
+    },
+    subst (λ (y : DeskSeen K V). ended_at (reverse y.events) ≡ Some v) (sym drops.desk) (ap ended_at told ∙ step.2),
+  )
     where
       next : DeskSeen K V
       next = with_event (with_ended drops.left) (Drop v k)

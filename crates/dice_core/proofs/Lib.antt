@@ -8,3 +8,4 @@ pub mod EndedLemmas
 pub mod TellLemmas
 pub mod AllLemmas
 pub mod DifferLemmas
+pub mod TaskedLemmas

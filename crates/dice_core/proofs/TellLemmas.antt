@@ -66,7 +66,7 @@ module _ {K V : Type 0} (eq : K → K → Bool) (equality : IsEquality eq) (m : 
         → Telling eq m path v w owed ps d → Telling eq m path v w owed qs e
     listed k h o ps qs d e lists comes reach telling = subst (λ (y : DeskSeen K V). Telling eq m path v w owed qs y) (sym lists.desk) (record {
       working = subst (λ (W : List K). Working eq m v W w owed qs (with_told_next lists.mid k)) (sym order)
-        (listed_on eq equality m law v (k ∷ reverse d.ended) w owed qs lists.mid k (comes_on path k h o ps qs d lists.mid lists.tells comes (reverse d.ended) w owed telling.working reach));
+          (listed_on eq equality m law v (k ∷ reverse d.ended) w owed qs lists.mid k (comes_on path k h o ps qs d lists.mid lists.tells comes (reverse d.ended) w owed telling.working reach));
       reached = λ q i. elim (has_append lists.mid.ended k q i) as (λ _. ReachesPath eq m path (commits_of (reverse lists.mid.events)) v q) [
         | inl j ↦ subst (λ C. ReachesPath eq m path C v q) (sym commits) (telling.reached q (subst (λ xs. Has xs q) ended j))
         | inr j ↦ subst (λ C. ReachesPath eq m path C v q) (sym commits) (subst (λ z. ReachesPath eq m path (commits_of (reverse d.events)) v z) j reach)
@@ -97,7 +97,7 @@ module _ {K V : Type 0} (eq : K → K → Bool) (equality : IsEquality eq) (m : 
     last_told ps qs d e t telling0 = record {
       working = record {
         stand = subst (λ (x : World K V). Stand eq m (reverse e.events) v (reverse e.ended) x (desk_of e) owed) same
-          (told_stand eq equality m law (reverse e.events) v w (reverse e.ended) (asked_of eq ps) (tasks_of eq ps) t.key (desk_of e) (desk_of e) owed owed before t.none (record { ready = refl; out = refl; live = refl }) before.room);
+            (told_stand eq equality m law (reverse e.events) v w (reverse e.ended) (asked_of eq ps) (tasks_of eq ps) t.key (desk_of e) (desk_of e) owed owed before t.none (record { ready = refl; out = refl; live = refl }) before.room);
         outs = subst (λ (x : World K V). AreAll (λ (p : ℕ × K). is_out (x.tasks p.0 p.1)) e.out) same telling.working.outs;
         named = λ k g there. telling.working.named k g (sym (t.tasks.tasks k) ∙ there);
         wanted = λ k l. telling.working.wanted k (sym (t.tasks.live k) ∙ l);

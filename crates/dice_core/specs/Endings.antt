@@ -151,3 +151,8 @@ module _ {K V : Type 0} (eq : K → K → Bool) (v : ℕ) where
     pub ready : DeskSeen K V
     pub returns : Returns (v, k) d ready
     pub desk : e ≡ with_event ready x
+
+module _ {K V : Type 0} (eq : K → K → Bool) where
+  -- whoever is asked for has a task
+  abbrev pub AreTasked : List (K × Share K (Held K V)) → Type 0
+  AreTasked ps = (k : K) (a : By K) → asks eq ps k a ≡ true → (h : Held K V) × (task_at eq ps k ≡ Some h)

@@ -12,7 +12,7 @@ ghost use Rattle.core_laws.specs.Changes.{ChangesFirst};
 ghost use Rattle.core_laws.specs.Desk.{World};
 ghost use Rattle.dice_core.specs.Helds.{held_of};
 ghost use Rattle.dice_core.specs.Hands.{Working};
-ghost use Rattle.dice_core.specs.Endings.{Knows, BeginsAnew};
+ghost use Rattle.dice_core.specs.Endings.{Knows, BeginsAnew, AreTasked};
 
 use crate::Tasks;
 use crate::desk::Desk;
@@ -36,6 +36,7 @@ pub(crate) fn differ<U: Universe>(
     requires own { own ≡ job }
     requires job { job ≡ record { name = job.name; answered = []; work = Computes } }
     ensures begun { (x : U.Value) × (T : List (Answered U.Key U.Value)) × (b : ℕ) × (A : List (Answered U.Key U.Value)) × BeginsAnew U.Key.eq version (arc_value key.now) (held_of (record { name = job.name; answered = A; work = Checks x T b }) IsOut) (held_of job IsReady) (told event) tasks.old tasks.new desk.old desk.new }
+    ensures tasked { AreTasked U.Key.eq tasks.old → AreTasked U.Key.eq tasks.new }
     ensures kept { (w : World U.Key U.Value) (W : List U.Key) (owed : ℕ) (x : U.Value) (T A : List (Answered U.Key U.Value)) (base : ℕ) (changed : U.Key) → Working U.Key.eq U.meaning version W w (owed + 1) tasks.old desk.old → told event ≡ Start version (arc_value key.now) (Differs base changed) → task_at U.Key.eq tasks.old (arc_value key.now) ≡ Some (held_of (record { name = job.name; answered = A; work = Checks x T base }) IsOut) → ChangesFirst T A changed → Working U.Key.eq U.meaning version W w owed tasks.new desk.new }
 {
     laws_of::<U>();

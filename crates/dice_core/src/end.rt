@@ -14,7 +14,7 @@ ghost use Rattle.core_laws.specs.Desk.{World, ready_in, out_in};
 ghost use Rattle.dice_core.specs.Helds.{Held, came};
 ghost use Rattle.dice_core.specs.Loads.{AreCopies};
 ghost use Rattle.dice_core.specs.Hands.{Working, Cleaning};
-ghost use Rattle.dice_core.specs.Endings.{Quits, Knows, DropsTask, DropsTasks, EndsTask, TellsEnd, ListsEnd, ComesOf, path_of, told_end, ReachesPath, EndsAsker, HasTold, EndsTasks};
+ghost use Rattle.dice_core.specs.Endings.{Quits, Knows, DropsTask, DropsTasks, EndsTask, TellsEnd, ListsEnd, ComesOf, path_of, told_end, ReachesPath, EndsAsker, HasTold, EndsTasks, AreTasked};
 
 use crate::Tasks;
 use crate::desk::Desk;
@@ -75,7 +75,8 @@ pub(crate) fn cascade<U: Universe>(desk: &mut Desk<U>, tasks: &mut Tasks<U>, ver
     ensures dropped { (ks : List U.Key) × DropsTasks U.Key.eq version ks tasks.old tasks.new desk.old desk.new }
     ensures done { IsDone (asked_of U.Key.eq tasks.new) }
     ensures after { ended_at (reverse desk.new.events) ≡ Some version }
-    ensures kept { (w : World U.Key U.Value) (owed : ℕ) → Cleaning U.Key.eq U.meaning version w owed tasks.old desk.old → Cleaning U.Key.eq U.meaning version w owed tasks.new desk.new }
+    ensures tasked { AreTasked U.Key.eq tasks.old → AreTasked U.Key.eq tasks.new }
+    ensures kept { (w : World U.Key U.Value) (owed : ℕ) → Cleaning U.Key.eq U.meaning version w owed tasks.old desk.old → Working U.Key.eq U.meaning version [] w owed tasks.new desk.new }
 {
     laws_of::<U>();
     'drops: while drop_one(desk, tasks, version) {}
@@ -118,6 +119,7 @@ pub(crate) fn end_value<U: Universe>(
     requires known { Knows U.Key.eq version tasks.old desk.old }
     requires live { is_live U.Key.eq tasks.old (arc_value key.now) ≡ true }
     ensures ended { (h : Held U.Key U.Value) × TellsEnd U.Key.eq version (arc_value key.now) h (WithValue (arc_value value)) (told event) tasks.old tasks.new desk.old desk.new }
+    ensures tasked { AreTasked U.Key.eq tasks.old → AreTasked U.Key.eq tasks.new }
     ensures computed { (w : World U.Key U.Value) (W : List U.Key) (owed : ℕ) (h : Held U.Key U.Value) (A : List (Answered U.Key U.Value)) → Working U.Key.eq U.meaning version W w owed tasks.old desk.old → told event ≡ End version (arc_value key.now) → task_at U.Key.eq tasks.old (arc_value key.now) ≡ Some h → h.standing ≡ Works Computes IsOut A → U.meaning.next (arc_value key.now) A version ≡ Ends (arc_value value) → Working U.Key.eq U.meaning version (arc_value key.now ∷ W) w owed tasks.new desk.new × IsTrace U.Key.eq U.meaning (commits_of (reverse desk.old.events)) version (arc_value key.now) A (arc_value value) }
     ensures checked { (w : World U.Key U.Value) (W : List U.Key) (owed : ℕ) (h : Held U.Key U.Value) (T A : List (Answered U.Key U.Value)) (base : ℕ) → Working U.Key.eq U.meaning version W w owed tasks.old desk.old → told event ≡ Keep version (arc_value key.now) base → task_at U.Key.eq tasks.old (arc_value key.now) ≡ Some h → h.standing ≡ Works (Checks (arc_value value) T base) IsOut A → map (λ a. a.values) A ≡ map (λ a. a.values) T → Working U.Key.eq U.meaning version (arc_value key.now ∷ W) w owed tasks.new desk.new × IsTrace U.Key.eq U.meaning (commits_of (reverse desk.old.events)) version (arc_value key.now) A (arc_value value) }
 {
@@ -128,17 +130,13 @@ pub(crate) fn end_value<U: Universe>(
 
 /// Ends the task at work of a key as lost, and puts the key on the list of those whose askers are still to be told. It takes no
 /// memory.
-fn end_lost<U: Universe>(
-    desk: &mut Desk<U>,
-    tasks: &mut Tasks<U>,
-    version: u64,
-    key: KeyRef<U>,
-)
+fn end_lost<U: Universe>(desk: &mut Desk<U>, tasks: &mut Tasks<U>, version: u64, key: KeyRef<U>)
     requires known { Knows U.Key.eq version tasks.old desk.old }
     requires live { is_live U.Key.eq tasks.old (arc_value key) ≡ true }
     ensures ended { (h : Held U.Key U.Value) × ListsEnd U.Key.eq version (arc_value key) h WithNothing (Lost version (arc_value key)) tasks.old tasks.new desk.old desk.new }
 {
-    let Some(Spare { first, second: _ }) = end_task(desk, tasks, version, &key, Outcome::Lost) else {
+    let Some(Spare { first, second: _ }) = end_task(desk, tasks, version, &key, Outcome::Lost)
+    else {
         return;
     };
     desk.push(Event::Lost(version, first));
@@ -158,7 +156,13 @@ fn end_cyclic<U: Universe>(
     requires live { is_live U.Key.eq tasks.old (arc_value key) ≡ true }
     ensures ended { (h : Held U.Key U.Value) × ListsEnd U.Key.eq version (arc_value key) h (WithCycle (arc_value path)) (Cyclic version (arc_value key)) tasks.old tasks.new desk.old desk.new }
 {
-    let Some(Spare { first, second: _ }) = end_task(desk, tasks, version, &key, Outcome::Cycle(path)) else {
+    let Some(Spare { first, second: _ }) = end_task(
+        desk,
+        tasks,
+        version,
+        &key,
+        Outcome::Cycle(path),
+    ) else {
         return;
     };
     desk.push(Event::Cyclic(version, first));
@@ -231,6 +235,7 @@ pub(crate) fn end_all<U: Universe>(
     requires reached { ReachesPath U.Key.eq U.meaning (path_of how.now) (commits_of (reverse desk.old.events)) version (arc_value key) }
     ensures ends { (es : List (U.Key × Came U.Key U.Value)) × EndsTasks U.Key.eq version (path_of how.now) (arc_value key) es tasks.old tasks.new desk.old desk.new }
     ensures ended { desk.new.ended ≡ [] }
+    ensures tasked { AreTasked U.Key.eq tasks.old → AreTasked U.Key.eq tasks.new }
     ensures kept { (w : World U.Key U.Value) (owed : ℕ) → Working U.Key.eq U.meaning version [] w owed tasks.old desk.old → Working U.Key.eq U.meaning version [] w owed tasks.new desk.new }
 {
     laws_of::<U>();

@@ -1,12 +1,13 @@
 use Rattle.std.proofs.Common.{[], ◌∷◌, ◌++◌, refl, sym, subst, reverse, Some, ◌≡◌}
 use Rattle.journal.specs.Events.{ended_at}
-use Rattle.dice_core.specs.Hands.{DeskSeen, Cleaning}
+use Rattle.dice_core.specs.Hands.{DeskSeen, Working}
 use Rattle.dice_core.proofs.CascadeLemmas.{drops_none, drops_more, drops_same, drops_fewer, done_same}
-use Rattle.dice_core.proofs.EndsLemmas.{cleaning_knows, cleaning_same}
+use Rattle.dice_core.proofs.EndsLemmas.{cleaning_knows, cleaning_same, working_of}
+use Rattle.dice_core.proofs.TaskedLemmas.{tasked_drop, tasked_same}
 use Rattle.dice_core.proofs.end.cascade.Goals as goal
 
 pub drops-init : goal.drops-init
-drops-init g c = record { dropped = ([], drops_none _ _ _ _); after = c.requires.after; kept = λ w owed h. h }
+drops-init g c = record { dropped = ([], drops_none _ _ _ _); after = c.requires.after; tasked = λ h. h; kept = λ w owed h. h }
 
 pub drop_one-requires-clause-known : goal.drop_one-requires-clause-known
 drop_one-requires-clause-known g c l o =
@@ -22,6 +23,7 @@ drops-preserved g c =
     record {
       dropped = (n.0 ++ d.0 ∷ [], drops_more g.U.Key.PartialEq.eq c.args.version _ _ _ _ _ _ n.0 n.1 c.laws_of.ensures.keys d.0 d.1 d.2);
       after = (step r.0 r.1 (c.drops.invariant.kept r.0 r.1 r.2) c.drops.invariant.after).1;
+      tasked = λ h. tasked_drop g.U.Key.PartialEq.eq c.laws_of.ensures.keys c.args.version d.0 d.1 _ _ _ _ d.2 (c.drops.invariant.tasked h);
       kept = λ w owed h. (step w owed (c.drops.invariant.kept w owed h) c.drops.invariant.after).0;
     }
 
@@ -45,8 +47,13 @@ returns-clause-after g c =
     let e = c.drop_one.ensures.none c.drops-test.false in
     subst (λ (d : DeskSeen g.row.U-Key.Denot g.row.U-Value.Denot). ended_at (reverse d.events) ≡ Some c.args.version) (sym e.0) c.drops.invariant.after
 
+pub returns-clause-tasked : goal.returns-clause-tasked
+returns-clause-tasked g c h = let e = c.drop_one.ensures.none c.drops-test.false in tasked_same g.U.Key.PartialEq.eq _ _ e.2 e.3 (c.drops.invariant.tasked h)
+
 pub returns-clause-kept : goal.returns-clause-kept
 returns-clause-kept g c w owed h =
     let e = c.drop_one.ensures.none c.drops-test.false in
-    subst (λ (d : DeskSeen g.row.U-Key.Denot g.row.U-Value.Denot). Cleaning g.U.Key.PartialEq.eq g.U.Universe.meaning c.args.version w owed c.drop_one.new.tasks d) (sym e.0)
-    (cleaning_same g.U.Key.PartialEq.eq c.laws_of.ensures.keys g.U.Universe.meaning c.args.version w owed _ _ _ e.2 e.3 (c.drops.invariant.kept w owed h))
+    let eq = g.U.Key.PartialEq.eq in
+    let m = g.U.Universe.meaning in
+    subst (λ (d : DeskSeen g.row.U-Key.Denot g.row.U-Value.Denot). Working eq m c.args.version [] w owed c.drop_one.new.tasks d) (sym e.0)
+    (working_of eq c.laws_of.ensures.keys m c.laws_of.ensures.lawful c.args.version w owed _ _ (done_same eq c.args.version _ _ e.2 e.3 e.1) (cleaning_same eq c.laws_of.ensures.keys m c.args.version w owed _ _ _ e.2 e.3 (c.drops.invariant.kept w owed h)))

@@ -6,15 +6,19 @@ use Rattle.dice_core.proofs.EndsLemmas.{dropped}
 use Rattle.dice_core.proofs.end.drop_one.Goals as goal
 
 pub returns-clause-some : goal.returns-clause-some
-returns-clause-some g c e = (arc_value c.in-Some.key, c.in-Some.task, record {
-  was = c.in-Some.ensures.task;
-  takes = c.in-Some.ensures.some;
-  tasks = c.in-Some.ensures.tasks;
-  room = c.in-Some.ensures.room;
-  left = c.quit.new.desk;
-  quits = c.quit.ensures;
-  desk = c.push.ensures ∙ ap (λ x. with_event x (Drop c.args.version (arc_value c.in-Some.key))) c.ended.ensures;
-})
+returns-clause-some g c e = (
+  arc_value c.in-Some.key,
+  c.in-Some.task,
+  record {
+    was = c.in-Some.ensures.task;
+    takes = c.in-Some.ensures.some;
+    tasks = c.in-Some.ensures.tasks;
+    room = c.in-Some.ensures.room;
+    left = c.quit.new.desk;
+    quits = c.quit.ensures;
+    desk = c.push.ensures ∙ ap (λ x. with_event x (Drop c.args.version (arc_value c.in-Some.key))) c.ended.ensures;
+  },
+)
 
 pub returns-clause-kept : goal.returns-clause-kept
 returns-clause-kept g c e w owed h after =

@@ -24,7 +24,7 @@ returns-in-Some-take_asker-clause-some g c t =
       came = x.1;
       comes = x.2;
       ends = lists_from g.U.Key.PartialEq.eq c.laws_of.ensures.keys c.args.version (arc_value c.in-Some.last.now) (arc_value c.in-Some-take_asker.asker) _ _ c.take_asker.ensures.tasks c.in-Some-take_asker.ensures.asks x.0 x.1
-        (told_end c.args.version (arc_value c.in-Some-take_asker.asker) x.1) _ _ _ c.take_asker.ensures.room x.3;
+          (told_end c.args.version (arc_value c.in-Some-take_asker.asker) x.1) _ _ _ c.take_asker.ensures.room x.3;
     })
 
 pub returns-in-None-clause-some : goal.returns-in-None-clause-some
