@@ -7,3 +7,10 @@ pub mod LooksLemmas
 pub mod EntriesLemmas
 pub mod MakeLemmas
 pub mod MakeFrames
+pub mod EndsLemmas
+pub mod CascadeLemmas
+pub mod EndedLemmas
+pub mod TellLemmas
+pub mod AllLemmas
+pub mod DifferLemmas
+pub mod TaskedLemmas

@@ -4,3 +4,4 @@ pub mod Loads
 pub mod Shelves
 pub mod Entries
 pub mod Makings
+pub mod Endings

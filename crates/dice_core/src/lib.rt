@@ -4,6 +4,7 @@
 mod desk;
 mod make;
 mod shelf;
+mod end;
 mod task;
 mod value;
 
