@@ -1,3 +1,5 @@
+pub mod Desks
+pub mod Laid
 pub mod Lists
 pub mod Parts
 pub mod Tasks

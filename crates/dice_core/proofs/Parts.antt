@@ -1,5 +1,7 @@
 -- A list of things whose places are distinct, the first r of which are one part, and the others another.
-use Rattle.std.proofs.Common.{◌≡◌, ◌⊎◌, inl, inr, ℕ, zero, suc, ◌+◌, ◌-◌, ◌<◌, ◌≤◌, Bool, true, false, List, [], ◌∷◌, ◌++◌, length, map, take, drop, set, get_or, slice_get, Some, refl, sym, ap, ◌∙◌, subst, arith, length-append}
+use Rattle.std.proofs.Common.{◌≡◌, ◌⊎◌, inl, inr, ℕ, zero, suc, ◌+◌, ◌-◌, ◌<◌, ◌≤◌, Bool, true, false, List, [], ◌∷◌, ◌++◌, length, map, take, drop, set, get_or, slice_get, Option, Some, None, refl, sym, ap, ◌∙◌, subst, arith, length-append}
+use Rattle.std.specs.Prelude.{IfSome, IfNone}
+use Rattle.std.specs.Option.{is_some}
 use Rattle.std.specs.List.{swap, swap_remove, IsDistinct, AllByRecursion, Contains, list_any, position}
 use Rattle.std.specs.List.Sorted.{IsPermutation}
 use Rattle.std.proofs.lemmas.Bool.{false≢true, true≢false, or_left, or_right, cases_lt}
@@ -39,17 +41,17 @@ module _ {X Y : Type 0} (f : X → Y) where
   same_places xs ys p = same_order (map f xs) (map f ys) (IsPermutation-map f xs ys p)
 
   -- the whole by its two parts
-  parts : (r : ℕ) (xs : List X) → map f (take r xs) ++ map f (drop r xs) ≡ map f xs
+  pub parts : (r : ℕ) (xs : List X) → map f (take r xs) ++ map f (drop r xs) ≡ map f xs
   parts r xs = sym (map-append f (take r xs) (drop r xs)) ∙ ap (map f) (take-append-drop r xs)
 
-  -- things that are apart by a test that says yes to things of one place have distinct places
+  -- things that are apart by a test that says says to things of one place have distinct places
   pub distinct_places : (e : X → X → Bool) → ((x y : X) → f x ≡ f y → e x y ≡ true) → (xs : List X) → IsDistinct e xs → AreDistinct (map f xs)
-  distinct_places e yes [] d = tt
-  distinct_places e yes (x ∷ xs) d = (λ h. clash xs (IsDistinct-head e x xs d) h, distinct_places e yes xs (IsDistinct-tail e x xs d))
+  distinct_places e says [] d = tt
+  distinct_places e says (x ∷ xs) d = (λ h. clash xs (IsDistinct-head e x xs d) h, distinct_places e says xs (IsDistinct-tail e x xs d))
     where
       clash : (ys : List X) → AllByRecursion (λ y. e x y ≡ false) ys → Has (map f ys) (f x) → ⊥
       clash [] a h = h
-      clash (y ∷ ys) a (inl q) = false≢true (sym a.0 ∙ yes x y (sym q))
+      clash (y ∷ ys) a (inl q) = false≢true (sym a.0 ∙ says x y (sym q))
       clash (y ∷ ys) a (inr h) = clash ys a.1 h
 
   -- the first r + 1 after the exchange of the i-th and the r-th
@@ -72,9 +74,9 @@ module _ {X Y : Type 0} (f : X → Y) where
 
   -- where no thing passes a test that says yes to each thing of a place, none has that place
   pub none_there : (t : X → Bool) (p : Y) → ((x : X) → f x ≡ p → t x ≡ true) → (xs : List X) → list_any t xs ≡ false → Has (map f xs) p → ⊥
-  none_there t p yes [] n h = h
-  none_there t p yes (x ∷ xs) n (inl q) = true≢false (sym (or_left (t x) (list_any t xs) (yes x q)) ∙ n)
-  none_there t p yes (x ∷ xs) n (inr h) = none_there t p yes xs (by_cases (list_any t xs) refl) h
+  none_there t p says [] n h = h
+  none_there t p says (x ∷ xs) n (inl q) = true≢false (sym (or_left (t x) (list_any t xs) (says x q)) ∙ n)
+  none_there t p says (x ∷ xs) n (inr h) = none_there t p says xs (by_cases (list_any t xs) refl) h
     where
       by_cases : (b : Bool) → list_any t xs ≡ b → list_any t xs ≡ false
       by_cases true q = absurd (true≢false (sym (or_right (t x) (list_any t xs) q) ∙ n))
@@ -149,3 +151,25 @@ module _ {X Y : Type 0} (f : X → Y) where
       let rest : map f (drop r xs) ≡ p ∷ map f (drop (r + 1) xs) = ap (map f) (drop_more xs r d l) in
       let whole : (map f (take r xs) ++ p ∷ []) ++ map f (drop (r + 1) xs) ≡ map f xs = ap (λ l. l ++ map f (drop (r + 1) xs)) (sym front) ∙ parts (r + 1) xs in
       (front, rw rest (goes_over (map f (take r xs)) (map f (drop (r + 1) xs)) p (subst AreDistinct (sym whole) u)))
+
+  -- the index that a search by a test of a place gives
+  pub index_some : (t : X → Bool) (p : Y) → ((x : X) → t x ≡ true → f x ≡ p) → (xs : List X) (o : Option ℕ) → o ≡ position t xs → IfSome o (λ i. i < length xs) → IfSome o (λ i. (x : X) × (slice_get xs i ≡ Some x) × (f x ≡ p))
+  index_some t p means xs None e w = tt
+  index_some t p means xs (Some i) e w = found_there t p means xs i w (sym e)
+
+  pub index_none : (t : X → Bool) (p : Y) → ((x : X) → f x ≡ p → t x ≡ true) → (xs : List X) (o : Option ℕ) → is_some o ≡ list_any t xs → IfNone o (Has (map f xs) p → ⊥)
+  index_none t p says xs None e = λ h. none_there t p says xs (sym e) h
+  index_none t p says xs (Some i) e = tt
+
+  -- what stands in the first part has an index there
+  pub stands_before : (xs : List X) (r i : ℕ) (d : X) → i < length xs → AreDistinct (map f xs) → Has (map f (take r xs)) (f (get_or xs i d)) → i < r
+  stands_before xs r i d l u h = elim (cases_lt i r) [
+    inl q ↦ q
+    | inr b ↦ absurd (apart (map f (take r xs)) (map f (drop r xs)) (f (get_or xs i d)) (subst AreDistinct (sym (parts r xs)) u) h (has_later xs r i d b l)) ]
+    where
+      has_later : (ys : List X) (n j : ℕ) (x : X) → n ≤ j → j < length ys → Has (map f (drop n ys)) (f (get_or ys j x))
+      has_later [] n j x b m = absurd (omega arith)
+      has_later (y ∷ ys) zero zero x b m = inl refl
+      has_later (y ∷ ys) (suc n) zero x b m = absurd (omega arith)
+      has_later (y ∷ ys) zero (suc j) x b m = inr (has_later ys zero j x (omega arith) (omega arith))
+      has_later (y ∷ ys) (suc n) (suc j) x b m = has_later ys n j x (omega arith) (omega arith)

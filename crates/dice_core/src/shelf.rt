@@ -1,6 +1,8 @@
 //! Tasks that are ready or out, in one set: the ready ones first.
-ghost use Rattle.std.specs.Prelude.{◌≡◌, ◌<◌, ◌≤◌, ◌+◌, ◌^◌, ◌++◌, [], ◌∷◌, ℕ, length, map, slice_get, Some, IfSome, IfNone};
+ghost use Rattle.std.specs.Prelude.{◌≡◌, ◌<◌, ◌≤◌, ◌+◌, ◌^◌, ◌++◌, ◌&&◌, nat_eq, [], ◌∷◌, ℕ, length, map, slice_get, Some, IfSome, IfNone};
 ghost use Rattle.std.specs.Arc.{arc_value};
+ghost use Rattle.std.specs.Cmp.{unsigned_Decides, first_so, second_so};
+ghost use Rattle.std.specs.Hash as fed;
 ghost use Rattle.indexmap.specs.IndexSet.{spare};
 ghost use Rattle.dice_model.specs.Log.{Has, AreDistinct};
 ghost use Rattle.core_laws.specs.Desk.{Loses};
@@ -21,11 +23,11 @@ pub(crate) struct ReadyTask<K> {
 }
 
 impl<K: Eq + Hash> Equivalent<ReadyTask<K>> for (u64, &Arc<K>) {
-    ghost equivalent = { λ q. ⟦<ReadyTask<K> as PartialEq>⟧.eq (record { version = q.0; key = q.1.now }) };
+    ghost equivalent = { λ q x. nat_eq q.0 x.version && K.eq (arc_value q.1.now) (arc_value x.key) };
 
-    ghost respects_hash = { λ q. ⟦<ReadyTask<K> as Hash>⟧.respects_eq (record { version = q.0; key = q.1.now }) };
+    ghost respects_hash = { λ q x h i. fed.u64 ((unsigned_Decides q.0 x.version).0 (first_so (nat_eq q.0 x.version) (K.eq (arc_value q.1.now) (arc_value x.key)) h) i) ++ K.respects_eq (arc_value q.1.now) (arc_value x.key) (second_so (nat_eq q.0 x.version) (K.eq (arc_value q.1.now) (arc_value x.key)) h) i };
 
-    ghost respects_eq = { λ q. ⟦<ReadyTask<K> as Eq>⟧.laws.congr (record { version = q.0; key = q.1.now }) };
+    ghost respects_eq = { λ q x y h i. nat_eq ((unsigned_Decides q.0 x.version).0 (first_so (nat_eq q.0 x.version) (K.eq (arc_value q.1.now) (arc_value x.key)) h) i) y.version && K.Eq.laws.congr (arc_value q.1.now) (arc_value x.key) (arc_value y.key) (second_so (nat_eq q.0 x.version) (K.eq (arc_value q.1.now) (arc_value x.key)) h) i };
 
     fn equivalent(&self, task: &ReadyTask<K>) -> bool {
         self.0 == task.version && *self.1 == task.key
