@@ -5,3 +5,10 @@ pub mod Parts
 pub mod Tasks
 pub mod LooksLemmas
 pub mod EntriesLemmas
+pub mod EndsLemmas
+pub mod CascadeLemmas
+pub mod EndedLemmas
+pub mod TellLemmas
+pub mod AllLemmas
+pub mod DifferLemmas
+pub mod WaitLemmas

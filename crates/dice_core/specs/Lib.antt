@@ -3,3 +3,5 @@ pub mod Hands
 pub mod Loads
 pub mod Shelves
 pub mod Entries
+pub mod Endings
+pub mod Waitings

@@ -1,9 +1,13 @@
 //! The core of an engine: one event machine without threads.
 #![tactic(auto)]
 
+mod anew;
 mod desk;
+mod end;
+mod shelf;
 mod task;
 mod value;
+mod wait;
 
 /// The tasks of one version.
 pub(crate) type Tasks<U> = task_share::Table<<U as dice_key::Universe>::Key, crate::task::Task<U>>;
