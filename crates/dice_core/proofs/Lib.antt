@@ -12,3 +12,6 @@ pub mod TellLemmas
 pub mod AllLemmas
 pub mod DifferLemmas
 pub mod WaitLemmas
+pub mod TakeLemmas
+pub mod ParkLemmas
+pub mod WakeLemmas

@@ -29,6 +29,11 @@ pub record Wakes (K V : Type 0) : Type 0 where
   pub place : ℕ × K
   pub ahead : Ahead K V
 
+module _ {K : Type 0} (eq : K → K → Bool) where
+  -- one of these waits is this asker's, for this key
+  abbrev pub waits_so : List (WaitOf K) → K → By K → Bool
+  waits_so xs q a = list_any (λ x. eq x.key q && is_by eq (Tasked x.asker) a) xs
+
 module _ {K V : Type 0} (eq : K → K → Bool) where
   -- the task of k, which was h, is g now; which tasks are at work, and all else in the table, stays
   pub record IsTurned (k : K) (h g : Held K V) (ps qs : List (K × Share K (Held K V))) : Type 0 where
@@ -59,10 +64,6 @@ module _ {K V : Type 0} (eq : K → K → Bool) where
     pub alike : (x y : WaitOf K) → Has xs x → Has xs y → x.asker ≡ y.asker
     pub askers : (x : WaitOf K) → Has xs x → (asks eq ps x.key (Tasked x.asker) ≡ true) ⊎ (0 < asker_room eq ps x.key)
     pub waits : (x : WaitOf K) → Has xs x → length xs ≤ wait_room eq ps x.asker
-
-  -- one of these waits is this asker's, for this key
-  abbrev pub waits_so : List (WaitOf K) → K → By K → Bool
-  waits_so xs q a = list_any (λ x. eq x.key q && is_by eq (Tasked x.asker) a) xs
 
   -- the task of k at v, which was out with the job of p, waits for the keys of p, and these waits are asks now
   pub record ParksJob (v : ℕ) (k : K) (p : Waits K V) (xs : List (WaitOf K)) (ps qs : List (K × Share K (Held K V))) (d e : DeskSeen K V) : Type 0 where
@@ -102,6 +103,11 @@ module _ {K V : Type 0} (eq : K → K → Bool) where
   -- these are exactly the tasks of version v that wait for the key k alone, whose task has ended with a value
   pub record MayWake (m : Meaning K V) (R : List (Told K V)) (v : ℕ) (k : K) (ys : List (Wakes K V)) (ps : List (K × Share K (Held K V))) : Type 0 where
     pub each : (y : Wakes K V) → Has ys y → IsWoken m R v k y ps
-    pub distinct : AreDistinct (map (λ y. y.place.1) ys)
+    pub distinct : AreDistinct (map (λ (y : Wakes K V). y.place.1) ys)
     pub others : (j : K) → asks eq ps k (Tasked j) ≡ true → ((y : Wakes K V) × Has ys y × (y.place.1 ≡ j)) ⊎ ((q : K) × (eq k q ≡ false) × (asks eq ps q (Tasked j) ≡ true))
+    pub value : (x : V) × (value_of (tasks_of eq ps k) ≡ Some x)
+
+  -- whoever waits for the key k, whose task has ended with a value, waits for another key too
+  pub record WaitsOn (k : K) (ps : List (K × Share K (Held K V))) : Type 0 where
+    pub others : (j : K) → asks eq ps k (Tasked j) ≡ true → (q : K) × (eq k q ≡ false) × (asks eq ps q (Tasked j) ≡ true)
     pub value : (x : V) × (value_of (tasks_of eq ps k) ≡ Some x)
