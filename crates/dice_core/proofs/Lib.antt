@@ -15,3 +15,4 @@ pub mod WaitLemmas
 pub mod TakeLemmas
 pub mod ParkLemmas
 pub mod WakeLemmas
+pub mod BackLemmas

@@ -22,20 +22,27 @@ use Rattle.dice_core.proofs.Lists.{distinct_left, apart, has_left, has_right}
 use Rattle.dice_core.proofs.EndsLemmas.{puts_of, same_tasks, same_table}
 use Rattle.dice_core.proofs.WaitLemmas.{works_on}
 
+-- the asks of the one that is taken away, where it asked for this key alone
+none_other : (a b c : Bool) → (a ≡ true → b ≡ true) → c ≡ true → (a && not (b && c)) ≡ false
+none_other true true true f e = refl
+none_other true false c f e = let x : false ≡ true = f refl in cc
+none_other false b c f e = refl
+none_other true true false f e = let x : false ≡ true = e in cc
+
+-- an ask that is not taken away
+still_asked : (a b c : Bool) → a ≡ true → b ≡ false → (a && not (b && c)) ≡ true
+still_asked true false c e f = refl
+still_asked true true c e f = let x : true ≡ false = f in cc
+still_asked false b c e f = let x : false ≡ true = e in cc
+
+module _ {K V : Type 0} where
+  -- the keys of tasks that go on
+  place_there : (zs : List (Wakes K V)) (x : Wakes K V) → Has zs x → Has (map (λ (z : Wakes K V). z.place.1) zs) x.place.1
+  place_there [] x h = h
+  place_there (z ∷ zs) x (inl q) = inl (ap (λ (t : Wakes K V). t.place.1) q)
+  place_there (z ∷ zs) x (inr h) = inr (place_there zs x h)
+
 module _ {K V : Type 0} (eq : K → K → Bool) (equality : IsEquality eq) where
-  -- the asks of the one that is taken away, where it asked for this key alone
-  none_other : (a b c : Bool) → (a ≡ true → b ≡ true) → c ≡ true → (a && not (b && c)) ≡ false
-  none_other true true true f e = refl
-  none_other true false c f e = let x : false ≡ true = f refl in cc
-  none_other false b c f e = refl
-  none_other true true false f e = let x : false ≡ true = e in cc
-
-  -- an ask that is not taken away
-  still_asked : (a b c : Bool) → a ≡ true → b ≡ false → (a && not (b && c)) ≡ true
-  still_asked true false c e f = refl
-  still_asked true true c e f = let x : true ≡ false = f in cc
-  still_asked false b c e f = let x : false ≡ true = e in cc
-
   -- the task was written as ready after its ask was taken away
   pub wakes_so : (k : K) (y : Wakes K V) (h : Held K V) (ps rs qs : List (K × Share K (Held K V))) (d e : DeskSeen K V) → KeepsTasks eq ps rs → ((q : K) (a : By K) → asks eq rs q a ≡ (asks eq ps q a && not (eq k q && is_by eq (Tasked y.place.1) a)))
       → IsTurned eq y.place.1 h (held_of y.ahead.job IsReady) rs qs → Readies y.place d e → WakesOne eq k y ps qs d e
@@ -96,7 +103,7 @@ module _ {K V : Type 0} (eq : K → K → Bool) (equality : IsEquality eq) where
         only = λ q on. i.only q (both_parts (asks eq ps q (Tasked x.place.1)) (not (eq k q && eq y.place.1 x.place.1)) (sym (one.asks q (Tasked x.place.1)) ∙ on)).0;
         truly = i.truly;
       });
-      distinct = distinct_left (map (λ z. z.place.1) xs) (y.place.1 ∷ []) apart_all;
+      distinct = distinct_left (map (λ (z : Wakes K V). z.place.1) xs) (y.place.1 ∷ []) apart_all;
       others = others;
       value = (may.value.0, kept_value ∙ may.value.1);
     }
@@ -107,20 +114,15 @@ module _ {K V : Type 0} (eq : K → K → Bool) (equality : IsEquality eq) where
         still : (x : Wakes K V) → Has xs x → Has ys x
         still x h = subst (λ z. Has z x) (sym split) (has_left xs (y ∷ []) x h)
 
-        apart_all : AreDistinct (map (λ z. z.place.1) xs ++ y.place.1 ∷ [])
-        apart_all = subst AreDistinct (ap (map (λ z. z.place.1)) split ∙ map-append (λ z. z.place.1) xs (y ∷ [])) may.distinct
-
-        place_there : (zs : List (Wakes K V)) (x : Wakes K V) → Has zs x → Has (map (λ z. z.place.1) zs) x.place.1
-        place_there [] x h = h
-        place_there (z ∷ zs) x (inl q) = inl (ap (λ (t : Wakes K V). t.place.1) q)
-        place_there (z ∷ zs) x (inr h) = inr (place_there zs x h)
+        apart_all : AreDistinct (map (λ (z : Wakes K V). z.place.1) xs ++ y.place.1 ∷ [])
+        apart_all = subst AreDistinct (ap (map (λ (z : Wakes K V). z.place.1)) split ∙ map-append (λ (z : Wakes K V). z.place.1) xs (y ∷ [])) may.distinct
 
         other : (x : Wakes K V) → Has xs x → eq y.place.1 x.place.1 ≡ false
         other x h = by_test (eq y.place.1 x.place.1) refl
           where
             by_test : (c : Bool) → eq y.place.1 x.place.1 ≡ c → c ≡ false
             by_test false q = refl
-            by_test true q = absurd (apart (map (λ z. z.place.1) xs) (y.place.1 ∷ []) x.place.1 apart_all (place_there xs x h) (inl (equality.same y.place.1 x.place.1 q)))
+            by_test true q = absurd (apart (map (λ (z : Wakes K V). z.place.1) xs) (y.place.1 ∷ []) x.place.1 apart_all (place_there xs x h) (inl (equality.same y.place.1 x.place.1 q)))
 
         kept_value : value_of (tasks_of eq qs k) ≡ value_of (tasks_of eq ps k)
         kept_value = ap (λ (z : Option (Held K V)). value_of (option_map task_of z)) (one.tasks k) ∙ by_test (eq y.place.1 k) refl

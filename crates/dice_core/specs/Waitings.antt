@@ -70,7 +70,7 @@ module _ {K V : Type 0} (eq : K → K → Bool) where
     pub was : task_at eq ps k ≡ Some (held_of p.job IsOut)
     pub tasks : (q : K) → task_at eq qs q ≡ cond (eq k q) (Some (held_of p.job (IsWaiting p.keys))) (task_at eq ps q)
     pub live : (q : K) → is_live eq qs q ≡ is_live eq ps q
-    pub asks : (q : K) (a : By K) → asks eq qs q a ≡ (asks eq ps q a || waits_so xs q a)
+    pub asks : (q : K) (a : By K) → asks eq qs q a ≡ (asks eq ps q a || waits_so eq xs q a)
     pub desk : Leaves (v, k) d e
 
   -- the task of k at v, which is out, may come to wait so: the keys of p are its next batch; it waits for some of them, whose tasks are at work and do

@@ -8,6 +8,7 @@ mod shelf;
 mod task;
 mod value;
 mod wait;
+mod wake;
 
 /// The tasks of one version.
 pub(crate) type Tasks<U> = task_share::Table<<U as dice_key::Universe>::Key, crate::task::Task<U>>;

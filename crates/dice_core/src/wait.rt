@@ -134,7 +134,7 @@ fn add_waits<U: Universe>(tasks: &mut Tasks<U>, waits: Vec<Wait<U::Key>>)
 {
     laws_of::<U>();
     let mut rest = waits;
-    'waits: while let Some(wait) = rest.pop() {
+    'each: while let Some(wait) = rest.pop() {
         tasks.add_wait(wait);
     }
 }

@@ -7,11 +7,11 @@ pub each-init : goal.each-init
 each-init g c = record { room = c.requires; tasks = record { tasks = λ q. refl; live = λ q. refl }; asked = λ q a. refl }
 
 pub add_wait-requires-clause-asker : goal.add_wait-requires-clause-asker
-add_wait-requires-clause-asker g c l o =
+add_wait-requires-clause-asker g c =
     fits_asker g.U.Key.PartialEq.eq c.laws_of.ensures.keys c.pop.new.self.items c.each.rest.items c.in-Some.wait (c.pop.ensures.items ∙ ap (λ r. c.pop.new.self.items ++ option_to_list r) c.in-Some.is) _ c.each.invariant.room
 
 pub add_wait-requires-clause-wait : goal.add_wait-requires-clause-wait
-add_wait-requires-clause-wait g c l o =
+add_wait-requires-clause-wait g c =
     fits_wait g.U.Key.PartialEq.eq c.laws_of.ensures.keys c.pop.new.self.items c.each.rest.items c.in-Some.wait (c.pop.ensures.items ∙ ap (λ r. c.pop.new.self.items ++ option_to_list r) c.in-Some.is) _ c.each.invariant.room
 
 pub each-preserved : goal.each-preserved
