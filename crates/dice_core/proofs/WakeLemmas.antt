@@ -15,7 +15,7 @@ use Rattle.core_laws.specs.Desk.{World, Desk, DeskTurns, Stand, AreAll, with_ver
 use Rattle.core_laws.proofs.Counts.{has_append}
 use Rattle.core_laws.proofs.Shapes.{both_parts}
 use Rattle.core_laws.proofs.StepsWaits.{released_ready_stand, released_on_stand, told_stand}
-use Rattle.dice_core.specs.Helds.{Held, task_of, held_of, doing}
+use Rattle.dice_core.specs.Helds.{Held, FollowsOn, task_of, held_of, doing}
 use Rattle.dice_core.specs.Hands.{DeskSeen, desk_of, tasks_of, seen_world, Readies, Working}
 use Rattle.dice_core.specs.Waitings.{IsTurned, Wakes, WakesOne, IsWoken, MayWake, WaitsOn}
 use Rattle.dice_core.proofs.Lists.{distinct_left, apart, has_left, has_right}
@@ -44,14 +44,18 @@ module _ {K V : Type 0} where
 
 module _ {K V : Type 0} (eq : K → K → Bool) (equality : IsEquality eq) where
   -- the task was written as ready after its ask was taken away
-  pub wakes_so : (k : K) (y : Wakes K V) (h : Held K V) (ps rs qs : List (K × Share K (Held K V))) (d e : DeskSeen K V) → KeepsTasks eq ps rs → ((q : K) (a : By K) → asks eq rs q a ≡ (asks eq ps q a && not (eq k q && is_by eq (Tasked y.place.1) a)))
+  pub wakes_so : (k : K) (y : Wakes K V) (h : Held K V) (ps rs qs : List (K × Share K (Held K V))) (d e : DeskSeen K V) → KeepsTasks eq ps rs → (b : By K) → b ≡ Tasked y.place.1 → ((q : K) (a : By K) → asks eq rs q a ≡ (asks eq ps q a && not (eq k q && is_by eq b a)))
       → IsTurned eq y.place.1 h (held_of y.ahead.job IsReady) rs qs → Readies y.place d e → WakesOne eq k y ps qs d e
-  wakes_so k y h ps rs qs d e kept left turned readies = record {
+  wakes_so k y h ps rs qs d e kept b own left turned readies = record {
     tasks = λ q. turned.tasks q ∙ ap (λ (z : Option (Held K V)). cond (eq y.place.1 q) (Some (held_of y.ahead.job IsReady)) z) (kept.tasks q);
     live = λ q. turned.live q ∙ kept.live q;
-    asks = λ q a. turned.asks q a ∙ left q a;
+    asks = λ q a. turned.asks q a ∙ (left q a ∙ ap (λ (x : By K). asks eq ps q a && not (eq k q && is_by eq x a)) own);
     desk = readies;
   }
+
+  -- the task still waits where an ask was taken away
+  pub waits_still : (y z : Wakes K V) → z ≡ y → (ps rs : List (K × Share K (Held K V))) → KeepsTasks eq ps rs → (h : Held K V) × (task_at eq ps y.place.1 ≡ Some h) × FollowsOn h y.ahead → (h : Held K V) × (task_at eq rs z.place.1 ≡ Some h) × FollowsOn h z.ahead
+  waits_still y z e ps rs kept r = subst (λ (x : Wakes K V). (h : Held K V) × (task_at eq rs x.place.1 ≡ Some h) × FollowsOn h x.ahead) (sym e) (r.0, kept.tasks y.place.1 ∙ r.1, r.2)
 
   module _ (m : Meaning K V) (law : IsLawful m) (k : K) (y : Wakes K V) (ps qs : List (K × Share K (Held K V))) (d e : DeskSeen K V) (one : WakesOne eq k y ps qs d e) where
     wakes_here : (u : ℕ) → IsWoken eq m (reverse d.events) u k y ps → (W : List K) (w : World K V) (owed : ℕ) → Working eq m y.place.0 W w owed ps d → Working eq m y.place.0 W w owed qs e

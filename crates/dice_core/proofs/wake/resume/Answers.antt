@@ -6,7 +6,7 @@ use Rattle.dice_core.proofs.WaitLemmas.{turned_by}
 use Rattle.dice_core.proofs.wake.resume.Goals as goal
 
 pub resume-requires : goal.resume-requires
-resume-requires g c l o =
+resume-requires g c =
     let r = c.requires in
     let s : r.0 ≡ c.in-Some.task.now = (let i = c.in-Some.ensures.value in let j = r.1 in cc) in
     subst (λ h. FollowsOn h c.args.next) s r.2
