@@ -6,7 +6,7 @@ use Rattle.dice_core.proofs.WaitLemmas.{takes_on}
 use Rattle.dice_core.proofs.wait.take.Goals as goal
 
 pub take_job-requires : goal.take_job-requires
-take_job-requires g c l o =
+take_job-requires g c =
     let r = c.requires in
     let n = c.in-Some.ensures.some in
     next_ready_is g.U.Key.PartialEq.eq g.U.Universe.meaning r.0 r.1 [] r.3 r.4 _ _ r.6 r.2 r.5 n.0 (place_of c.in-Some.ready.now) n.1
