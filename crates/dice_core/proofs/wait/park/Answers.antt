@@ -5,8 +5,8 @@ use Rattle.dice_core.proofs.WaitLemmas.{turned_by, parks_on}
 use Rattle.dice_core.proofs.ParkLemmas.{room_same, parks_so}
 use Rattle.dice_core.proofs.wait.park.Goals as goal
 
-pub add_waits-requires : goal.add_waits-requires
-add_waits-requires g c =
+pub add_waits-requires-after_bounds : goal.add_waits-requires-after_bounds
+add_waits-requires-after_bounds g c κs within =
     let t = turned_by g.U.Key.PartialEq.eq c.laws_of.ensures.keys (arc_value c.args.key.now) (held_of c.args.parked.job IsOut) (held_of c.args.parked.job (IsWaiting c.args.parked.keys)) c.park.new.self c.args.tasks.now (c.task_mut.follows.lender c.park.new.self) c.requires.out c.park.ensures (rw c.in-Some.is at (c.task_mut.follows.holds c.park.new.self)) in
     room_same g.U.Key.PartialEq.eq c.laws_of.ensures.keys c.args.waits.items _ _ c.requires.room t.asks t.room
 

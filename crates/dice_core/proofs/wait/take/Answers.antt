@@ -5,8 +5,8 @@ use Rattle.dice_core.proofs.TakeLemmas.{next_ready_is, takes_so, some_last}
 use Rattle.dice_core.proofs.WaitLemmas.{takes_on}
 use Rattle.dice_core.proofs.wait.take.Goals as goal
 
-pub take_job-requires : goal.take_job-requires
-take_job-requires g c =
+pub take_job-requires-after_bounds : goal.take_job-requires-after_bounds
+take_job-requires-after_bounds g c κs within =
     let r = c.requires in
     let n = c.in-Some.ensures.some in
     next_ready_is g.U.Key.PartialEq.eq g.U.Universe.meaning r.0 r.1 [] r.3 r.4 _ _ r.6 r.2 r.5 n.0 (place_of c.in-Some.ready.now) n.1

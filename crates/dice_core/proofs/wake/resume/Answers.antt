@@ -5,8 +5,8 @@ use Rattle.std.proofs.Common.{◌≡◌, subst}
 use Rattle.dice_core.proofs.WaitLemmas.{turned_by}
 use Rattle.dice_core.proofs.wake.resume.Goals as goal
 
-pub resume-requires : goal.resume-requires
-resume-requires g c =
+pub resume-requires-after_bounds : goal.resume-requires-after_bounds
+resume-requires-after_bounds g c κs within =
     let r = c.requires in
     let s : r.0 ≡ c.in-Some.task.now = (let i = c.in-Some.ensures.value in let j = r.1 in cc) in
     subst (λ h. FollowsOn h c.args.next) s r.2
