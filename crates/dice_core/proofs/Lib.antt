@@ -14,3 +14,8 @@ pub mod TellLemmas
 pub mod AllLemmas
 pub mod DifferLemmas
 pub mod TaskedLemmas
+pub mod WaitLemmas
+pub mod TakeLemmas
+pub mod ParkLemmas
+pub mod WakeLemmas
+pub mod BackLemmas

@@ -5,3 +5,4 @@ pub mod Shelves
 pub mod Entries
 pub mod Makings
 pub mod Endings
+pub mod Waitings
