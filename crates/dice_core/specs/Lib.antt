@@ -1,8 +1,10 @@
-pub mod Helds
-pub mod Hands
-pub mod Loads
-pub mod Shelves
-pub mod Entries
-pub mod Makings
+pub mod Commits
 pub mod Endings
+pub mod Entries
+pub mod Hands
+pub mod Helds
+pub mod Loads
+pub mod Makings
+pub mod Sessions
+pub mod Shelves
 pub mod Waitings

@@ -2,10 +2,12 @@
 #![tactic(auto)]
 
 mod anew;
+mod commit;
 mod desk;
-mod make;
-mod shelf;
 mod end;
+mod make;
+mod sessions;
+mod shelf;
 mod task;
 mod value;
 mod wait;

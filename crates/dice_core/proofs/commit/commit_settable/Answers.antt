@@ -1,0 +1,28 @@
+-- The changes that differ are set, and their event is written.
+use Rattle.std.proofs.Common.{◌≡◌, ◌<◌, ◌+◌, ◌++◌, ◌∷◌, [], length, ap, sym, subst, ◌∙◌, arith}
+use Rattle.std.specs.Map.{keys_of}
+use Rattle.std.proofs.lemmas.List.{length-map}
+use Rattle.dice_model.specs.Log.{AreDistinct, pair_of, pairs_of}
+use Rattle.journal.specs.declared.event.Told.TheVariants.{Commit}
+use Rattle.dice_core.specs.Commits.{differs, differing_of}
+use Rattle.dice_core.proofs.CommitLaws.{distinct_left, not_empty, committed}
+use Rattle.dice_core.proofs.commit.commit_settable.Goals as goal
+
+pub set_cells-requires-clause-distinct : goal.set_cells-requires-clause-distinct
+set_cells-requires-clause-distinct g c κs within =
+    let test = differs g.U.Key.PartialEq.eq g.U.Value.PartialEq.eq g.U.Universe.meaning c.args.cells.now in
+    let same = c.in_ok-sets.ensures ∙ (ap pairs_of c.deref-2.ensures.value ∙ c.in_ok-differing.ensures) in
+    subst (λ q. AreDistinct (keys_of q)) (sym same) (distinct_left test (pairs_of c.args.changes.now) c.requires.settable.distinct)
+
+pub returns-clause-ok : goal.returns-clause-ok
+returns-clause-ok g c =
+    let left = differing_of g.U.Key.PartialEq.eq g.U.Value.PartialEq.eq g.U.Universe.meaning c.args.cells.now (pairs_of c.args.changes.now) in
+    let ps = c.in_ok-differing.differing in
+    let same = c.in_ok-sets.ensures ∙ (ap pairs_of c.deref-2.ensures.value ∙ c.in_ok-differing.ensures) in
+    let more : 0 < ps.len = not_empty c.is_empty.result ps.len c.is_empty.ensures c.if-is_empty.false in
+    let many : length (pairs_of ps.items) ≡ length left = ap length c.in_ok-differing.ensures in
+    let some : 0 < length left = omega (arith, ps.ok.0, length-map ps.items pair_of, many, more) in
+    let H = c.reserve.new.self.events in
+    committed g.U.Key.PartialEq.eq c.args.by left (pairs_of c.in_ok-sets.sets.items) c.args.cells.now c.reserve_cells.new.cells c.set_cells.new.cells c.args.journal.now.events H c.push_reserved.new.self.events
+    (c.last-version.result + 1) some same (ap (λ n. n + 1) c.last-version.ensures.last) c.reserve_cells.ensures.sets c.set_cells.ensures.sets c.set_cells.ensures.last c.reserve.ensures.same
+    (c.push_reserved.ensures.events ∙ ap (λ q. H ++ Commit c.args.by q ∷ []) (c.from_pairs.ensures ∙ c.in_ok-differing.ensures))

@@ -1,0 +1,224 @@
+//! Commits.
+ghost use Rattle.std.specs.Prelude.{◌≡◌, ◌<◌, ◌≤◌, ℕ, suc, not, true, List, [], ◌++◌, ◌∷◌, if◌then◌else◌, length, map, reverse, IfOk, IfErr, OnOk, OnErr, IfSome, MatchResult};
+ghost use Rattle.std.specs.Arc.{arc_value};
+ghost use Rattle.std.specs.List.{AllByRecursion, list_any};
+ghost use Rattle.std.specs.Map.{keys_of};
+ghost use Rattle.dice_model.specs.Log.{AreDistinct, pairs_of};
+ghost use Rattle.injected.specs.Inputs.{AreOf};
+ghost use Rattle.journal.specs.Law.{IsAllowed, IsLawfulJournal};
+ghost use Rattle.dice_core.specs.Commits.{Fault, fault_of, AreSettable, IsFirstFault, differing_of, HaveRoom, SameSets, AreSet, event_of, Commits, IsAsBefore, CellsStand};
+
+use dice_key::{KeyRef, Kind, NoMemory, Universe, ValueRef, Version, laws_of};
+use injected::{Cells, cells_are_the_inputs, cells_in_order};
+use journal::{Changes, Event, Journal};
+use std::alloc::Global;
+use std::collections::HashSet;
+use std::hash::Hash;
+use std::sync::Arc;
+use versioned_graph::Graph;
+
+/// Why a commit is refused.
+#[derive(Drop)]
+pub enum CommitRefusal<'a, U: Universe> {
+    /// This key is not injected.
+    NotInjected(&'a KeyRef<U>),
+    /// This key stands in an earlier pair.
+    Twice(&'a KeyRef<U>),
+    /// Memory was refused.
+    NoMemory,
+}
+
+/// Tests changes in order: each key has to be injected, and to stand in no earlier pair. The first that fails is named.
+pub(crate) fn check_changes<'a, U: Universe>(
+    alloc: Global,
+    universe: &U,
+    changes: &'a [(KeyRef<U>, ValueRef<U>)],
+) -> Result<(), CommitRefusal<'a, U>>
+    ensures ok { OnOk result (AreSettable U.meaning (keys_of (pairs_of changes.now))) }
+    ensures fault { IfErr result (λ e. IfSome (fault_of e) (IsFirstFault U.meaning (keys_of (pairs_of changes.now)))) }
+    ensures first { (f : Fault U.Key) → IsFirstFault U.meaning (keys_of (pairs_of changes.now)) f → MatchResult result (λ _. ⊥) (λ e. IfSome (fault_of e) (λ g. g ≡ f)) }
+{
+    laws_of::<U>();
+    let mut seen = HashSet::new(alloc);
+    for (key, _) in changes {
+        match universe.kind(key) {
+            Kind::Injected => {}
+            _ => return Err(CommitRefusal::NotInjected(key)),
+        }
+        match note(&mut seen, key) {
+            Ok(true) => {}
+            Ok(false) => return Err(CommitRefusal::Twice(key)),
+            Err(NoMemory) => return Err(CommitRefusal::NoMemory),
+        }
+    }
+    Ok(())
+}
+
+/// Adds a key to those that were seen; whether it is new there.
+fn note<K: Eq + Hash + Drop>(seen: &mut HashSet<Arc<K>>, key: &Arc<K>) -> Result<bool, NoMemory>
+    ensures added { IfOk result (λ is_new. is_new ≡ not (list_any (λ k. K.eq (arc_value key.now) (arc_value k)) seen.old.keys)) }
+    ensures seen { OnOk result ((q : K) → list_any (λ k. K.eq q (arc_value k)) seen.new.keys ≡ (if K.eq (arc_value key.now) q then true else list_any (λ k. K.eq q (arc_value k)) seen.old.keys)) }
+{
+    Ok(seen.insert(Arc::try_clone(key)?)?)
+}
+
+/// The changes whose value is not the key's newest one, in order, shared.
+pub(crate) fn differing<U: Universe>(
+    alloc: Global,
+    cells: &Cells<U>,
+    changes: &[(KeyRef<U>, ValueRef<U>)],
+) -> Result<Vec<(KeyRef<U>, ValueRef<U>)>, NoMemory>
+    ensures { IfOk result (λ cs. pairs_of cs.items ≡ differing_of U.Key.eq U.Value.eq U.meaning cells.now (pairs_of changes.now)) }
+{
+    let mut differing = Vec::new(alloc);
+    for (key, value) in changes {
+        if **cells.newest(key) != **value {
+            differing.push((Arc::try_clone(key)?, Arc::try_clone(value)?))?;
+        }
+    }
+    Ok(differing)
+}
+
+/// The same changes again, shared.
+fn copied_changes<K: Drop, V: Drop>(
+    alloc: Global,
+    changes: &[(Arc<K>, Arc<V>)],
+) -> Result<Vec<(Arc<K>, Arc<V>)>, NoMemory>
+    ensures { IfOk result (λ cs. pairs_of cs.items ≡ pairs_of changes.now) }
+{
+    let mut copies = Vec::with_capacity(alloc, changes.len())?;
+    for (key, value) in changes {
+        copies.push((Arc::try_clone(key)?, Arc::try_clone(value)?))?;
+    }
+    Ok(copies)
+}
+
+/// The keys of the changes, in order, shared.
+fn changed_keys<K: Drop, V>(
+    alloc: Global,
+    changes: &[(Arc<K>, Arc<V>)],
+) -> Result<Vec<Arc<K>>, NoMemory>
+    ensures { IfOk result (λ ks. map arc_value ks.items ≡ keys_of (pairs_of changes.now)) }
+{
+    let mut keys = Vec::with_capacity(alloc, changes.len())?;
+    for (key, _) in changes {
+        keys.push(Arc::try_clone(key)?)?;
+    }
+    Ok(keys)
+}
+
+/// Makes room for one set of each key; nothing that is seen changes, also where memory is refused.
+pub(crate) fn reserve_cells<U: Universe>(
+    cells: &mut Cells<U>,
+    changes: &[(KeyRef<U>, ValueRef<U>)],
+) -> Result<(), NoMemory>
+    ensures ok { OnOk result (HaveRoom U.Key.eq cells.new (pairs_of changes.now)) }
+    ensures sets { SameSets U.Key.eq cells.old cells.new }
+    ensures last { cells.new.last ≡ cells.old.last }
+{
+    laws_of::<U>();
+    for (key, _) in changes {
+        cells.reserve(Arc::try_clone(key)?)?;
+    }
+    Ok(())
+}
+
+/// Sets the changes at a version. It takes no memory.
+///
+/// So cells that were set as a log of commits says are set as that log with one more commit says.
+pub(crate) fn set_cells<U: Universe>(
+    cells: &mut Cells<U>,
+    version: Version,
+    changes: Vec<(KeyRef<U>, ValueRef<U>)>,
+)
+    requires room { HaveRoom U.Key.eq cells.old (pairs_of changes.items) }
+    requires distinct { AreDistinct (keys_of (pairs_of changes.items)) }
+    requires some { 0 < length (pairs_of changes.items) }
+    requires rises { cells.old.last < version }
+    ensures sets { AreSet U.Key.eq version (pairs_of changes.items) cells.old cells.new }
+    ensures last { cells.new.last ≡ version }
+    ensures are { (C : List (List (U.Key × U.Value))) → AreOf U.Key.eq C cells.old → version ≡ suc (length C) → AreOf U.Key.eq (C ++ pairs_of changes.items ∷ []) cells.new }
+{
+    laws_of::<U>();
+    cells_in_order(cells);
+    cells_are_the_inputs::<U>();
+    for (key, value) in changes {
+        cells.set(version, key, value).unwrap();
+    }
+}
+
+/// Commits the changes that differ, where all keys are injected and distinct. At an error all is as before.
+fn commit_settable<U: Universe>(
+    alloc: Global,
+    cells: &mut Cells<U>,
+    graph: &mut Graph<U>,
+    journal: &mut Journal<U>,
+    owed: usize,
+    by: u64,
+    changes: &[(KeyRef<U>, ValueRef<U>)],
+) -> Result<Version, NoMemory>
+    requires settable { AreSettable U.meaning (keys_of (pairs_of changes.now)) }
+    requires newest { cells.old.last < u64.MAX }
+    ensures version { IfOk result (λ v. v ≡ cells.new.last) }
+    ensures ok { OnOk result (Commits U.Key.eq by (differing_of U.Key.eq U.Value.eq U.meaning cells.old (pairs_of changes.now)) cells.old cells.new journal.old.events journal.new.events) }
+    ensures err { OnErr result (IsAsBefore U.Key.eq cells.old cells.new journal.old.events journal.new.events) }
+    ensures graph { graph.new ≡ graph.old }
+    ensures room { owed ≤ journal.old.spare → owed ≤ journal.new.spare }
+{
+    let differing = differing(alloc, cells, changes)?;
+    if differing.is_empty() {
+        return Ok(cells.last());
+    }
+    let version = cells.last() + 1;
+    let keys = changed_keys(alloc, &differing)?;
+    let sets = copied_changes(alloc, &differing)?;
+    let room = owed.checked_add(1).ok_or(NoMemory)?;
+    journal.reserve(room)?;
+    reserve_cells(cells, &sets)?;
+    graph.commit(&keys, version)?;
+    set_cells(cells, version, sets);
+    journal.push_reserved(Event::Commit(by, Changes::from_pairs(differing)));
+    Ok(version)
+}
+
+/// Commits the changes whose value is not the key's newest one: one event, and one version more; with none there is neither. The
+/// version is the newest one after it. At a refusal all is as before.
+///
+/// Room for `owed` more events stays, where it was there. It costs a look-up for each change.
+pub(crate) fn commit<'a, U: Universe>(
+    alloc: Global,
+    universe: &U,
+    cells: &mut Cells<U>,
+    graph: &mut Graph<U>,
+    journal: &mut Journal<U>,
+    owed: usize,
+    by: u64,
+    changes: &'a [(KeyRef<U>, ValueRef<U>)],
+) -> Result<Version, CommitRefusal<'a, U>>
+    requires { cells.old.last < u64.MAX }
+
+    // Faults of the changes.
+    ensures settable { OnOk result (AreSettable U.meaning (keys_of (pairs_of changes.now))) }
+    ensures fault { IfErr result (λ e. IfSome (fault_of e) (IsFirstFault U.meaning (keys_of (pairs_of changes.now)))) }
+    ensures first { (f : Fault U.Key) → IsFirstFault U.meaning (keys_of (pairs_of changes.now)) f → MatchResult result (λ _. ⊥) (λ e. IfSome (fault_of e) (λ g. g ≡ f)) }
+
+    // What is committed.
+    ensures version { IfOk result (λ v. v ≡ cells.new.last) }
+    ensures ok { OnOk result (Commits U.Key.eq by (differing_of U.Key.eq U.Value.eq U.meaning cells.old (pairs_of changes.now)) cells.old cells.new journal.old.events journal.new.events) }
+    ensures err { OnErr result (IsAsBefore U.Key.eq cells.old cells.new journal.old.events journal.new.events) }
+    ensures graph { graph.new ≡ graph.old }
+    ensures room { owed ≤ journal.old.spare → owed ≤ journal.new.spare }
+
+    // What is kept.
+    ensures kept { CellsStand U.Key.eq (reverse journal.old.events) cells.old → CellsStand U.Key.eq (reverse journal.new.events) cells.new }
+    ensures allowed { OnOk result (CellsStand U.Key.eq (reverse journal.old.events) cells.old → AllByRecursion (IsAllowed U.Key.eq U.meaning (reverse journal.old.events)) (event_of by (differing_of U.Key.eq U.Value.eq U.meaning cells.old (pairs_of changes.now)))) }
+    ensures lawful { CellsStand U.Key.eq (reverse journal.old.events) cells.old → IsLawfulJournal U.Key.eq U.meaning journal.old.events → IsLawfulJournal U.Key.eq U.meaning journal.new.events }
+{
+    laws_of::<U>();
+    cells_are_the_inputs::<U>();
+    check_changes(alloc, universe, changes)?;
+    match commit_settable(alloc, cells, graph, journal, owed, by, changes) {
+        Ok(version) => Ok(version),
+        Err(NoMemory) => Err(CommitRefusal::NoMemory),
+    }
+}
