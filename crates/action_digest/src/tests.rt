@@ -83,6 +83,19 @@ fn a_rule_is_found_in_its_package(rt: HostRuntime) -> Result<(), Fail> {
     Ok(())
 }
 
+/// The SHA-256 of the first row's action text, in hex.
+const ROW_DIGEST: &str = "72801cd249fb51131b7bbb93151ac0d3277ce1ef6febdf4fdc9f980dbb59266d";
+
+/// Whether the value is a digest that these hex digits write.
+fn is_digest(alloc: Global, value: &Value, text: &str) -> Result<bool, NoMemory> {
+    match DigestKey::read(value) {
+        Some(Ok(digest)) => Ok(
+            hex::encode(alloc, digest.as_slice())?.as_bytes() == text.as_bytes(),
+        ),
+        _ => Ok(false),
+    }
+}
+
 #[test]
 fn the_first_row_from_nothing(rt: HostRuntime) -> Result<(), Fail> {
     let alloc = rt.alloc();
@@ -126,11 +139,16 @@ fn the_first_row_from_nothing(rt: HostRuntime) -> Result<(), Fail> {
     let digest = Arc::new(
         alloc,
         DigestKey {
-            label: label(alloc, b"//a")?,
+            label: label(alloc, b"//a:w")?,
         }
         .wrap(),
     )?;
     assert!(rt; plain(alloc, &universe, &commits, 1, &digest, 4)?.is_none());
-    assert!(rt; plain(alloc, &universe, &commits, 1, &digest, 5)?.is_some());
+    let found = plain(alloc, &universe, &commits, 1, &digest, 5)?;
+    let shown = match &found {
+        Some(value) => is_digest(alloc, value, ROW_DIGEST)?,
+        None => false,
+    };
+    assert!(rt; shown);
     Ok(())
 }

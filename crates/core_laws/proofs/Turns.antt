@@ -1,15 +1,14 @@
 -- One task of one version changes: what becomes of what is counted.
-use Rattle.std.proofs.Common.{◌≡◌, ◌≤◌, ◌⊎◌, inl, inr, ◌+◌, ◌*◌, ℕ, suc, Bool, true, false, cond, eqb, List, [], ◌∷◌, ◌++◌, length, Option, Some, None, refl, sym, ap, ◌∙◌, subst, arith, eqb-true, eq-eqb}
+use Rattle.std.proofs.Common.{◌≡◌, ◌≤◌, ◌⊎◌, inl, inr, ◌+◌, ◌*◌, ℕ, suc, Bool, true, false, cond, eqb, List, Option, refl, sym, ap, ◌∙◌, subst, arith, eqb-true, eq-eqb}
 use Rattle.dice_key.specs.Lawful.{IsEquality}
 use Rattle.dice_key.specs.Meaning.{Meaning}
-use Rattle.dice_model.specs.Log.{Has, AreDistinct}
 use Rattle.task_share.specs.Asked.{Asked}
 use Rattle.journal.specs.declared.event.Told.{Told}
 use Rattle.journal.specs.Law.{IsLawfulBack}
 use Rattle.core_laws.specs.Tasks.{Task, is_going}
 use Rattle.core_laws.specs.Stands.{VersionStands, IsAtRest}
 use Rattle.core_laws.specs.Changes.{Puts}
-use Rattle.core_laws.specs.Desk.{World, Desk, AreAll, IsCount, Loses, ListTurns, CountTurns, DeskTurns, Stand, with_version, is_ready, is_out}
+use Rattle.core_laws.specs.Desk.{World, Desk, AreAll, IsCount, ListTurns, CountTurns, DeskTurns, Stand, with_version, is_ready, is_out}
 use Rattle.core_laws.proofs.Counts.{all_alike, count_alike, all_more, count_more, all_fewer, count_fewer}
 
 module _ {X : Type 0} (f g : X → Bool) (y : X) (else : (x : X) → (y ≡ x → ⊥) → g x ≡ f x) (test : (x : X) → (y ≡ x) ⊎ (y ≡ x → ⊥)) where
@@ -36,6 +35,7 @@ module _ {K : Type 0} (eq : K → K → Bool) (equality : IsEquality eq) where
       by_key : v ≡ p.0 → (c : Bool) → eq k p.1 ≡ c → ((v, k) ≡ p) ⊎ ((v, k) ≡ p → ⊥)
       by_key e true h = inl (λ j. (e j, equality.same k p.1 h j))
       by_key e false h = inr (λ q. let i : k ≡ p.1 = ap (λ (r : ℕ × K). r.1) q in let j : eq k p.1 ≡ true = subst (λ z. eq k z ≡ true) i (equality.itself k) in let c : true ≡ false = sym j ∙ h in cc)
+
       by_number : (b : Bool) → eqb v p.0 ≡ b → ((v, k) ≡ p) ⊎ ((v, k) ≡ p → ⊥)
       by_number true e = by_key (eqb-true v p.0 e) (eq k p.1) refl
       by_number false e = inr (λ q. let i : v ≡ p.0 = ap (λ (r : ℕ × K). r.0) q in let j : eqb v p.0 ≡ true = eq-eqb v p.0 i in let c : true ≡ false = sym j ∙ e in cc)
@@ -53,6 +53,7 @@ module _ {K V : Type 0} (eq : K → K → Bool) (equality : IsEquality eq) where
         by_key : p.0 ≡ v → (c : Bool) → eq k p.1 ≡ c → us p.1 ≡ w.tasks v p.1
         by_key e true h = absurd (n (λ j. (sym e j, equality.same k p.1 h j)))
         by_key e false h = puts p.1 ∙ ap (λ b. cond b o (w.tasks v p.1)) h
+
         by_number : (b : Bool) → eqb p.0 v ≡ b → cond b us (w.tasks p.0) p.1 ≡ w.tasks p.0 p.1
         by_number true e = let i = eqb-true p.0 v e in by_key i (eq k p.1) refl ∙ ap (λ z. w.tasks z p.1) (sym i)
         by_number false e = refl
@@ -66,7 +67,7 @@ module _ {K V : Type 0} (eq : K → K → Bool) (equality : IsEquality eq) where
       count_turns _ _ (v, k) (λ p n. ap is_going (task_there p n)) (pair_test eq equality v k) (is_going (w.tasks v k)) (is_going o) refl (ap is_going task_here) d.live e.live t.live l,
     )
 
-    -- the call goes on: version v stands over R2, all other versions rest over it, and the desk followed
+    -- the call goes on: version v stands over the new journal, all other versions rest over it, and the desk followed
     pub goes_on : (m : Meaning K V) (R R2 : List (Told K V)) (W W2 : List K) (d e : Desk K) (owed owed2 : ℕ) → Stand eq m R v W w d owed → IsLawfulBack eq m R2 → VersionStands eq m R2 v W2 u us
         → ((n : ℕ) → eqb n v ≡ false → IsAtRest eq m R n (w.asked n) (w.tasks n) → IsAtRest eq m R2 n (w.asked n) (w.tasks n)) → DeskTurns v k (w.tasks v k) o d e → 2 * e.live + owed2 ≤ e.spare
         → Stand eq m R2 v W2 (with_version v u us w) e owed2
@@ -87,6 +88,7 @@ module _ {K V : Type 0} (eq : K → K → Bool) (equality : IsEquality eq) where
     where
       asked_twice : (n : ℕ) → cond (eqb n v) u (cond (eqb n v) s (w.asked n)) ≡ cond (eqb n v) u (w.asked n)
       asked_twice n = elim (eqb n v) as (λ b. cond b u (cond b s (w.asked n)) ≡ cond b u (w.asked n)) [ true ↦ refl | false ↦ refl ]
+
       tasks_twice : (n : ℕ) → cond (eqb n v) us (cond (eqb n v) ts (w.tasks n)) ≡ cond (eqb n v) us (w.tasks n)
       tasks_twice n = elim (eqb n v) as (λ b. cond b us (cond b ts (w.tasks n)) ≡ cond b us (w.tasks n)) [ true ↦ refl | false ↦ refl ]
 

@@ -1,5 +1,5 @@
 -- Tasks without pointers.
-use Rattle.std.specs.Prelude.{◌≡◌, ℕ, Bool, true, false, List, Option, Some, None}
+use Rattle.std.specs.Prelude.{ℕ, Bool, true, false, List, Option, Some, None}
 use Rattle.dice_key.specs.Meaning.{Answered}
 
 -- how far the work of a task is: it can be taken; it was taken; it waits for the answers to this batch

@@ -98,6 +98,18 @@ fn a_trace_has_the_batches_and_answers_in_order(rt: HostRuntime) -> Result<(), F
 }
 
 #[test]
+fn an_extended_trace_has_one_batch_more(rt: HostRuntime) -> Result<(), Fail> {
+    let alloc = rt.alloc();
+    let trace = trace_of(alloc, 9)?;
+    let batch = Batch::one(alloc, Arc::new(alloc, Place::Cell(4))?)?;
+    let longer = trace.extended(alloc, &batch, &answer_of(alloc, 6)?)?;
+    assert_eq!(rt; longer.len(), 3);
+    assert_eq!(rt; trace.len(), 2);
+    assert!(rt; !longer.is_same(&trace));
+    Ok(())
+}
+
+#[test]
 fn a_check_goes_from_batch_to_batch_up_to_the_first_change(rt: HostRuntime) -> Result<(), Fail> {
     let alloc = rt.alloc();
     let trace = Arc::new(alloc, trace_of(alloc, 9)?)?;

@@ -26,10 +26,10 @@ abbrev pub ReadTo : Option (List ℕ) → Option (List ℕ) → List ℕ → ℕ
 ReadTo left left' bytes limit = (all : List ℕ) → left ≡ Some all
     → (rest : List ℕ) × (left' ≡ Some rest) × (all ≡ bytes ++ rest) × ((rest ≡ []) ⊎ (length bytes ≡ limit))
 
--- some beginning of what was left was read, and the rest is left
-abbrev pub ReadPart : Option (List ℕ) → Option (List ℕ) → Type 0
-ReadPart left left' = (all : List ℕ) → left ≡ Some all
-    → (got : List ℕ) × (rest : List ℕ) × (left' ≡ Some rest) × (all ≡ got ++ rest)
+-- some beginning of what was left, at most `limit` bytes, was read, and the rest is left
+abbrev pub ReadPart : Option (List ℕ) → Option (List ℕ) → ℕ → Type 0
+ReadPart left left' limit = (all : List ℕ) → left ≡ Some all
+    → (got : List ℕ) × (rest : List ℕ) × (left' ≡ Some rest) × (all ≡ got ++ rest) × (length got ≤ limit)
 
 -- ---- writing
 

@@ -11,11 +11,11 @@ const PIECE: usize = 65_536;
 /// Reads to the end of the input, or `limit` bytes where it is longer.
 ///
 /// Each call asks for the smaller of 65,536 bytes and what is left to the limit. At an error the bytes that were read are
-/// lost: they are a beginning of what was left.
+/// lost: they are a beginning of what was left, at most `limit` of them.
 pub fn read_all<S: Source>(alloc: Global, source: &mut S, limit: usize) -> Result<Vec<u8>, ReadFail>
     ensures read { IfOk result (λ bytes. ReadTo (S.left source.old) (S.left source.new) bytes.items limit) }
     ensures few { IfOk result (λ bytes. length bytes.items ≤ limit) }
-    ensures part { OnErr result (ReadPart (S.left source.old) (S.left source.new)) }
+    ensures part { OnErr result (ReadPart (S.left source.old) (S.left source.new) limit) }
     ensures counted { S.faults source.old ≤ S.faults source.new }
     ensures failed { IsErrOf result ReadFail.Failed → Rose (S.faults source.old) (S.faults source.new) }
 {

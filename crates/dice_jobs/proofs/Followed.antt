@@ -1,14 +1,12 @@
 -- Answers that follow a trace: those that are as they were make up its beginning.
-use Rattle.std.proofs.Common.{◌≡◌, ◌≢◌, ◌∙◌, ℕ, Bool, false, List, [], ◌∷◌, ◌++◌, length, refl, sym, ap, subst, append_assoc, append-nil, arith, suc}
+use Rattle.std.proofs.Common.{◌≡◌, ℕ, Bool, List, [], ◌∷◌, ◌++◌, length, refl, subst, append_assoc, append-nil, arith}
 use Rattle.std.specs.List.{AllZip}
-use Rattle.dice_key.specs.Meaning.{Meaning, Answered, Asks, Ends}
+use Rattle.dice_key.specs.Meaning.{Meaning, Answered, Asks}
 use Rattle.dice_key.specs.Lawful.{IsLawful}
-use Rattle.dice_key.specs.declared.universe.Kind.TheVariants.{Injected}
 use Rattle.dice_model.specs.Eval.{HasValue}
-use Rattle.dice_model.specs.Log.{Has}
-use Rattle.dice_model.specs.Asks.{AllTrue, Goes, AsksFor, IsTrace}
-use Rattle.dep_recorder.specs.Checks.{values_of, IsNextBatch, IsFirstChange}
-use Rattle.dice_jobs.specs.Truths.{Follows, IsEarlier, ChangesFirst}
+use Rattle.dice_model.specs.Asks.{AllTrue, Goes}
+use Rattle.dep_recorder.specs.Checks.{values_of}
+use Rattle.dice_jobs.specs.Truths.{Follows}
 
 module _ {K V : Type 0} where
   one_batch : (a b : Answered K V) → a.keys ≡ b.keys → a.values ≡ b.values → a ≡ b

@@ -1,5 +1,5 @@
 -- What is true of a job's answers stays so, and what its step says is true.
-use Rattle.std.proofs.Common.{◌≡◌, ◌≢◌, ◌≤◌, ◌+◌, ◌∙◌, ℕ, Bool, false, List, [], ◌∷◌, ◌++◌, length, refl, sym, ap, subst, append-nil, length-append, arith}
+use Rattle.std.proofs.Common.{◌≡◌, ◌≢◌, ◌≤◌, ◌∙◌, ℕ, Bool, List, [], ◌∷◌, ◌++◌, length, refl, sym, ap, subst, append-nil, length-append, arith}
 use Rattle.std.specs.List.{AllZip}
 use Rattle.dice_key.specs.Meaning.{Meaning, Answered, Step, Asks, Ends}
 use Rattle.dice_key.specs.Lawful.{IsLawful}
@@ -9,7 +9,7 @@ use Rattle.dice_model.specs.Log.{Has}
 use Rattle.dice_model.specs.Asks.{AllTrue, Goes, AsksFor, IsTrace}
 use Rattle.dice_model.proofs.Finite.{goes_last}
 use Rattle.dice_model.proofs.Stable.{goes_stable, true_stable}
-use Rattle.dep_recorder.specs.Checks.{Finding, Wants, IsSame, HasChanged, finding, values_of, IsNextBatch, IsFirstChange}
+use Rattle.dep_recorder.specs.Checks.{Finding, Wants, IsSame, HasChanged, finding, values_of, IsNextBatch}
 use Rattle.dice_jobs.specs.Jobs.{Name, Work, Computes, Checks, Assigned, Outcome, Wanting, Valued, Unchanged, Changed, Stepped, of_move, of_finding, comes, Explains, IsExplained, IsStepOf, answered_more}
 use Rattle.dice_jobs.specs.Truths.{Follows, IsEarlier, AreAnswers, IsTrueJob, ChangesFirst}
 use Rattle.dice_jobs.proofs.Followed.{same_front, changed_front, follows_next, true_last, true_end, true_front, zip_front, goes_here, asks_here}
@@ -81,7 +81,7 @@ module _ {K V : Type 0} (eq : K → K → Bool) (m : Meaning K V) (law : IsLawfu
         let u : AllTrue (HasValue eq m C n.version) (c.before ++ record { keys = c.batch.keys; values = c.answers } ∷ []) = subst (λ B. AllTrue (HasValue eq m C n.version) B) s t in
         let z : AllZip (HasValue eq m C n.version) c.batch.keys c.answers = true_end (HasValue eq m C n.version) c.before (record { keys = c.batch.keys; values = c.answers }) u in
         let y : AllZip (HasValue eq m C n.version) (c.keys_before ++ d ∷ c.keys_after) (c.same ++ x.1 ∷ c.now_after) =
-            subst (λ ys. AllZip (HasValue eq m C n.version) (c.keys_before ++ d ∷ c.keys_after) ys) c.answers_are (subst (λ ks. AllZip (HasValue eq m C n.version) ks c.answers) c.keys_are z) in
+        subst (λ ys. AllZip (HasValue eq m C n.version) (c.keys_before ++ d ∷ c.keys_after) ys) c.answers_are (subst (λ ks. AllZip (HasValue eq m C n.version) ks c.answers) c.keys_are z) in
         let p = zip_front (HasValue eq m C n.version) c.keys_before c.keys_after c.same c.now_after d x.1 c.counted y in
         record {
           before = c.before;

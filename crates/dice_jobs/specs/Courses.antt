@@ -1,5 +1,5 @@
 -- How a job goes on, as it is kept, and how that goes with what the job is for.
-use Rattle.std.specs.Prelude.{◌≡◌, ◌≢◌, ◌++◌, ◌∷◌, ℕ, Bool, List, [], length}
+use Rattle.std.specs.Prelude.{◌≡◌, ◌≢◌, ◌++◌, ◌∷◌, Bool, List, [], length}
 use Rattle.std.specs.Arc.{arc_value}
 use Rattle.dice_key.specs.Meaning.{Meaning, Answered, Running, Asks, Ends, Takes, next_of, resumed}
 use Rattle.dice_key.specs.declared.universe.Kind.TheVariants.{Injected}

@@ -1,7 +1,9 @@
 //! Jobs on the example universe.
 ghost use Rattle.std.specs.Prelude.{◌≡◌, IfOk};
 
-use crate::{Assignment, Earlier, Job, JobName, Parked, Report, Step};
+use crate::{
+    Assignment, Earlier, Job, JobName, Report, Step, jobs_stay_true, steps_tell_the_truth,
+};
 use dice_key::{Answers, NoMemory};
 use std::alloc::Global;
 use std::sync::Arc;
@@ -31,13 +33,22 @@ fn seen_of(step: &Step<Tiny>) -> Seen {
     }
 }
 
-fn numbers(alloc: Global, first: u64, second: Option<u64>) -> Result<Answers<Value>, NoMemory> {
+/// The numbers that answer a batch of one key, or of two.
+type Numbers = (u64, Option<u64>);
+
+fn answers_of(alloc: Global, numbers: Numbers) -> Result<Answers<Value>, NoMemory> {
     let mut answers = Answers::new(alloc);
-    answers.push(Arc::new(alloc, Value::Number(first))?)?;
-    if let Some(number) = second {
+    answers.push(Arc::new(alloc, Value::Number(numbers.0))?)?;
+    if let Some(number) = numbers.1 {
         answers.push(Arc::new(alloc, Value::Number(number))?)?;
     }
     Ok(answers)
+}
+
+fn name_of(alloc: Global, version: u64, key: Place, born: u64) -> Result<JobName<Tiny>, NoMemory>
+    ensures { IfOk result (λ n. n.key ≡ key) }
+{
+    Ok(JobName::new(version, Arc::new(alloc, key)?, born))
 }
 
 fn advanced(job: Job<Tiny>, universe: &Tiny) -> Result<Step<Tiny>, NoMemory> {
@@ -47,8 +58,16 @@ fn advanced(job: Job<Tiny>, universe: &Tiny) -> Result<Step<Tiny>, NoMemory> {
     }
 }
 
-/// The job that goes on with these answers, where they are as many as the keys that it waits for.
-fn resumed(parked: Parked<Tiny>, answers: Answers<Value>) -> Result<Option<Job<Tiny>>, NoMemory> {
+/// The job that goes on from this step with these numbers; `None` where it does not ask as many keys.
+fn resumed(
+    alloc: Global,
+    step: Step<Tiny>,
+    numbers: Numbers,
+) -> Result<Option<Job<Tiny>>, NoMemory> {
+    let Some(parked) = step.into_parked() else {
+        return Ok(None);
+    };
+    let answers = answers_of(alloc, numbers)?;
     if answers.len() != parked.batch().len() {
         return Ok(None);
     }
@@ -56,57 +75,60 @@ fn resumed(parked: Parked<Tiny>, answers: Answers<Value>) -> Result<Option<Job<T
     Ok(Some(parked.resume(next, answers)))
 }
 
-/// The step after the one that asks, with these answers.
-fn next_step(
-    step: Step<Tiny>,
-    answers: Answers<Value>,
+/// The step after this one, which is answered with these numbers.
+fn after(
+    alloc: Global,
     universe: &Tiny,
+    step: Step<Tiny>,
+    numbers: Numbers,
 ) -> Result<Option<Step<Tiny>>, NoMemory> {
-    match step.into_parked() {
-        Some(parked) => match resumed(parked, answers)? {
-            Some(job) => Ok(Some(advanced(job, universe)?)),
-            None => Ok(None),
-        },
+    match resumed(alloc, step, numbers)? {
+        Some(job) => Ok(Some(advanced(job, universe)?)),
         None => Ok(None),
     }
 }
 
-fn name_of(alloc: Global, version: u64, key: Place, born: u64) -> Result<JobName<Tiny>, NoMemory>
-    ensures { IfOk result (λ n. n.key ≡ key) }
-{
-    Ok(JobName::new(version, Arc::new(alloc, key)?, born))
+/// The step of a job when its first batch, and then its second, if any, are answered with these numbers.
+fn run_to(
+    alloc: Global,
+    universe: &Tiny,
+    job: Job<Tiny>,
+    first: Numbers,
+    second: Option<Numbers>,
+) -> Result<Option<Step<Tiny>>, NoMemory> {
+    let step = after(alloc, universe, advanced(job, universe)?, first)?;
+    match (step, second) {
+        (Some(step), Some(numbers)) => after(alloc, universe, step, numbers),
+        (step, _) => Ok(step),
+    }
 }
 
-/// The last step of a run of `Follow(1)` at version 3, where cell 1 is 7 and cell 7 is `last`.
+/// The last step of a run of `Follow(1)`, where cell 1 is 7 and cell 7 is `last`.
 fn followed(alloc: Global, universe: &Tiny, last: u64) -> Result<Option<Step<Tiny>>, NoMemory> {
-    let name = name_of(alloc, 3, Place::Follow(1), 0)?;
-    let first = advanced(Job::begin(alloc, name), universe)?;
-    match next_step(first, numbers(alloc, 7, None)?, universe)? {
-        Some(second) => next_step(second, numbers(alloc, last, None)?, universe),
-        None => Ok(None),
-    }
+    let job = Job::begin(alloc, name_of(alloc, 3, Place::Follow(1), 8)?);
+    run_to(alloc, universe, job, (7, None), Some((last, None)))
 }
 
-/// The last step of a run of `Sum(1, 2)` at version 3, where cell 1 is 5 and cell 2 is 6.
+/// The last step of a run of `Sum(1, 2)`, where cell 1 is 5 and cell 2 is 6.
 fn summed(alloc: Global, universe: &Tiny) -> Result<Option<Step<Tiny>>, NoMemory> {
-    let name = name_of(alloc, 3, Place::Sum(1, 2), 0)?;
-    let first = advanced(Job::begin(alloc, name), universe)?;
-    next_step(first, numbers(alloc, 5, Some(6))?, universe)
+    let job = Job::begin(alloc, name_of(alloc, 3, Place::Sum(1, 2), 0)?);
+    run_to(alloc, universe, job, (5, Some(6)), None)
 }
 
-/// A check, at version 4, of what this step has come to.
+/// A check of a number to which a run had come, as its last step tells.
 fn check_of(
     alloc: Global,
-    key: Place,
+    name: (u64, Place, u64),
     number: u64,
-    step: &Step<Tiny>,
+    run: &Step<Tiny>,
+    base: u64,
 ) -> Result<Job<Tiny>, NoMemory> {
     let earlier = Earlier {
         value: Arc::new(alloc, Value::Number(number))?,
-        trace: step.assignment().answered()?,
-        base: 3,
+        trace: run.assignment().answered()?,
+        base,
     };
-    Job::check(alloc, name_of(alloc, 4, key, 9)?, earlier)
+    Job::check(alloc, name_of(alloc, name.0, name.1, name.2)?, earlier)
 }
 
 /// Whether the step's answers are those of cell 1 and of the cell that it names.
@@ -128,19 +150,38 @@ fn has_followed(step: &Step<Tiny>) -> Result<bool, NoMemory> {
 fn a_run_asks_its_batches_and_comes_to_its_value(rt: HostRuntime) -> Result<(), Fail> {
     let alloc = rt.alloc();
     let universe = Tiny::new(alloc)?;
+    let begun = advanced(
+        Job::begin(alloc, name_of(alloc, 3, Place::Follow(1), 8)?),
+        &universe,
+    )?;
+    assert_eq!(rt; seen_of(&begun), Seen::Asks(Place::Cell(1), 1));
+    let second = after(alloc, &universe, begun, (7, None))?;
+    assert_eq!(rt;
+        second.as_ref().map(seen_of),
+        Some(Seen::Asks(Place::Cell(7), 1))
+    );
+    let last = followed(alloc, &universe, 40)?.ok_or("no step")?;
+    assert_eq!(rt; seen_of(&last), Seen::Done(Value::Number(40)));
+    assert!(rt; has_followed(&last)?);
+    assert!(rt; last.into_parked().is_none());
+    Ok(())
+}
+
+#[test]
+fn a_job_and_its_step_have_its_name(rt: HostRuntime) -> Result<(), Fail> {
+    let alloc = rt.alloc();
     let name = name_of(alloc, 3, Place::Follow(1), 8)?;
     let job = Job::begin(alloc, name.try_clone()?);
     assert!(rt; job.name().is_same(&name));
-    let step = advanced(job, &universe)?;
-    assert_eq!(rt; seen_of(&step), Seen::Asks(Place::Cell(1), 1));
-    let step = next_step(step, numbers(alloc, 7, None)?, &universe)?.ok_or("no step")?;
-    assert_eq!(rt; seen_of(&step), Seen::Asks(Place::Cell(7), 1));
-    let step = next_step(step, numbers(alloc, 40, None)?, &universe)?.ok_or("no step")?;
-    assert_eq!(rt; seen_of(&step), Seen::Done(Value::Number(40)));
+    assert_eq!(rt;
+        (name.version(), **name.key(), name.born()),
+        (3, Place::Follow(1), 8)
+    );
+    let step = advanced(job, &Tiny::new(alloc)?)?;
     assert!(rt; step.assignment().name().is_same(&name));
     assert!(rt; step.assignment().earlier().is_none());
-    assert!(rt; has_followed(&step)?);
-    assert!(rt; step.into_parked().is_none());
+    jobs_stay_true::<Tiny>();
+    steps_tell_the_truth::<Tiny>();
     Ok(())
 }
 
@@ -154,18 +195,10 @@ fn check_followed(
     let Some(run) = followed(alloc, universe, 40)? else {
         return Ok(None);
     };
-    let check = check_of(alloc, Place::Follow(1), 40, &run)?;
-    let step = advanced(check, universe)?;
-    let Some(step) = next_step(step, numbers(alloc, first, None)?, universe)? else {
-        return Ok(None);
-    };
-    match second {
-        None => Ok(Some(seen_of(&step))),
-        Some(number) => {
-            let last = next_step(step, numbers(alloc, number, None)?, universe)?;
-            Ok(last.as_ref().map(seen_of))
-        }
-    }
+    let check = check_of(alloc, (4, Place::Follow(1), 9), 40, &run, 3)?;
+    let rest = second.map(|number| (number, None));
+    let step = run_to(alloc, universe, check, (first, None), rest)?;
+    Ok(step.as_ref().map(seen_of))
 }
 
 #[test]
@@ -193,55 +226,63 @@ fn a_check_names_the_first_key_that_has_changed(rt: HostRuntime) -> Result<(), F
     let universe = Tiny::new(alloc)?;
     let run = summed(alloc, &universe)?.ok_or("no run")?;
     assert_eq!(rt; seen_of(&run), Seen::Done(Value::Number(11)));
-    let step = advanced(check_of(alloc, Place::Sum(1, 2), 11, &run)?, &universe)?;
-    assert_eq!(rt; seen_of(&step), Seen::Asks(Place::Cell(1), 2));
-    let step = next_step(step, numbers(alloc, 4, Some(7))?, &universe)?.ok_or("no step")?;
-    assert_eq!(rt; seen_of(&step), Seen::Differs(Place::Cell(1)));
+    let check = check_of(alloc, (4, Place::Sum(1, 2), 9), 11, &run, 3)?;
+    let step = run_to(alloc, &universe, check, (4, Some(7)), None)?;
+    assert_eq!(rt;
+        step.as_ref().map(seen_of),
+        Some(Seen::Differs(Place::Cell(1)))
+    );
     Ok(())
 }
 
-/// An assignment to check `key` at a version, where it was `number` at `base`, by the answers of this step.
+/// What a check of `Follow(1)` is for: its name, the earlier value, the last answer of its trace, and the base.
 fn checking(
     alloc: Global,
+    universe: &Tiny,
     name: (u64, Place, u64),
     number: u64,
-    answers: &Step<Tiny>,
+    last: u64,
     base: u64,
-) -> Result<Assignment<Tiny>, NoMemory> {
-    let earlier = Earlier {
-        value: Arc::new(alloc, Value::Number(number))?,
-        trace: answers.assignment().answered()?,
-        base,
+) -> Result<Option<Assignment<Tiny>>, NoMemory> {
+    let Some(run) = followed(alloc, universe, last)? else {
+        return Ok(None);
     };
-    let name = name_of(alloc, name.0, name.1, name.2)?;
-    Job::check(alloc, name, earlier)?.assignment().try_clone()
+    let job = check_of(alloc, name, number, &run, base)?;
+    Ok(Some(job.assignment().try_clone()?))
 }
 
 #[test]
-fn a_step_is_of_the_one_assignment_with_its_name_answers_and_work(
-    rt: HostRuntime,
-) -> Result<(), Fail> {
+fn a_step_is_of_the_one_assignment_with_its_name_and_work(rt: HostRuntime) -> Result<(), Fail> {
+    let alloc = rt.alloc();
+    let universe = Tiny::new(alloc)?;
+    let key = Place::Follow(1);
+    let run = followed(alloc, &universe, 40)?.ok_or("no run")?;
+    let step = advanced(check_of(alloc, (4, key, 9), 40, &run, 3)?, &universe)?;
+    let rows = [
+        ((4, key, 9), 40, 40, 3, true),
+        ((5, key, 9), 40, 40, 3, false),
+        ((4, Place::Follow(2), 9), 40, 40, 3, false),
+        ((4, key, 10), 40, 40, 3, false),
+        ((4, key, 9), 41, 40, 3, false),
+        ((4, key, 9), 40, 41, 3, false),
+        ((4, key, 9), 40, 40, 2, false),
+    ];
+    for (name, number, last, base, want) in rows {
+        let other = checking(alloc, &universe, name, number, last, base)?;
+        assert_eq!(rt; other.as_ref().map(|other| step.is_of(other)), Some(want));
+    }
+    Ok(())
+}
+
+#[test]
+fn a_step_is_not_of_an_assignment_with_other_answers(rt: HostRuntime) -> Result<(), Fail> {
     let alloc = rt.alloc();
     let universe = Tiny::new(alloc)?;
     let run = followed(alloc, &universe, 40)?.ok_or("no run")?;
     let other = followed(alloc, &universe, 41)?.ok_or("no run")?;
-    let step = advanced(check_of(alloc, Place::Follow(1), 40, &run)?, &universe)?;
-    let key = Place::Follow(1);
-    let rows = [
-        ((4, key, 9), 40, &run, 3, true),
-        ((5, key, 9), 40, &run, 3, false),
-        ((4, Place::Follow(2), 9), 40, &run, 3, false),
-        ((4, key, 10), 40, &run, 3, false),
-        ((4, key, 9), 41, &run, 3, false),
-        ((4, key, 9), 40, &other, 3, false),
-        ((4, key, 9), 40, &run, 2, false),
-    ];
-    for (name, number, answers, base, want) in rows {
-        let assignment = checking(alloc, name, number, answers, base)?;
-        assert_eq!(rt; step.is_of(&assignment), want);
-    }
     assert!(rt; run.is_of(run.assignment()));
     assert!(rt; !run.is_of(other.assignment()));
-    assert!(rt; !step.is_of(Job::begin(alloc, name_of(alloc, 4, key, 9)?).assignment()));
+    let begun = Job::begin(alloc, name_of(alloc, 3, Place::Follow(1), 8)?);
+    assert!(rt; !run.is_of(begun.assignment()));
     Ok(())
 }

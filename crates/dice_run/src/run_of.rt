@@ -1,6 +1,6 @@
 //! A run, from the words of the command line to a status.
 ghost use Rattle.std.specs.Prelude.{◌≡◌, ◌⊎◌, List, [], ℕ, Some, IfOk, map};
-ghost use Rattle.dice_io.specs.Streams.{Rose, Unread, Gained, GainedPart, Unchanged};
+ghost use Rattle.dice_io.specs.Streams.{Rose, ReadPart, Unread, Gained, GainedPart, Unchanged};
 ghost use Rattle.dice_words.specs.Accepted.{IsAccepted};
 ghost use Rattle.script.specs.declared.line.Line.{Line};
 ghost use Rattle.script.specs.Scripts.{IsScript};
@@ -24,9 +24,9 @@ const MOST: usize = 4_194_305;
 /// from the source to its end, checks the whole of it, carries it out, and writes the output to the sink.
 ///
 /// The status says how it ended, and is tested in this order: words, reading, length, grammar, running, writing; want of memory
-/// comes where it is met, before anything is written. Reading asks for at most 65,536 bytes a call; the whole rest of the output
-/// is handed to the sink in each call, and no memory is taken once it is built. The runtime and the gate serve workers, which
-/// are not there yet.
+/// comes where it is met, before anything is written. At most 4,194,305 bytes are read, and at most 65,536 asked for in one
+/// call; the whole rest of the output is handed to the sink in each call, and no memory is taken once it is built. The runtime
+/// and the gate serve workers, which are not there yet.
 pub fn run<R: Threads + Wait, S: Source, K: Sink, G: Gate>(
     _rt: &R,
     alloc: Global,
@@ -37,6 +37,7 @@ pub fn run<R: Threads + Wait, S: Source, K: Sink, G: Gate>(
 ) -> Status
     ensures words { result ≡ Status.WordsRefused → (IsAccepted (map (λ w. w.now) words.now) → ⊥) × Unread (S.left source.old) (S.left source.new) × Unchanged (K.taken sink.old) (K.taken sink.new) }
     ensures accepted { IsAccepted (map (λ w. w.now) words.now) ⊎ ((result ≡ Status.WordsRefused) ⊎ (result ≡ Status.NoMemory)) }
+    ensures few { ReadPart (S.left source.old) (S.left source.new) 4194305 }
     ensures read { result ≡ Status.ReadFailed → Rose (S.faults source.old) (S.faults source.new) × Unchanged (K.taken sink.old) (K.taken sink.new) }
     ensures write { result ≡ Status.WriteFailed → Rose (K.faults sink.old) (K.faults sink.new) × ((input : List ℕ) → S.left source.old ≡ Some input → (out : List ℕ) × IsWritten input out × GainedPart (K.taken sink.old) (K.taken sink.new) out) }
     ensures script { result ≡ Status.ScriptRefused → (input : List ℕ) → S.left source.old ≡ Some input → (out : List ℕ) × Refuses input out × Gained (K.taken sink.old) (K.taken sink.new) out }

@@ -6,19 +6,19 @@ use std::sync::Wait;
 use std::test::Fail;
 use std::thread::Threads;
 
-/// How a run of `dice run` on this script ends: its status, and what the sink holds. Source and sink move 10 bytes a call.
+/// How a run with these words on this script ends: its status, and what the sink holds. Source and sink move 10 bytes a call.
 fn outcome<R: Threads + Wait>(
     rt: &R,
     alloc: Global,
+    words: &[&str],
     script: &[u8],
     read_fails: &[u64],
     write_fails: &[u64],
 ) -> Result<(u8, Vec<u8>), NoMemory> {
-    let words = ["dice", "run"];
     let bytes = Vec::from_slice(alloc, script)?;
     let mut source = MemorySource::new(bytes, 10, Vec::from_slice(alloc, read_fails)?);
     let mut sink = MemorySink::new(alloc, 10, Vec::from_slice(alloc, write_fails)?, 1_000)?;
-    let status = run(rt, alloc, &words, &mut source, &mut sink, &Open);
+    let status = run(rt, alloc, words, &mut source, &mut sink, &Open);
     Ok((status.code(), Vec::from_slice(alloc, sink.bytes())?))
 }
 
@@ -30,15 +30,25 @@ const FIRST_OUT: &[u8] =
 
 #[test]
 fn a_program_with_memory_answers_it(rt: HostRuntime) -> Result<(), Fail> {
-    let (status, out) = outcome(&rt, rt.alloc(), FIRST, &[], &[])?;
+    let (status, out) = outcome(&rt, rt.alloc(), &["dice", "run"], FIRST, &[], &[])?;
     assert!(rt; status == 0 && out.as_slice() == FIRST_OUT);
     Ok(())
 }
 
 #[test]
 fn scripts_and_their_outputs(rt: HostRuntime) -> Result<(), Fail> {
-    let rows: [(&[u8], u8, &[u8]); 8] = [
+    let rows: [(&[u8], u8, &[u8]); 10] = [
         (b"", 0, b""),
+        (
+            b"put a/BUCK 52\nwrite_file(name = \"w\", out = \"w.txt\", content = \"\")\n\ncommit\nopen t\naction t r //a:w\n",
+            0,
+            b"commit 1\nopen t 1\nr 1 action 82\nwrite_file\nw.txt\ne3b0c44298fc1c149afbf4c8996fb92427ae41e4649b934ca495991b7852b855\n",
+        ),
+        (
+            b"put a/BUCK 55\nwrite_file(name = \"w\", out = \"w.txt\", content = \"abc\")\n\ncommit\nput a/BUCK 55\nwrite_file(name = \"w\", out = \"w.txt\", content = \"abc\")\n\ncommit\n",
+            0,
+            b"commit 1\ncommit 1\n",
+        ),
         (
             b"open t\nask t r //a:w\n",
             0,
@@ -68,17 +78,30 @@ fn scripts_and_their_outputs(rt: HostRuntime) -> Result<(), Fail> {
         (b"open t\nwait r\n", 5, b"line 2: word\n"),
     ];
     for row in &rows {
-        let (status, out) = outcome(&rt, rt.alloc(), row.0, &[], &[])?;
+        let (status, out) = outcome(&rt, rt.alloc(), &["dice", "run"], row.0, &[], &[])?;
         assert!(rt; status == row.1 && out.as_slice() == row.2);
     }
     Ok(())
 }
 
 #[test]
+fn words_that_name_no_command_and_scripts_that_are_too_long(rt: HostRuntime) -> Result<(), Fail> {
+    let alloc = rt.alloc();
+    let (status, out) = outcome(&rt, alloc, &["dice"], FIRST, &[], &[])?;
+    assert!(rt; status == 2 && out.is_empty());
+    let long = vec![in alloc; b'\n'; 4_194_305]?;
+    let (status, out) = outcome(&rt, alloc, &["dice", "run"], &long, &[], &[])?;
+    assert!(rt; status == 5 && out.as_slice() == b"script too long\n".as_slice());
+    let (status, out) = outcome(&rt, alloc, &["dice", "run"], &long[1..], &[], &[])?;
+    assert!(rt; status == 0 && out.is_empty());
+    Ok(())
+}
+
+#[test]
 fn failing_reads_and_writes(rt: HostRuntime) -> Result<(), Fail> {
-    let (status, out) = outcome(&rt, rt.alloc(), FIRST, &[1], &[])?;
+    let (status, out) = outcome(&rt, rt.alloc(), &["dice", "run"], FIRST, &[1], &[])?;
     assert!(rt; status == 3 && out.is_empty());
-    let (status, out) = outcome(&rt, rt.alloc(), FIRST, &[], &[1])?;
+    let (status, out) = outcome(&rt, rt.alloc(), &["dice", "run"], FIRST, &[], &[1])?;
     assert!(rt; status == 4 && out.as_slice() == b"commit 1\no".as_slice());
     Ok(())
 }

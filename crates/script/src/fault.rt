@@ -1,5 +1,6 @@
 //! What is wrong with a script, and where.
-ghost use Rattle.std.specs.Prelude.{◌≡◌};
+ghost use Rattle.std.specs.Prelude.{◌≡◌, Some};
+ghost use Rattle.std.specs.Fmt.{padded};
 ghost use Rattle.script.specs.Words.{text_of};
 ghost use Rattle.script.specs.declared.fault.Stop.TheVariants as stop;
 
@@ -50,8 +51,12 @@ impl Word {
 }
 
 impl fmt::Display for Word {
+    ghost output = { λ word. Some (text_of word) };
+
+    ghost styled_output = { λ word options. Some (padded options (text_of word)) };
+
     fn fmt<W: fmt::Write>(&self, f: &mut fmt::Formatter<W>) -> fmt::Result {
-        f.write_str(self.text())
+        f.pad(self.text())
     }
 }
 

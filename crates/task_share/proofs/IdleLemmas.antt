@@ -1,5 +1,5 @@
 -- Idle tasks: what gives a key back to its place, takes a task out, and withdraws its asks.
-use Rattle.std.proofs.Common.{◌≡◌, ◌≤◌, ◌+◌, inl, inr, ◌⊎◌, ℕ, suc, Bool, true, false, not, cond, ◌&&◌, ◌||◌, List, [], ◌∷◌, ◌++◌, length, map, Option, Some, None, is_some, nat_eq, refl, sym, ap, ◌∙◌, subst, arith}
+use Rattle.std.proofs.Common.{◌≡◌, ◌≤◌, ◌+◌, inl, inr, ◌⊎◌, ℕ, suc, Bool, true, false, not, cond, ◌&&◌, ◌||◌, List, [], ◌∷◌, ◌++◌, length, map, Option, Some, None, is_some, nat_eq, refl, sym, ap, ◌∙◌, subst, arith, ◌<◌, unwrap_or}
 use Rattle.std.specs.Prelude.{option_and_then, MatchOption}
 use Rattle.std.specs.Arc.{arc_value}
 use Rattle.std.specs.Map.{lookup, set_value, remove_entry, values_of}
@@ -16,8 +16,8 @@ use Rattle.std.proofs.lemmas.Map.Entries.{sum_by-set_value, sum_by-remove_entry,
 use Rattle.dice_key.specs.Lawful.{IsEquality}
 use Rattle.task_share.specs.Asked.{By, Promised, Tasked, is_by}
 use Rattle.task_share.specs.Lists.{Has}
-use Rattle.task_share.specs.Seen.{Share, is_for, list_for, number_for, has_by, has_live, has_place, asks, waits_at, ask_count}
-use Rattle.task_share.specs.Listed.{share_of, entry_of, shares_of, is_idle, kept_name, one_if, IsNamed, IsListed, IsChanged, Left, UsesRoom, Withdraws, Withdrawing, NoneIdle, IsKept, IsPopped, IsVacant, AllRun}
+use Rattle.task_share.specs.Seen.{Share, is_for, list_for, number_for, has_by, has_live, has_place, asks, waits_at, ask_count, one_if, live_count}
+use Rattle.task_share.specs.Listed.{share_of, entry_of, shares_of, is_idle, kept_name, IsNamed, IsListed, IsChanged, Left, UsesRoom, Withdraws, Withdrawing, NoneIdle, IsKept, IsPopped, IsVacant, AllRun}
 use Rattle.task_share.specs.declared.place.Place.{Place}
 use Rattle.task_share.proofs.PlaceLemmas.{true_or_false, and_both, lookup_shares}
 use Rattle.task_share.proofs.TurnLemmas.{tasks_kept, room_kept, asks_turned, waits_turned, same_cond, tasks_on, room_on, room_itself, kept_on}
@@ -120,6 +120,16 @@ module _ {K T : Type 0} (eq : K → K → Bool) (law : IsEquality eq) where
       let d = sum_by-remove_entry f test (shares_of es) in
       omega arith
 
+  -- a task that has not ended was taken out
+  pub removed_fewer : {A : Type 0} (test : K → Bool) (es fs : List (Arc K A × Place K T)) (h : Share K T) → lookup test (shares_of es) ≡ Some h → h.live ≡ true → IsPermutation (remove_entry (λ a. test (arc_value a)) es) fs → live_count (shares_of fs) < live_count (shares_of es)
+  removed_fewer test es fs h known live p =
+      let f : Share K T → ℕ = λ (p : Share K T). one_if p.live in
+      let a = sum_by_values_permutation f (shares_of (remove_entry (λ a. test (arc_value a)) es)) (shares_of fs) (IsPermutation-map entry_of (remove_entry (λ a. test (arc_value a)) es) fs p) in
+      let b : sum_by f (values_of (shares_of (remove_entry (λ a. test (arc_value a)) es))) ≡ sum_by f (values_of (remove_entry test (shares_of es))) = ap (λ xs. sum_by f (values_of xs)) (remove_shares test es) in
+      let d = sum_by-remove_entry f test (shares_of es) in
+      let e : unwrap_or (option_map f (lookup test (shares_of es))) 0 ≡ 1 = ap (λ o. unwrap_or (option_map f o) 0) known ∙ ap one_if live in
+      omega arith
+
   pub removed_gone : {A : Type 0} (key : Arc K A) (es fs : List (Arc K A × Place K T)) → ((q : Arc K A) → lookup (λ a. eq (arc_value q) (arc_value a)) fs ≡ cond (eq (arc_value key) (arc_value q)) None (lookup (λ a. eq (arc_value q) (arc_value a)) es))
       → (q : K) → lookup (eq q) (shares_of fs) ≡ cond (eq (arc_value key) q) None (lookup (eq q) (shares_of es))
   removed_gone {A} key es fs upd q =
@@ -134,7 +144,7 @@ module _ {K T : Type 0} (eq : K → K → Bool) (law : IsEquality eq) where
 
   -- nothing was withdrawn yet
   pub withdraws_none : (k : K) (ps : List (K × Share K T)) → Withdraws eq k [] ps ps
-  withdraws_none k ps = record { tasks = record { tasks = λ q. refl; live = λ q. refl }; asks = λ q a. by_bools (asks eq ps q a) (is_by eq (Tasked k) a); waits = λ i d. refl; room = room_itself eq ps }
+  withdraws_none k ps = record { tasks = record { tasks = λ q. refl; live = λ q. refl; count = refl }; asks = λ q a. by_bools (asks eq ps q a) (is_by eq (Tasked k) a); waits = λ i d. refl; room = room_itself eq ps }
     where
       by_bools : (x b : Bool) → x ≡ (x && not (b && false))
       by_bools true true = refl
@@ -263,9 +273,9 @@ module _ {K T : Type 0} (eq : K → K → Bool) (law : IsEquality eq) where
     no_asker (Promised n) = ap (list_any (nat_eq n)) vacant.promises
     no_asker (Tasked j) = ap (list_any (eq j)) vacant.askers
 
-    pub vacant_kept : ask_count qs ≤ ask_count ps → IsKept eq ps qs
-    vacant_kept less = record {
-      tasks = record { tasks = by_place (option_and_then (λ (p : Share K T). p.task)) vacant.task; live = by_place (is_for has_live) vacant.live };
+    pub vacant_kept : ask_count qs ≤ ask_count ps → live_count qs ≡ live_count ps → IsKept eq ps qs
+    vacant_kept less same = record {
+      tasks = record { tasks = by_place (option_and_then (λ (p : Share K T). p.task)) vacant.task; live = by_place (is_for has_live) vacant.live; count = same };
       asks = λ q a. by_place (is_for (λ p. has_by eq p a)) (no_asker a) q;
       waits = λ i d. by_place (λ o. list_any (eq d) (list_for (λ (p : Share K T). p.waits) o)) (ap (list_any (eq d)) vacant.waits) i;
       room = record {
@@ -294,14 +304,18 @@ module _ {K T : Type 0} (eq : K → K → Bool) (law : IsEquality eq) where
       by_test true o = refl
       by_test false o = refl
 
-  -- a place without askers adds no ask
-  pub put_count : {A : Type 0} (key : Arc K A) (v : Place K T) (es fs : List (Arc K A × Place K T)) → (share_of v).askers ≡ [] → IsPermutation ((key, v) ∷ es) fs → ask_count (shares_of fs) ≤ ask_count (shares_of es)
-  put_count key v es fs n p =
-      let f : Share K T → ℕ = λ (p : Share K T). length p.askers in
+  put_sum : {A : Type 0} (f : Share K T → ℕ) (key : Arc K A) (v : Place K T) (es fs : List (Arc K A × Place K T)) → f (share_of v) ≡ 0 → IsPermutation ((key, v) ∷ es) fs → sum_by f (values_of (shares_of fs)) ≡ sum_by f (values_of (shares_of es))
+  put_sum f key v es fs n p =
       let a = sum_by_values_permutation f (shares_of ((key, v) ∷ es)) (shares_of fs) (IsPermutation-map entry_of ((key, v) ∷ es) fs p) in
       let b = sum_by-cons f (share_of v) (values_of (shares_of es)) in
-      let d : length (share_of v).askers ≡ 0 = ap length n in
       omega arith
+
+  -- a vacant place adds no ask and no task
+  pub put_count : {A : Type 0} (key : Arc K A) (v : Place K T) (es fs : List (Arc K A × Place K T)) → (share_of v).askers ≡ [] → IsPermutation ((key, v) ∷ es) fs → ask_count (shares_of fs) ≤ ask_count (shares_of es)
+  put_count key v es fs n p = let a = put_sum (λ (p : Share K T). length p.askers) key v es fs (ap length n) p in omega arith
+
+  pub put_live : {A : Type 0} (key : Arc K A) (v : Place K T) (es fs : List (Arc K A × Place K T)) → (share_of v).live ≡ false → IsPermutation ((key, v) ∷ es) fs → live_count (shares_of fs) ≡ live_count (shares_of es)
+  put_live key v es fs n p = put_sum (λ (p : Share K T). one_if p.live) key v es fs (ap one_if n) p
 
   pub put_more : {A : Type 0} (key : Arc K A) (v : Place K T) (es fs : List (Arc K A × Place K T)) → IsPermutation ((key, v) ∷ es) fs → sum_by kept_name (values_of (shares_of fs)) ≤ sum_by kept_name (values_of (shares_of es)) + 1
   put_more key v es fs p =

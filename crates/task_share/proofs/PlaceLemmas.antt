@@ -12,8 +12,8 @@ use Rattle.std.proofs.lemmas.Map.Entries.{sum_by-set_value, sum_by-remove_entry}
 use Rattle.dice_key.specs.Lawful.{IsEquality}
 use Rattle.task_share.specs.Asked.{By, Promised, Tasked, is_by}
 use Rattle.task_share.specs.Lists.{Has}
-use Rattle.task_share.specs.Seen.{Share, number_for, has_by, has_live, ask_count}
-use Rattle.task_share.specs.Listed.{share_of, entry_of, shares_of, is_idle, settled, released, kept_name, one_if, IsNamed, IsListed, AreIn, IsChanged, KeepsListed}
+use Rattle.task_share.specs.Seen.{Share, number_for, has_by, has_live, ask_count, one_if}
+use Rattle.task_share.specs.Listed.{share_of, entry_of, shares_of, is_idle, settled, released, kept_name, IsNamed, IsListed, AreIn, IsChanged, KeepsListed}
 use Rattle.task_share.specs.declared.place.Place.{Place}
 
 pub and_both : (a b : Bool) → (a && b) ≡ true → (a ≡ true) × (b ≡ true)

@@ -6,7 +6,7 @@ use Rattle.std.specs.Map.{lookup}
 use Rattle.std.specs.List.{list_any}
 use Rattle.dice_key.specs.Lawful.{IsEquality}
 use Rattle.task_share.specs.Asked.{By, Promised, Tasked, is_by, Takes, IsDone}
-use Rattle.task_share.specs.Seen.{Share, is_for, list_for, number_for, has_by, has_live, task_at, is_live, asks, waits_at, asked_of, has_place, promise_room, asker_room, wait_room, ask_count, KeepsTasks, KeepsAsks, KeepsRoom, KeepsOtherRoom, UsesRoomOf}
+use Rattle.task_share.specs.Seen.{Share, is_for, list_for, number_for, has_by, has_live, task_at, is_live, asks, waits_at, asked_of, has_place, promise_room, asker_room, wait_room, ask_count, one_if, live_count, KeepsTasks, KeepsAsks, KeepsRoom, KeepsOtherRoom, UsesRoomOf}
 use Rattle.task_share.specs.Lent.{WritesTask}
 use Rattle.task_share.specs.Listed.{is_idle, IsListed, AreIn, IsChanged, Turns, Joined, Left, UsesRoom, IsKept, IsMirrored, Withdraws, IsPopped, NoneIdle}
 use Rattle.task_share.proofs.PlaceLemmas.{and_both, idle_unasked}
@@ -228,6 +228,15 @@ module _ {K T : Type 0} (eq : K → K → Bool) (law : IsEquality eq) where
         by_bools false true = refl
         by_bools false false = refl
 
+    pub ended_count : live_count rs ≤ live_count ps
+    ended_count = let a = w.tasks.count in let b = by_places (lookup (eq k) ps) (lookup (eq k) qs) c.here (c.sums (λ (p : Share K T). one_if p.live)) in omega arith
+      where
+        by_places : (o r : Option (Share K T)) → AreIn (λ p r. Turns eq (λ t. t) (λ e. false) (λ x b. b) (λ d b. false) p r × UsesRoom 0 0 p.wait_room p r) o r → live_count qs + number_for (λ (p : Share K T). one_if p.live) o ≡ live_count ps + number_for (λ (p : Share K T). one_if p.live) r → live_count qs ≤ live_count ps
+        by_places None None i e = omega arith
+        by_places None (Some r) i e = absurd i
+        by_places (Some p) None i e = absurd i
+        by_places (Some p) (Some r) i e = let l : one_if r.live ≡ 0 = ap one_if i.0.live in omega arith
+
     pub ended_mirrored : IsMirrored eq rs
     ended_mirrored d i = ended_asks d (Tasked i) ∙ (ap (λ b. b && not (eq k i)) (m d i) ∙ (by_bools (eq k i) (list_any (eq d) (waits_at eq ps i))
         ∙ sym (w.waits i d ∙ waits_turned eq law ps qs k _ c (λ t. t) (λ e. false) (λ x b. b) (λ d b. false) (λ p r i. i.0) d (λ z. refl) i)))
@@ -290,6 +299,9 @@ module _ {K T : Type 0} (eq : K → K → Bool) (law : IsEquality eq) where
 
     pub popped_takes : Takes eq (asked_of eq ps) k (asked_of eq rs)
     popped_takes = record { taken = live_here; unasked = λ a. sym (p.kept.asks k a) ∙ no_asker a; live = popped_live; asks = popped_asks }
+
+    pub popped_count : live_count rs < live_count ps
+    popped_count = let a = w.tasks.count in let b = p.taken.fewer in let d = p.kept.tasks.count in omega arith
 
     pub popped_task : task_at eq ps k ≡ Some t
     popped_task = sym (p.kept.tasks.tasks k) ∙ (ap (option_and_then (λ (r : Share K T). r.task)) p.taken.there ∙ p.task)

@@ -1,11 +1,11 @@
 -- What a change at one key makes of tasks, askers, waits and room.
 use Rattle.std.proofs.Common.{◌≡◌, ◌≤◌, ◌+◌, ℕ, Bool, true, false, cond, List, length, Option, Some, None, is_some, refl, sym, ap, ◌∙◌, subst, arith}
 use Rattle.std.specs.Prelude.{option_and_then}
-use Rattle.std.specs.Map.{lookup}
-use Rattle.std.specs.List.{list_any}
+use Rattle.std.specs.Map.{lookup, values_of}
+use Rattle.std.specs.List.{list_any, sum_by}
 use Rattle.dice_key.specs.Lawful.{IsEquality}
 use Rattle.task_share.specs.Asked.{By}
-use Rattle.task_share.specs.Seen.{Share, is_for, list_for, number_for, has_by, has_live, task_at, is_live, asks, waits_at, has_place, ask_count, KeepsTasks, KeepsRoom}
+use Rattle.task_share.specs.Seen.{Share, is_for, list_for, number_for, has_by, has_live, task_at, is_live, asks, waits_at, has_place, ask_count, one_if, KeepsTasks, KeepsRoom}
 use Rattle.task_share.specs.Listed.{AreIn, IsChanged, Turns, Stays, UsesRoom, IsKept}
 
 pub same_cond : {X : Type 0} (b : Bool) (x : X) → cond b x x ≡ x
@@ -77,11 +77,22 @@ module _ {K T : Type 0} (eq : K → K → Bool) (law : IsEquality eq) (ps qs : L
         by_places (Some p) None e i = absurd i
         by_places (Some p) (Some r) e i = (turn p r i).task
 
+  -- the sum of a number over all places stays where that of the place does
+  pub sum_kept : (f : Share K T → ℕ) → ((p r : Share K T) → R p r → f r ≡ f p) → sum_by f (values_of qs) ≡ sum_by f (values_of ps)
+  sum_kept f step = by_places (lookup (eq k) ps) (lookup (eq k) qs) c.here (c.sums f)
+    where
+      by_places : (o r : Option (Share K T)) → AreIn R o r → sum_by f (values_of qs) + number_for f o ≡ sum_by f (values_of ps) + number_for f r → sum_by f (values_of qs) ≡ sum_by f (values_of ps)
+      by_places None None i e = omega arith
+      by_places None (Some r) i e = absurd i
+      by_places (Some p) None i e = absurd i
+      by_places (Some p) (Some r) i e = let l = step p r i in omega arith
+
   -- the task of each place stays
   pub tasks_kept : ((p r : Share K T) → R p r → (r.task ≡ p.task) × (r.live ≡ p.live)) → KeepsTasks eq ps qs
   tasks_kept step = record {
     tasks = λ q. by_key (option_and_then (λ (p : Share K T). p.task)) (λ o. o) (by_places (lookup (eq k) ps) (lookup (eq k) qs) c.here) q ∙ same_cond (eq k q) (task_at eq ps q);
     live = λ q. test_turned has_live (λ b. b) (λ n. refl) (λ p r i. (step p r i).1) q ∙ same_cond (eq k q) (is_live eq ps q);
+    count = sum_kept (λ (p : Share K T). one_if p.live) (λ p r i. ap one_if (step p r i).1);
   }
     where
       by_places : (o r : Option (Share K T)) → AreIn R o r → option_and_then (λ (p : Share K T). p.task) r ≡ option_and_then (λ (p : Share K T). p.task) o
@@ -136,10 +147,10 @@ module _ {K T : Type 0} (eq : K → K → Bool) where
   }
 
   pub tasks_on : (ps qs rs : List (K × Share K T)) → KeepsTasks eq ps qs → KeepsTasks eq qs rs → KeepsTasks eq ps rs
-  tasks_on ps qs rs a b = record { tasks = λ q. b.tasks q ∙ a.tasks q; live = λ q. b.live q ∙ a.live q }
+  tasks_on ps qs rs a b = record { tasks = λ q. b.tasks q ∙ a.tasks q; live = λ q. b.live q ∙ a.live q; count = b.count ∙ a.count }
 
   pub kept_itself : (ps : List (K × Share K T)) → IsKept eq ps ps
-  kept_itself ps = record { tasks = record { tasks = λ q. refl; live = λ q. refl }; asks = λ q a. refl; waits = λ k d. refl; room = room_itself ps }
+  kept_itself ps = record { tasks = record { tasks = λ q. refl; live = λ q. refl; count = refl }; asks = λ q a. refl; waits = λ k d. refl; room = room_itself ps }
 
   pub kept_on : (ps qs rs : List (K × Share K T)) → IsKept eq ps qs → IsKept eq qs rs → IsKept eq ps rs
   kept_on ps qs rs a b = record {

@@ -1,5 +1,5 @@
 -- What a table keeps of its candidates, and what becomes of one place.
-use Rattle.std.specs.Prelude.{◌≡◌, ◌≤◌, ◌+◌, ℕ, Bool, true, false, not, cond, ◌&&◌, ◌||◌, eqb, List, [], length, map, Option, Some, None, is_some}
+use Rattle.std.specs.Prelude.{◌≡◌, ◌≤◌, ◌<◌, ◌+◌, ℕ, Bool, true, false, not, cond, ◌&&◌, ◌||◌, eqb, List, [], length, map, Option, Some, None, is_some}
 use Rattle.std.specs.Arc.{arc_value}
 use Rattle.std.specs.Map.{lookup, values_of}
 use Rattle.std.specs.List.{list_any, sum_by}
@@ -9,7 +9,7 @@ use Rattle.std.specs.declared.sync.Arc.{Arc}
 use Rattle.task_share.specs.Asked.{By, Tasked, is_by}
 use Rattle.task_share.specs.Lists.{Has}
 pub use Rattle.task_share.specs.Seen.{IsMirrored}
-use Rattle.task_share.specs.Seen.{Share, number_for, has_live, has_by, asks, waits_at, ask_count, KeepsTasks, KeepsAsks, KeepsRoom}
+use Rattle.task_share.specs.Seen.{Share, number_for, has_live, has_by, asks, waits_at, ask_count, one_if, live_count, KeepsTasks, KeepsAsks, KeepsRoom}
 use Rattle.task_share.specs.declared.place.Place.{Place}
 
 -- a place without its pointers
@@ -43,10 +43,6 @@ settled p = record p { name = cond (is_idle p) None p.name }
 
 abbrev pub released : {K T : Type 0} → Share K T → Option K
 released p = cond (is_idle p) p.name None
-
-abbrev pub one_if : Bool → ℕ
-one_if true = 1
-one_if false = 0
 
 -- how many keys a place may still give away
 abbrev pub kept_name : {K T : Type 0} → Share K T → ℕ
@@ -85,7 +81,7 @@ AreIn R None (Some y) = ⊥
 AreIn R (Some x) None = ⊥
 AreIn R (Some x) (Some y) = R x y
 
--- the place of k changed by R, and no other
+-- the place of k changed by R, and no other; so a sum over all places changes by what it has of that place
 pub record IsChanged {K T : Type 0} (eq : K → K → Bool) (k : K) (R : Share K T → Share K T → Type 0) (ps qs : List (K × Share K T)) : Type 0 where
   pub here : AreIn R (lookup (eq k) ps) (lookup (eq k) qs)
   pub others : (q : K) → eq k q ≡ false → lookup (eq q) qs ≡ lookup (eq q) ps
@@ -146,6 +142,7 @@ pub record IsTaken {K T : Type 0} (eq : K → K → Bool) (k : K) (p : Share K T
   pub idle : is_idle p ≡ true
   pub gone : (q : K) → lookup (eq q) qs ≡ cond (eq k q) None (lookup (eq q) ps)
   pub count : ask_count qs ≤ ask_count ps
+  pub fewer : live_count qs < live_count ps
 
 -- the task t of k was idle, and is taken out with what it waits for, after keys went back to their places
 pub record IsPopped {K T : Type 0} (eq : K → K → Bool) (k : K) (t : T) (waits : List K) (ps qs : List (K × Share K T)) : Type 0 where

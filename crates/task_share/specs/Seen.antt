@@ -43,6 +43,14 @@ has_by eq p (Tasked j) = list_any (eq j) p.askers
 abbrev pub ask_count : {K T : Type 0} → List (K × Share K T) → ℕ
 ask_count {K} {T} ps = sum_by (λ (p : Share K T). length p.askers) (values_of ps)
 
+abbrev pub one_if : Bool → ℕ
+one_if true = 1
+one_if false = 0
+
+-- how many tasks have not ended
+abbrev pub live_count : {K T : Type 0} → List (K × Share K T) → ℕ
+live_count {K} {T} ps = sum_by (λ (p : Share K T). one_if p.live) (values_of ps)
+
 module _ {K T : Type 0} (eq : K → K → Bool) where
   -- the task of a key, ended or not
   abbrev pub task_at : List (K × Share K T) → K → Option T
@@ -86,6 +94,7 @@ module _ {K T : Type 0} (eq : K → K → Bool) where
   pub record KeepsTasks (ps qs : List (K × Share K T)) : Type 0 where
     pub tasks : (q : K) → task_at qs q ≡ task_at ps q
     pub live : (q : K) → is_live qs q ≡ is_live ps q
+    pub count : live_count qs ≡ live_count ps
 
   -- the askers are as before, and with them the waits
   abbrev pub KeepsAsks : List (K × Share K T) → List (K × Share K T) → Type 0

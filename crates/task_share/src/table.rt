@@ -8,7 +8,7 @@ ghost use Rattle.dice_key.specs.Lawful.{IsEquality};
 ghost use Rattle.task_share.specs.Asked.{By, Promised, Tasked, is_by, IsDone, Takes};
 ghost use Rattle.task_share.specs.Askers.{by_of};
 ghost use Rattle.task_share.specs.Lent.{LendsTask};
-ghost use Rattle.task_share.specs.Seen.{task_at, is_live, asks, waits_at, asked_of, ask_count, IsMirrored, has_place, promise_room, asker_room, wait_room, KeepsTasks, KeepsAsks, KeepsRoom, KeepsOtherRoom, UsesRoomOf};
+ghost use Rattle.task_share.specs.Seen.{task_at, is_live, asks, waits_at, asked_of, ask_count, live_count, IsMirrored, has_place, promise_room, asker_room, wait_room, KeepsTasks, KeepsAsks, KeepsRoom, KeepsOtherRoom, UsesRoomOf};
 
 use crate::asker::{Asker, Askers, Wait};
 use crate::idle::{pop_idle, withdraw};
@@ -252,6 +252,7 @@ impl<K: Eq + Hash + Drop, T: Drop> Table<K, T> {
         ensures live { (q : K) → is_live K.eq self.new q ≡ (is_live K.eq self.old q && not (K.eq (arc_value key.now) q)) }
         ensures asks { (q : K) (a : By K) → asks K.eq self.new q a ≡ (asks K.eq self.old q a && not (is_by K.eq (Tasked (arc_value key.now)) a)) }
         ensures room { KeepsOtherRoom K.eq (arc_value key.now) self.old self.new }
+        ensures count { live_count self.new ≤ live_count self.old }
     {
         let waits = end_task(&mut self.places, self.alloc, key);
         withdraw(&mut self.places, &mut self.candidates, key, waits);
@@ -260,12 +261,14 @@ impl<K: Eq + Hash + Drop, T: Drop> Table<K, T> {
     /// Takes one task out that has not ended and has no asker, and withdraws its own asks; `None` exactly where there is no such
     /// task. Called until `None` it is the cascade (`drops_unheld`). It takes no memory.
     ///
-    /// Each call takes a candidate, and those are only what lost its last asker or was made without one.
+    /// Each call takes a candidate, and those are only what lost its last asker or was made without one. Each task that it gives
+    /// lowers the number of tasks that have not ended, so a loop over it ends.
     pub fn next_unasked(&mut self) -> Option<(Arc<K>, T)>
         ensures some { IfSome result (λ r. Takes K.eq (asked_of K.eq self.old) (arc_value r.0) (asked_of K.eq self.new)) }
         ensures task { IfSome result (λ r. task_at K.eq self.old (arc_value r.0) ≡ Some r.1) }
         ensures tasks { IfSome result (λ r. (q : K) → task_at K.eq self.new q ≡ (if K.eq (arc_value r.0) q then None else task_at K.eq self.old q)) }
         ensures room { IfSome result (λ r. KeepsOtherRoom K.eq (arc_value r.0) self.old self.new) }
+        ensures fewer { IfSome result (λ r. live_count self.new < live_count self.old) }
         ensures none { IfNone result (IsDone (asked_of K.eq self.old) × KeepsTasks K.eq self.old self.new × KeepsAsks K.eq self.old self.new × KeepsRoom K.eq self.old self.new) }
     {
         let Some((key, task, waits)) = pop_idle(&mut self.places, &mut self.candidates) else {

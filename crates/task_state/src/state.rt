@@ -111,7 +111,15 @@ impl<K: Drop, V: Drop> TaskState<K, V> {
         *self = TaskState::Computing(Stage::Ready);
     }
 
-    /// It ends, with this outcome; a check that found all the same ends with the value that was checked.
+    /// Its check found all the same: from a check that is out to the end, with the value that was checked.
+    pub fn same(&mut self, checked: Arc<V>)
+        requires { self.old ≡ TaskState.Checking Stage.Out }
+        ensures { self.new ≡ TaskState.Ended (Outcome.Value checked) }
+    {
+        *self = TaskState::Ended(Outcome::Value(checked));
+    }
+
+    /// It ends, from any state that has not ended, with this outcome.
     pub fn end(&mut self, outcome: Outcome<K, V>)
         requires { (stage : Stage) × (stage_of self.old ≡ Some stage) }
         ensures { self.new ≡ TaskState.Ended outcome }

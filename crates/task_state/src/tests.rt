@@ -25,3 +25,20 @@ fn a_check_that_becomes_a_computation(rt: HostRuntime) -> Result<(), Fail> {
     assert!(rt; matches!(state, TaskState::Ended(Outcome::Value(_))));
     Ok(())
 }
+
+/// The value that it ended with.
+fn value_of(state: &TaskState<u32, u64>) -> Option<u64> {
+    match state {
+        TaskState::Ended(Outcome::Value(value)) => Some(**value),
+        _ => None,
+    }
+}
+
+#[test]
+fn a_check_that_finds_all_the_same_ends_with_its_value(rt: HostRuntime) -> Result<(), Fail> {
+    let mut state: TaskState<u32, u64> = TaskState::Checking(Stage::Ready);
+    state.taken();
+    state.same(Arc::new(rt.alloc(), 7)?);
+    assert_eq!(rt; value_of(&state), Some(7));
+    Ok(())
+}

@@ -1,11 +1,10 @@
 -- What is kept stays true over a longer log.
-use Rattle.std.proofs.Common.{◌≡◌, ◌≤◌, ◌+◌, ℕ, Bool, List, [], ◌++◌, length, Some, sym, ◌∙◌, arith, length-append}
+use Rattle.std.proofs.Common.{◌≤◌, ℕ, Bool, List, [], ◌++◌, length, arith, length-append}
 use Rattle.dice_key.specs.Meaning.{Meaning, Answered}
-use Rattle.dice_model.specs.Eval.{HasValue}
 use Rattle.dice_model.specs.Asks.{IsTrace}
 use Rattle.dice_model.proofs.Stable.{value_stable, goes_stable}
-use Rattle.versioned_graph.specs.Entries.{Stored, Kept, entry_at}
-use Rattle.versioned_graph.specs.Sound.{IsTrue, IsClosed, AreTrue}
+use Rattle.versioned_graph.specs.Entries.{Stored}
+use Rattle.versioned_graph.specs.Sound.{AreTrue}
 
 module _ {K V : Type 0} (eq : K → K → Bool) (m : Meaning K V) (C D : List (List (K × V))) where
   trace_longer : (v : ℕ) (k : K) (A : List (Answered K V)) (x : V) → v ≤ length C → IsTrace eq m C v k A x → IsTrace eq m (C ++ D) v k A x

@@ -1,12 +1,12 @@
 -- The entries, read through the map that holds them.
-use Rattle.std.proofs.Common.{◌≡◌, Bool, true, false, cond, List, [], ◌∷◌, map, Option, Some, None, refl, ap, sym, ◌∙◌, subst}
+use Rattle.std.proofs.Common.{◌≡◌, Bool, true, false, cond, List, [], ◌∷◌, map, Option, Some, None, refl, ap, sym, ◌∙◌}
 use Rattle.std.specs.Map.{lookup}
 use Rattle.std.specs.Arc.{arc_value, arc_with_value}
 use Rattle.std.specs.Borrow.{Bor}
 use Rattle.std.specs.Option.{option_map, option_copied}
 use Rattle.std.specs.declared.sync.Arc.{Arc}
 use Rattle.dice_key.specs.Lawful.{AreSame}
-use Rattle.versioned_graph.specs.Entries.{Stored, Kept, kept_of, named, entry_at}
+use Rattle.versioned_graph.specs.Entries.{Stored, kept_of, named, entry_at}
 
 pub cond_map : {A B : Type 0} (f : A → B) (b : Bool) (x : A) (o : Option A) → cond b (Some (f x)) (option_map f o) ≡ option_map f (cond b (Some x) o)
 cond_map f true x o = refl

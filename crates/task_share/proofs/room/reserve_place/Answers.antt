@@ -8,7 +8,7 @@ use Rattle.task_share.specs.Listed.{share_of, entry_of, shares_of, IsVacant, IsK
 use Rattle.task_share.proofs.PlaceLemmas.{lookup_shares}
 use Rattle.std.proofs.lemmas.List.{length-map}
 use Rattle.task_share.proofs.TurnLemmas.{kept_itself}
-use Rattle.task_share.proofs.IdleLemmas.{room_grown, vacant_placed, vacant_listed, vacant_kept, put_at, put_more, put_count, still_some, is_missing, at_none}
+use Rattle.task_share.proofs.IdleLemmas.{room_grown, vacant_placed, vacant_listed, vacant_kept, put_at, put_more, put_count, put_live, still_some, is_missing, at_none}
 use Rattle.task_share.proofs.room.reserve_place.Goals as goal
 
 pub returns-then-contains_key-clause-kept : goal.returns-then-contains_key-clause-kept
@@ -91,7 +91,7 @@ returns-clause-kept g c =
     let put = put_at eq law key v c.args.places.now.entries fs (λ q. c.in_ok-insert.ensures.updates.0 q) in
     let vac : IsVacant (arc_value key) (share_of v) = subst (λ x. IsVacant x (share_of v)) (c.in_ok-try_clone.ensures ∙ sym same) c.vacant-place.ensures in
     let gone : c.in_ok-insert.field-0 ≡ None = c.in_ok-insert.ensures.old ∙ subst (λ x. lookup (λ a. eq x (arc_value a)) c.args.places.now.entries ≡ None) (sym same) missing in
-    vacant_kept eq law ps (shares_of fs) (arc_value key) (share_of v) none put vac (put_count eq law key v c.args.places.now.entries fs vac.askers (at_none _ c.in_ok-insert.field-0 gone c.in_ok-insert.ensures.entries))
+    vacant_kept eq law ps (shares_of fs) (arc_value key) (share_of v) none put vac (put_count eq law key v c.args.places.now.entries fs vac.askers (at_none _ c.in_ok-insert.field-0 gone c.in_ok-insert.ensures.entries)) (put_live eq law key v c.args.places.now.entries fs vac.live (at_none _ c.in_ok-insert.field-0 gone c.in_ok-insert.ensures.entries))
 
 pub returns-clause-ok : goal.returns-clause-ok
 returns-clause-ok g c =

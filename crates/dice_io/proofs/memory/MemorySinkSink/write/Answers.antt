@@ -1,4 +1,4 @@
-use Rattle.std.proofs.Common.{rules, arith}
+use Rattle.std.proofs.Common.{rules}
 use Rattle.dice_io.proofs.StreamLemmas.{takes_front}
 use Rattle.dice_io.proofs.memory.MemorySinkSink.write.Goals as goal
 

@@ -1,9 +1,9 @@
-use Rattle.std.proofs.Common.{◌≡◌, subst, not, ◌&&◌, map, List}
+use Rattle.std.proofs.Common.{◌≡◌, subst, not, ◌&&◌, map, List, ◌≤◌}
 use Rattle.std.specs.Arc.{arc_value}
 use Rattle.task_share.specs.Asked.{By, Tasked, is_by}
-use Rattle.task_share.specs.Seen.{Share, task_at, is_live, asks, KeepsOtherRoom}
+use Rattle.task_share.specs.Seen.{Share, live_count, task_at, is_live, asks, KeepsOtherRoom}
 use Rattle.task_share.specs.Listed.{shares_of}
-use Rattle.task_share.proofs.TableLemmas.{ended_asks, ended_tasks, ended_live, ended_mirrored, ended_room}
+use Rattle.task_share.proofs.TableLemmas.{ended_asks, ended_tasks, ended_live, ended_mirrored, ended_room, ended_count}
 use Rattle.task_share.proofs.table.Table.ended.Goals as goal
 
 pub withdraw-requires-clause-listed : goal.withdraw-requires-clause-listed
@@ -27,3 +27,7 @@ returns-clause-asks g c = subst (λ (ps : List (g.row.K.Denot × Share g.row.K.D
 pub returns-clause-room : goal.returns-clause-room
 returns-clause-room g c = subst (λ (ps : List (g.row.K.Denot × Share g.row.K.Denot g.row.T.Denot)). KeepsOtherRoom g.K.PartialEq.eq (arc_value c.args.key.now) ps (shares_of c.withdraw.new.places.entries)) c.self.view_is
     (ended_room g.K.PartialEq.eq c.self.invariant.0 (shares_of c.self.inside.places.entries) (shares_of c.end_task-waits.new.places.entries) (shares_of c.withdraw.new.places.entries) (arc_value c.args.key.now) (map arc_value c.end_task-waits.result.keys) c.end_task-waits.ensures.changed c.end_task-waits.ensures.waits c.withdraw.ensures.withdrawn c.self.invariant.1.mirrored)
+
+pub returns-clause-count : goal.returns-clause-count
+returns-clause-count g c = subst (λ (ps : List (g.row.K.Denot × Share g.row.K.Denot g.row.T.Denot)). live_count (shares_of c.withdraw.new.places.entries) ≤ live_count ps) c.self.view_is
+    (ended_count g.K.PartialEq.eq c.self.invariant.0 (shares_of c.self.inside.places.entries) (shares_of c.end_task-waits.new.places.entries) (shares_of c.withdraw.new.places.entries) (arc_value c.args.key.now) (map arc_value c.end_task-waits.result.keys) c.end_task-waits.ensures.changed c.end_task-waits.ensures.waits c.withdraw.ensures.withdrawn c.self.invariant.1.mirrored)

@@ -1,9 +1,9 @@
-use Rattle.std.proofs.Common.{◌≡◌, subst, Some, None, cond, map, List}
+use Rattle.std.proofs.Common.{◌≡◌, subst, Some, None, cond, map, List, ◌<◌}
 use Rattle.std.specs.Arc.{arc_value}
 use Rattle.task_share.specs.Asked.{IsDone, Takes}
-use Rattle.task_share.specs.Seen.{Share, task_at, asked_of, KeepsTasks, KeepsAsks, KeepsRoom, KeepsOtherRoom}
+use Rattle.task_share.specs.Seen.{Share, live_count, task_at, asked_of, KeepsTasks, KeepsAsks, KeepsRoom, KeepsOtherRoom}
 use Rattle.task_share.specs.Listed.{shares_of}
-use Rattle.task_share.proofs.TableLemmas.{mirrored_same, popped_takes, popped_task, popped_tasks, popped_mirrored, popped_room, done_from}
+use Rattle.task_share.proofs.TableLemmas.{mirrored_same, popped_takes, popped_task, popped_tasks, popped_mirrored, popped_room, popped_count, done_from}
 use Rattle.task_share.proofs.table.Table.next_unasked.Goals as goal
 
 pub invariant_of-self : goal.invariant_of-self
@@ -34,3 +34,7 @@ returns-clause-tasks g c = subst (λ (ps : List (g.row.K.Denot × Share g.row.K.
 pub returns-clause-room : goal.returns-clause-room
 returns-clause-room g c = subst (λ (ps : List (g.row.K.Denot × Share g.row.K.Denot g.row.T.Denot)). KeepsOtherRoom g.K.PartialEq.eq (arc_value c.in-Some.key) ps (shares_of c.withdraw.new.places.entries)) c.self.view_is
     (popped_room g.K.PartialEq.eq c.self.invariant.0 (shares_of c.self.inside.places.entries) (shares_of c.pop_idle.new.places.entries) (shares_of c.withdraw.new.places.entries) (arc_value c.in-Some.key) c.in-Some.task (map arc_value c.in-Some.waits.keys) c.in-Some.ensures.some c.withdraw.ensures.withdrawn c.self.invariant.1.mirrored)
+
+pub returns-clause-fewer : goal.returns-clause-fewer
+returns-clause-fewer g c = subst (λ (ps : List (g.row.K.Denot × Share g.row.K.Denot g.row.T.Denot)). live_count (shares_of c.withdraw.new.places.entries) < live_count ps) c.self.view_is
+    (popped_count g.K.PartialEq.eq c.self.invariant.0 (shares_of c.self.inside.places.entries) (shares_of c.pop_idle.new.places.entries) (shares_of c.withdraw.new.places.entries) (arc_value c.in-Some.key) c.in-Some.task (map arc_value c.in-Some.waits.keys) c.in-Some.ensures.some c.withdraw.ensures.withdrawn c.self.invariant.1.mirrored)

@@ -1,4 +1,4 @@
-use Rattle.std.proofs.Common.{◌≡◌, ◌∙◌, cond, Some}
+use Rattle.std.proofs.Common.{◌∙◌, cond, Some}
 use Rattle.std.specs.Arc.{arc_value}
 use Rattle.injected.specs.Seen.{cell_at}
 use Rattle.versioned_graph.specs.Entries.{entry_at, finished, written}
