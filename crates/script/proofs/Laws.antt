@@ -1,10 +1,13 @@
 -- A text has one reading as a script, or one first fault, and not both.
-use Rattle.std.proofs.Common.{◌≡◌, ◌∙◌, sym, ap, refl, subst, inl, inr, ℕ, List, [], ◌∷◌, ◌++◌, ◌+◌, take, drop, Option, Some, None, arith}
+use Rattle.std.proofs.Common.{◌≡◌, ◌≢◌, ◌∙◌, sym, ap, refl, subst, inl, inr, ℕ, List, [], ◌∷◌, ◌++◌, ◌+◌, take, drop, Option, Some, None, arith}
 use Rattle.buck_label.specs.Labels.{Name, IsLabel, printed}
 use Rattle.script.specs.Lines.{IsDecimal, words, line_of, behind_line, line_feeds}
-use Rattle.script.specs.Faults.{Past, nothing, after, Form, form_of, Tests, done, test, AllHold, FirstToFail, tests}
-use Rattle.script.specs.Scripts.{Makes, put_line, commit_line, open_line, ask_line, action_line, IsFrom, ended, skipped, told, FaultAt, no_form, fails, behind_skipped, behind, IsFirstFault}
+use Rattle.script.specs.Past.{Past, nothing, after, fate_of}
+use Rattle.script.specs.Faults.{Form, form_of, Tests, done, test, AllHold, FirstToFail, tests}
+use Rattle.script.specs.Scripts.{Makes, put_line, drop_line, commit_line, open_line, ask_line, action_line, wait_line, cancel_line, close_line, IsFrom, ended, skipped, told, FaultAt, no_form, fails, behind_skipped, behind, IsFirstFault}
 use Rattle.script.specs.Order.{Fits, InOrder}
+use Rattle.script.specs.declared.fate.Fate.{Fate}
+use Rattle.script.specs.declared.fate.Fate.TheVariants.{Pending, Answered, Cancelled}
 use Rattle.script.specs.declared.fault.Word.{Word}
 use Rattle.script.specs.declared.line.Line.{Line}
 use Rattle.script.specs.declared.line.Request.{Request}
@@ -46,10 +49,14 @@ same_request F t name label rest m n e =
 
 one_make : OneLabel → (f : Form) (bs : List ℕ) (l m : Line) (r s : List ℕ) → Makes f bs l r → Makes f bs m s → Same l m r s
 one_make one f bs l m r s (put_line path number rest i h) (put_line path' number' rest' j k) = same_put path number rest i j h k
+one_make one f bs l m r s (drop_line path rest) (drop_line path' rest') = record { line = refl; rest = refl }
 one_make one f bs l m r s (commit_line rest) (commit_line rest') = record { line = refl; rest = refl }
 one_make one f bs l m r s (open_line t rest) (open_line t' rest') = record { line = refl; rest = refl }
 one_make one f bs l m r s (ask_line t name label rest x h) (ask_line t' name' label' rest' y k) = same_request Ask t name label rest x y (one label x y h k)
 one_make one f bs l m r s (action_line t name label rest x h) (action_line t' name' label' rest' y k) = same_request Action t name label rest x y (one label x y h k)
+one_make one f bs l m r s (wait_line name rest) (wait_line name' rest') = record { line = refl; rest = refl }
+one_make one f bs l m r s (cancel_line name rest) (cancel_line name' rest') = record { line = refl; rest = refl }
+one_make one f bs l m r s (close_line t rest) (close_line t' rest') = record { line = refl; rest = refl }
 
 same_form : (text : List ℕ) (f g : Form) → form_of (words (line_of text)) ≡ Some f → form_of (words (line_of text)) ≡ Some g → f ≡ g
 same_form text f g h k = let e : Some f ≡ Some g = sym h ∙ k in cc
@@ -146,12 +153,23 @@ one_line one text m n v w h k =
     let e : n ≡ 1 + line_feeds k.front = k.line_is in
     (omega arith, o.1)
 
+-- neither unknown nor answered nor cancelled
+pending : (o : Option Fate) → o ≢ None → o ≢ Some Answered → o ≢ Some Cancelled → o ≡ Some Pending
+pending None h k g = absurd (h refl)
+pending (Some Pending) h k g = refl
+pending (Some Answered) h k g = absurd (k refl)
+pending (Some Cancelled) h k g = absurd (g refl)
+
 fits : (p : Past) (f : Form) (bs : List ℕ) (l : Line) (r : List ℕ) → AllHold (tests p f bs) → Makes f bs l r → Fits p l
 fits p f bs l r a (put_line path number rest n h) = (a.0, a.1.0)
+fits p f bs l r a (drop_line path rest) = (a.0, a.1.0)
 fits p f bs l r a (commit_line rest) = tt
 fits p f bs l r a (open_line t rest) = (a.0, a.1.0)
 fits p f bs l r a (ask_line t name label rest n h) = record { opened = a.1.0; free = a.1.1.1.0 }
 fits p f bs l r a (action_line t name label rest n h) = record { opened = a.1.0; free = a.1.1.1.0 }
+fits p f bs l r a (wait_line name rest) = (a.1.0, a.1.1.0)
+fits p f bs l r a (cancel_line name rest) = pending (fate_of p name) a.1.0 a.1.1.0 a.1.1.1.0
+fits p f bs l r a (close_line t rest) = a.1.0
 
 -- a script's lines fit one another
 pub in_order : (p : Past) (text : List ℕ) (ls : List Line) → IsFrom p text ls → InOrder p ls

@@ -1,12 +1,13 @@
 -- How far a text has been read.
-use Rattle.std.proofs.Common.{◌≡◌, ◌≢◌, ◌⊎◌, ◌≤◌, sym, ap, subst, inl, inr, ℕ, List, [], ◌∷◌, ◌++◌, append_assoc, append-nil, length, ◌<◌, ◌+◌, ◌-◌, take, drop, arith, option_to_list, Option, Some, None}
+use Rattle.std.proofs.Common.{◌≡◌, ◌≢◌, ◌⊎◌, ◌≤◌, ◌∙◌, refl, sym, ap, subst, inl, inr, ℕ, List, [], ◌∷◌, ◌++◌, append_assoc, append-nil, length, ◌<◌, ◌+◌, ◌-◌, take, drop, arith, option_to_list, Option, Some, None}
 use Rattle.std.proofs.lemmas.List.{length-drop, drop-drop, drop_all}
 use Rattle.script.proofs.WordLemmas.{rest_of}
 use Rattle.script.specs.declared.fault.Word.{Word}
 use Rattle.script.specs.declared.fault.Word.TheVariants as fault
 use Rattle.script.specs.declared.line.Line.{Line}
 use Rattle.script.specs.Lines.{words, line_of, behind_line}
-use Rattle.script.specs.Faults.{Past, nothing, after, Form, form_of, FirstToFail, tests}
+use Rattle.script.specs.Past.{Past, nothing, after, after_all}
+use Rattle.script.specs.Faults.{Form, form_of, FirstToFail, tests}
 use Rattle.script.specs.Scripts.{IsSkipped, IsFrom, ended, skipped, told, FaultAt, no_form, fails, behind_skipped, behind}
 use Rattle.script.specs.Taking.{HasDone, HasFault, IsLineTaken, IsBroken, broken_at}
 use Rattle.script.specs.declared.fault.Stop.{Stop}
@@ -17,9 +18,14 @@ use Rattle.std.proofs.Common.{Err}
 pub record Reached (text : List ℕ) (p : Past) (so_far : List Line) (rest : List ℕ) : Type 0 where
   pub script : (ls : List Line) → IsFrom p rest ls → IsFrom nothing text (so_far ++ ls)
   pub fault : (left : List ℕ) (w : Word) → FaultAt p rest left w → FaultAt nothing text left w
+  pub past : p ≡ after_all nothing so_far
 
 pub at_start : (text : List ℕ) → Reached text nothing [] text
-at_start text = record { script = λ ls h. h; fault = λ left w h. h }
+at_start text = record { script = λ ls h. h; fault = λ left w h. h; past = refl }
+
+after_one_more : (p : Past) (ls : List Line) (l : Line) → after_all p (ls ++ l ∷ []) ≡ after (after_all p ls) l
+after_one_more p [] l = refl
+after_one_more p (m ∷ ls) l = after_one_more (after p m) ls l
 
 moved : (text : List ℕ) (p q : Past) (ls : List Line) (rest : List ℕ) → q ≡ p → Reached text p ls rest → Reached text q ls rest
 moved text p q ls rest e r = subst (λ (x : Past). Reached text x ls rest) (sym e) r
@@ -33,6 +39,7 @@ step_skipped text p q ls rest more some r d =
     moved text p q ls more d.2 (at_rest text p ls (behind_line rest) more d.1 record {
       script = λ ms h. r.script ms (skipped p rest ms some d.0 h);
       fault = λ left w h. r.fault left w (behind_skipped p rest left w some d.0 h);
+      past = r.past;
     })
 
 -- behind a line that does something
@@ -41,6 +48,7 @@ step_told text p q ls l rest more r d =
     moved text (after p l) q (ls ++ l ∷ []) more d.5 record {
       script = λ ms h. subst (λ (xs : List Line). IsFrom nothing text xs) (sym (append_assoc ls (l ∷ []) ms)) (r.script (l ∷ ms) (told p rest more d.0 l ms d.1 d.2 d.3 d.4 h));
       fault = λ left w h. r.fault left w (behind p rest more left d.0 l w d.1 d.2 d.3 d.4 h);
+      past = ap (λ (x : Past). after x l) r.past ∙ sym (after_one_more nothing ls l);
     }
 
 step_more : (text : List ℕ) (p q : Past) (ls : List Line) (rest more : List ℕ) (made : Option Line) → rest ≢ [] → Reached text p ls rest → HasDone p rest made more q → Reached text q (ls ++ option_to_list made) more

@@ -1,19 +1,23 @@
 -- What the parts of the reader answer, over plain values.
-use Rattle.std.proofs.Common.{◌≡◌, ◌∙◌, ◌+◌, sym, ap, subst, inr, ℕ, false, List, take, drop, Ok, Err, Some}
+use Rattle.std.proofs.Common.{◌≡◌, ◌≢◌, ◌∙◌, ◌+◌, sym, ap, subst, inr, ℕ, true, false, List, take, drop, Ok, Err, Some, None}
 use Rattle.script.specs.declared.fault.Stop.{Stop}
 use Rattle.script.specs.declared.fault.Stop.TheVariants as stop
 use Rattle.script.specs.declared.line.Line.{Line}
 use Rattle.script.specs.declared.line.Request.{Request}
-use Rattle.script.specs.declared.line.Line.TheVariants.{Put, Commit, Open, Ask, Action}
+use Rattle.script.specs.declared.line.Line.TheVariants.{Put, Drop, Commit, Open, Ask, Action, Wait, Cancel, Close}
+use Rattle.buck_label.specs.Paths.{IsPath}
+use Rattle.script.specs.declared.fate.Fate.{Fate}
+use Rattle.script.specs.declared.fate.Fate.TheVariants.{Pending, Answered, Cancelled}
 use Rattle.script.specs.Lines.{IsName, words, line_of, behind_line}
-use Rattle.script.specs.Faults.{Past, adding, no_texts, Form, puts, commits, opens, asks, acts, form_of}
-use Rattle.script.specs.Scripts.{IsSkipped, Makes, put_line, commit_line, open_line, ask_line, action_line}
+use Rattle.script.specs.Past.{Past, adding, no_texts, with_entry, made_in, settling, closing, fate_of}
+use Rattle.script.specs.Faults.{Form, puts, drops, commits, opens, asks, acts, waits, cancels, closes, form_of}
+use Rattle.script.specs.Scripts.{IsSkipped, Makes, put_line, drop_line, commit_line, open_line, ask_line, action_line, wait_line, cancel_line, close_line}
 use Rattle.script.specs.Taking.{IsPutRead, IsRequestRead, IsTaken, IsLineTaken}
 
 pub commit_taken : (p q : Past) (behind : List ℕ) → q ≡ record p { touched = no_texts } → IsTaken p commits behind (Ok (Commit, 0)) q
 commit_taken p q behind g = (tt, commit_line behind, g)
 
-pub open_taken : (p q : Past) (t name behind : List ℕ) → name ≡ t → IsName t → p.opened t ≡ false → q ≡ record p { opened = adding name p.opened } → IsTaken p (opens t) behind (Ok (Open name, 0)) q
+pub open_taken : (p q : Past) (t name behind : List ℕ) → name ≡ t → IsName t → p.opened t ≡ None → q ≡ record p { opened = with_entry name true p.opened } → IsTaken p (opens t) behind (Ok (Open name, 0)) q
 open_taken p q t name behind e h f g =
     ((h, (f, tt)), subst (λ (n : List ℕ). Makes (opens t) behind (Open n) behind) (sym e) (open_line t behind), g)
 
@@ -27,13 +31,37 @@ put_taken p q path number behind name bytes n m h e d g = (
   g,
 )
 
-pub ask_taken : (p q : Past) (t name label behind : List ℕ) (r : Request) → IsRequestRead p t name label (Ok r) → q ≡ record p { asked = adding r.name p.asked } → IsTaken p (asks t name label) behind (Ok (Ask r, 0)) q
+-- the transaction of a request that was read is open
+pub request_open : (p : Past) (t name label : List ℕ) (r : Request) → IsRequestRead p t name label (Ok r) → p.opened r.transaction ≡ Some true
+request_open p t name label r h = ap (λ (x : Request). p.opened x.transaction) h.1.2 ∙ h.0.1.0
+
+pub ask_taken : (p q : Past) (t name label behind : List ℕ) (r : Request) → IsRequestRead p t name label (Ok r) → q ≡ record p { asked = with_entry r.name (made_in r.transaction) p.asked } → IsTaken p (asks t name label) behind (Ok (Ask r, 0)) q
 ask_taken p q t name label behind r h g =
     (h.0, subst (λ (s : Request). Makes (asks t name label) behind (Ask s) behind) (sym h.1.2) (ask_line t name label behind h.1.0 h.1.1), g)
 
-pub action_taken : (p q : Past) (t name label behind : List ℕ) (r : Request) → IsRequestRead p t name label (Ok r) → q ≡ record p { asked = adding r.name p.asked } → IsTaken p (acts t name label) behind (Ok (Action r, 0)) q
+pub action_taken : (p q : Past) (t name label behind : List ℕ) (r : Request) → IsRequestRead p t name label (Ok r) → q ≡ record p { asked = with_entry r.name (made_in r.transaction) p.asked } → IsTaken p (acts t name label) behind (Ok (Action r, 0)) q
 action_taken p q t name label behind r h g =
     (h.0, subst (λ (s : Request). Makes (acts t name label) behind (Action s) behind) (sym h.1.2) (action_line t name label behind h.1.0 h.1.1), g)
+
+pub drop_taken : (p q : Past) (path name behind : List ℕ) → name ≡ path → IsPath path → p.touched path ≡ false → q ≡ record p { touched = adding name p.touched } → IsTaken p (drops path) behind (Ok (Drop name, 0)) q
+drop_taken p q path name behind e h f g =
+    ((h, (f, tt)), subst (λ (n : List ℕ). Makes (drops path) behind (Drop n) behind) (sym e) (drop_line path behind), g)
+
+pub wait_taken : (p q : Past) (n name behind : List ℕ) (f : Fate) → name ≡ n → IsName n → fate_of p n ≡ Some f → f ≢ Cancelled → q ≡ record p { asked = settling name Answered p.asked } →
+    IsTaken p (waits n) behind (Ok (Wait name, 0)) q
+wait_taken p q n name behind f e h k d g =
+    ((h, ((λ x. let y = sym k ∙ x in cc), ((λ x. d (let y = sym k ∙ x in cc)), tt))), subst (λ (x : List ℕ). Makes (waits n) behind (Wait x) behind) (sym e) (wait_line n behind), g)
+
+pub cancel_taken : (p q : Past) (n name behind : List ℕ) → name ≡ n → IsName n → fate_of p n ≡ Some Pending → q ≡ record p { asked = settling name Cancelled p.asked } →
+    IsTaken p (cancels n) behind (Ok (Cancel name, 0)) q
+cancel_taken p q n name behind e h f g =
+    ((h, ((λ k. let x = sym f ∙ k in cc), ((λ k. let x = sym f ∙ k in cc), ((λ k. let x = sym f ∙ k in cc), tt)))),
+        subst (λ (x : List ℕ). Makes (cancels n) behind (Cancel x) behind) (sym e) (cancel_line n behind), g)
+
+pub close_taken : (p q : Past) (t name behind : List ℕ) → name ≡ t → IsName t → p.opened t ≡ Some true →
+    q ≡ record { touched = p.touched; opened = with_entry name false p.opened; asked = closing name p.asked } → IsTaken p (closes t) behind (Ok (Close name, 0)) q
+close_taken p q t name behind e h f g =
+    ((h, (f, tt)), subst (λ (n : List ℕ). Makes (closes t) behind (Close n) behind) (sym e) (close_line t behind), g)
 
 -- a line in its text
 told_line : (p q : Past) (text : List ℕ) (f : Form) (l : Line) (n m : ℕ) → (IsSkipped (line_of text) → ⊥) → form_of (words (line_of text)) ≡ Some f →

@@ -1,39 +1,13 @@
 -- The tests of each line, in their order, over what the lines before it did.
-use Rattle.std.specs.Prelude.{◌≡◌, ◌⊎◌, ◌≤◌, ℕ, Bool, true, false, if◌then◌else◌, List, [], ◌∷◌, codes, length, drop, Option, Some, None}
+use Rattle.std.specs.Prelude.{◌≡◌, ◌≢◌, ◌⊎◌, ◌≤◌, ℕ, Bool, true, false, if◌then◌else◌, List, [], ◌∷◌, codes, length, drop, Option, Some, None}
 use Rattle.std.specs.Str.{bytes_eq}
 use Rattle.buck_label.specs.Paths.{IsPath}
 use Rattle.buck_label.specs.Labels.{Name, IsLabel}
 use Rattle.script.specs.Lines.{IsDecimal, IsName}
 use Rattle.script.specs.declared.fault.Word.{Word}
 use Rattle.script.specs.declared.fault.Word.TheVariants as fault
-use Rattle.script.specs.declared.line.Line.{Line}
-use Rattle.script.specs.declared.line.Line.TheVariants.{Put, Commit, Open, Ask, Action}
-
--- a set of texts, as the test for them
-abbrev pub Texts : Type 0
-Texts = List ℕ → Bool
-
-abbrev pub no_texts : Texts
-no_texts = λ q. false
-
-abbrev pub adding : List ℕ → Texts → Texts
-adding text set = λ q. if bytes_eq text q then true else set q
-
--- the paths put since the last commit, the transactions opened, and the requests made
-pub record Past : Type 0 where
-  pub touched : Texts
-  pub opened : Texts
-  pub asked : Texts
-
-abbrev pub nothing : Past
-nothing = record { touched = no_texts; opened = no_texts; asked = no_texts }
-
-abbrev pub after : Past → Line → Past
-after p (Put path bytes) = record p { touched = adding path p.touched }
-after p Commit = record p { touched = no_texts }
-after p (Open t) = record p { opened = adding t p.opened }
-after p (Ask r) = record p { asked = adding r.name p.asked }
-after p (Action r) = record p { asked = adding r.name p.asked }
+use Rattle.script.specs.declared.fate.Fate.TheVariants.{Answered, Cancelled}
+use Rattle.script.specs.Past.{Past, fate_of}
 
 -- Tests, each with the word for where it fails.
 pub data Tests : Type 1 where
@@ -52,16 +26,25 @@ FirstToFail (test holds v ts) w = ((holds → ⊥) × (w ≡ v)) ⊎ (holds × F
 -- A line's operands as written, where its first word is in the table and their number is right.
 pub data Form : Type 0 where
   puts : List ℕ → List ℕ → Form
+  drops : List ℕ → Form
   commits : Form
   opens : List ℕ → Form
   asks : List ℕ → List ℕ → List ℕ → Form
   acts : List ℕ → List ℕ → List ℕ → Form
+  waits : List ℕ → Form
+  cancels : List ℕ → Form
+  closes : List ℕ → Form
 
 abbrev pub one_word : List ℕ → Option Form
 one_word w = if bytes_eq w (codes "commit") then Some commits else None
 
 abbrev pub two_words : List ℕ → List ℕ → Option Form
-two_words w a = if bytes_eq w (codes "open") then Some (opens a) else None
+two_words w a =
+    if bytes_eq w (codes "drop") then Some (drops a) else
+    if bytes_eq w (codes "open") then Some (opens a) else
+    if bytes_eq w (codes "wait") then Some (waits a) else
+    if bytes_eq w (codes "cancel") then Some (cancels a) else
+    if bytes_eq w (codes "close") then Some (closes a) else None
 
 abbrev pub three_words : List ℕ → List ℕ → List ℕ → Option Form
 three_words w a b = if bytes_eq w (codes "put") then Some (puts a b) else None
@@ -93,16 +76,27 @@ IsEnough number rest = (n : ℕ) → IsDecimal number n → (n ≤ length rest) 
 -- a request in transaction t, of this name, for a label
 abbrev pub asking : Past → List ℕ → List ℕ → List ℕ → Tests
 asking p t name label =
-    test (IsName t) fault.Name (test (p.opened t ≡ true) fault.Open
-    (test (IsName name) fault.Name (test (p.asked name ≡ false) fault.Taken
+    test (IsName t) fault.Name (test (p.opened t ≡ Some true) fault.Open
+    (test (IsName name) fault.Name (test (p.asked name ≡ None) fault.Taken
     (test ((n : Name) × IsLabel label n) fault.Label done))))
+
+-- a path that is put or dropped, and then more tests
+abbrev pub touching : Past → List ℕ → Tests → Tests
+touching p path ts = test (IsPath path) fault.Path (test (p.touched path ≡ false) fault.Twice ts)
+
+-- a request that was made, and then more tests
+abbrev pub naming : Past → List ℕ → Tests → Tests
+naming p name ts = test (IsName name) fault.Name (test (fate_of p name ≢ None) fault.Unknown ts)
 
 -- the tests of a line behind which these bytes stand
 abbrev pub tests : Past → Form → List ℕ → Tests
-tests p (puts path number) rest =
-    test (IsPath path) fault.Path (test (p.touched path ≡ false) fault.Twice
-    (test (IsSmallNumber number) fault.Number (test (IsEnough number rest) fault.Count done)))
+tests p (puts path number) rest = touching p path (test (IsSmallNumber number) fault.Number (test (IsEnough number rest) fault.Count done))
+tests p (drops path) rest = touching p path done
 tests p commits rest = done
-tests p (opens t) rest = test (IsName t) fault.Name (test (p.opened t ≡ false) fault.Taken done)
+tests p (opens t) rest = test (IsName t) fault.Name (test (p.opened t ≡ None) fault.Taken done)
 tests p (asks t name label) rest = asking p t name label
 tests p (acts t name label) rest = asking p t name label
+tests p (waits name) rest = naming p name (test (fate_of p name ≢ Some Cancelled) fault.Cancelled done)
+tests p (cancels name) rest = naming p name
+    (test (fate_of p name ≢ Some Answered) fault.Answered (test (fate_of p name ≢ Some Cancelled) fault.Cancelled done))
+tests p (closes t) rest = test (IsName t) fault.Name (test (p.opened t ≡ Some true) fault.Open done)

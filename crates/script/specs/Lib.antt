@@ -1,10 +1,12 @@
 pub mod Words
 pub mod Lines
+pub mod Past
 pub mod Faults
 pub mod Scripts
 pub mod Order
 pub mod Plan
 pub mod Names
+pub mod Known
 pub mod Seen
 pub mod Taking
 pub mod Reading

@@ -2,11 +2,12 @@
 use Rattle.std.specs.Prelude.{◌≡◌, ◌≢◌, ◌≤◌, ◌+◌, ℕ, List, [], ◌∷◌, ◌++◌, length, take, drop, Some, None}
 use Rattle.buck_label.specs.Labels.{Name, IsLabel, printed}
 use Rattle.script.specs.Lines.{IsDecimal, words, line_of, behind_line, line_feeds}
-use Rattle.script.specs.Faults.{Past, nothing, after, Form, puts, commits, opens, asks, acts, form_of, AllHold, FirstToFail, tests}
+use Rattle.script.specs.Past.{Past, nothing, after}
+use Rattle.script.specs.Faults.{Form, puts, drops, commits, opens, asks, acts, waits, cancels, closes, form_of, AllHold, FirstToFail, tests}
 use Rattle.script.specs.declared.fault.Word.{Word}
 use Rattle.script.specs.declared.fault.Word.TheVariants as fault
 use Rattle.script.specs.declared.line.Line.{Line}
-use Rattle.script.specs.declared.line.Line.TheVariants.{Put, Commit, Open, Ask, Action}
+use Rattle.script.specs.declared.line.Line.TheVariants.{Put, Drop, Commit, Open, Ask, Action, Wait, Cancel, Close}
 
 -- an empty line, and one that begins with #
 abbrev pub IsSkipped : List ℕ → Type 0
@@ -16,10 +17,14 @@ IsSkipped (b ∷ bs) = b ≡ 35
 -- a line of this form, with the bytes behind it: what it does, and what is left
 pub data Makes : Form → List ℕ → Line → List ℕ → Type 0 where
   put_line : (path number rest : List ℕ) (n : ℕ) → IsDecimal number n → Makes (puts path number) rest (Put path (take n rest)) (drop (n + 1) rest)
+  drop_line : (path rest : List ℕ) → Makes (drops path) rest (Drop path) rest
   commit_line : (rest : List ℕ) → Makes commits rest Commit rest
   open_line : (t rest : List ℕ) → Makes (opens t) rest (Open t) rest
   ask_line : (t name label rest : List ℕ) (n : Name) → IsLabel label n → Makes (asks t name label) rest (Ask (record { transaction = t; name = name; label = printed n })) rest
   action_line : (t name label rest : List ℕ) (n : Name) → IsLabel label n → Makes (acts t name label) rest (Action (record { transaction = t; name = name; label = printed n })) rest
+  wait_line : (name rest : List ℕ) → Makes (waits name) rest (Wait name) rest
+  cancel_line : (name rest : List ℕ) → Makes (cancels name) rest (Cancel name) rest
+  close_line : (t rest : List ℕ) → Makes (closes t) rest (Close t) rest
 
 -- Behind these lines the bytes are those lines.
 pub data IsFrom : Past → List ℕ → List Line → Type 0 where

@@ -9,16 +9,14 @@ use Rattle.script.specs.declared.script.Broken.TheVariants as broken
 use Rattle.std.specs.declared.vec.Vec.{Vec}
 use Rattle.script.specs.declared.line.Line.{Line}
 use Rattle.script.specs.declared.line.Request.{Request}
-use Rattle.script.specs.declared.past.Known.{Known}
-use Rattle.script.specs.Names.{has}
+use Rattle.script.specs.declared.known.Known.{Known}
+use Rattle.script.specs.Known.{past_of}
 use Rattle.script.specs.Lines.{IsDecimal, IsName, words, line_of, behind_line}
-use Rattle.script.specs.Faults.{Past, nothing, after, Form, puts, asking, form_of, AllHold, FirstToFail, tests}
+use Rattle.script.specs.Past.{Past, nothing, after, after_all}
+use Rattle.script.specs.Faults.{Form, puts, asking, form_of, AllHold, FirstToFail, tests}
 use Rattle.script.specs.Scripts.{IsSkipped, Makes, IsFrom, FaultAt}
 use Rattle.buck_label.specs.Paths.{IsPath}
 use Rattle.buck_label.specs.Labels.{Name, IsLabel, printed}
-
-abbrev pub past_of : Known → Past
-past_of k = record { touched = has k.touched; opened = has k.opened; asked = has k.asked }
 
 abbrev pub IsPathRead : List ℕ → Result (List ℕ) Stop → Type 0
 IsPathRead text (Ok p) = (p ≡ text) × IsPath text
@@ -77,7 +75,7 @@ abbrev pub IsBroken : List ℕ → Broken → Type 0
 IsBroken text (broken.At at w) = (at ≤ length text) × FaultAt nothing text (drop at text) w
 IsBroken text broken.NoMemory = Unit {0}
 
--- All lines were taken, or why not.
-abbrev pub AreLines : {A : Type 0} → List ℕ → Result (Vec Line A) Broken → Type 0
-AreLines text (Ok v) = IsFrom nothing text v.items
+-- All lines were taken, and this is known at their end; or why not.
+abbrev pub AreLines : {A : Type 0} → List ℕ → Result (Vec Line A × Known) Broken → Type 0
+AreLines text (Ok r) = IsFrom nothing text r.0.items × (past_of r.1 ≡ after_all nothing r.0.items)
 AreLines text (Err b) = IsBroken text b

@@ -15,7 +15,7 @@ pub enum Word {
     Word,
     /// Not a path.
     Path,
-    /// The path was put since the last commit.
+    /// The path was put or dropped since the last commit.
     Twice,
     /// Not a decimal number, or above 4,194,304.
     Number,
@@ -25,10 +25,16 @@ pub enum Word {
     Name,
     /// An earlier transaction or request has this name.
     Taken,
-    /// The transaction was not opened.
+    /// The transaction was not opened, or was closed.
     Open,
     /// Not an absolute label.
     Label,
+    /// No earlier request has this name.
+    Unknown,
+    /// The request was waited for, and cannot be cancelled.
+    Answered,
+    /// The request was cancelled.
+    Cancelled,
 }
 
 impl Word {
@@ -46,6 +52,9 @@ impl Word {
             Word::Taken => "taken",
             Word::Open => "open",
             Word::Label => "label",
+            Word::Unknown => "unknown",
+            Word::Answered => "answered",
+            Word::Cancelled => "cancelled",
         }
     }
 }

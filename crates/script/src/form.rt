@@ -10,10 +10,14 @@ ghost use Rattle.script.specs.Seen.{form_seen};
 #[derive(Clone, Copy, Debug)]
 pub(crate) enum Form<'a> {
     Put(&'a [u8], &'a [u8]),
+    Drop(&'a [u8]),
     Commit,
     Open(&'a [u8]),
     Ask(&'a [u8], &'a [u8], &'a [u8]),
     Action(&'a [u8], &'a [u8], &'a [u8]),
+    Wait(&'a [u8]),
+    Cancel(&'a [u8]),
+    Close(&'a [u8]),
 }
 
 /// How many bytes stand before the first `mark`; all of them where there is none.
@@ -60,8 +64,16 @@ fn one_word<'a>(word: &[u8]) -> Option<Form<'a>>
 fn two_words<'a>(word: &[u8], a: &'a [u8]) -> Option<Form<'a>>
     ensures { option_map form_seen result ≡ two_words word.now a.now }
 {
-    if is(word, b"open") {
+    if is(word, b"drop") {
+        Some(Form::Drop(a))
+    } else if is(word, b"open") {
         Some(Form::Open(a))
+    } else if is(word, b"wait") {
+        Some(Form::Wait(a))
+    } else if is(word, b"cancel") {
+        Some(Form::Cancel(a))
+    } else if is(word, b"close") {
+        Some(Form::Close(a))
     } else {
         None
     }

@@ -1,14 +1,18 @@
 //! Scripts: paths that are put and committed, transactions, and requests for targets.
 #![tactic(auto)]
 
+mod fate;
 mod fault;
 mod form;
+mod known;
 mod line;
 mod name;
 mod names;
 mod number;
-mod past;
+mod operand;
+mod requests;
 mod script;
+mod transactions;
 
 pub use fault::{ScriptRefusal, Word};
 pub use line::{Line, Request};

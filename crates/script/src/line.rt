@@ -8,7 +8,9 @@ use buck_label::{Label, Path, Text};
 pub enum Line {
     /// The path has these bytes in the next commit.
     Put(Path, Text),
-    /// What was put since the last commit is applied, if anything.
+    /// The path has no file in the next commit.
+    Drop(Path),
+    /// What was put and dropped since the last commit is applied, if anything.
     Commit,
     /// A transaction of this name is opened at the newest version.
     Open(Name),
@@ -16,6 +18,12 @@ pub enum Line {
     Ask(Request),
     /// The text of a target's action is requested.
     Action(Request),
+    /// The request is waited for; of one that was waited for before, nothing.
+    Wait(Name),
+    /// The request is given up.
+    Cancel(Name),
+    /// The transaction is closed, and its requests that were not waited for are given up.
+    Close(Name),
 }
 
 /// A request.

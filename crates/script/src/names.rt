@@ -1,6 +1,6 @@
 //! Sets of texts.
 ghost use Rattle.std.specs.Prelude.{◌≡◌, OnOk};
-ghost use Rattle.script.specs.Faults.{no_texts, adding};
+ghost use Rattle.script.specs.Past.{no_texts, adding};
 ghost use Rattle.script.specs.Names.{has};
 
 use buck_label::Text;

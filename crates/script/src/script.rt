@@ -1,16 +1,17 @@
 //! Scripts, read and checked as a whole.
 ghost use Rattle.std.specs.Prelude.{◌≡◌, ◌≤◌, ◌+◌, ◌++◌, ℕ, List, length, take, OnOk, option_to_list};
 ghost use Rattle.script.specs.Lines.{line_feeds};
-ghost use Rattle.script.specs.Faults.{nothing};
+ghost use Rattle.script.specs.Past.{nothing, is_cancelled};
 ghost use Rattle.script.specs.Scripts.{IsScript, IsFirstFault};
 ghost use Rattle.script.specs.Order.{InOrder};
 ghost use Rattle.script.specs.Reading.{IsRead};
 ghost use Rattle.script.specs.Taking.{AreLines, broken_at};
 
 use crate::fault::{ScriptRefusal, Stop, Word};
+use crate::known::Known;
 use crate::line::Line;
+use crate::name::Name;
 use crate::number::MOST_BYTES;
-use crate::past::Known;
 use buck_label::printed_is_read;
 use std::alloc::{AllocError, Global};
 use std::marker::Model;
@@ -19,18 +20,22 @@ use std::marker::Model;
 #[derive(Drop)]
 pub struct Script {
     lines: Vec<Line>,
+    known: Known,
 }
 
 impl Model for Script {
     ghost use Rattle.std.specs.Prelude.{List, ℕ};
     ghost use Rattle.script.specs.declared.line.Line.{Line};
+    ghost use Rattle.std.specs.Prelude.{◌≡◌};
+    ghost use Rattle.script.specs.Past.{nothing, after_all};
+    ghost use Rattle.script.specs.Known.{past_of};
     ghost use Rattle.script.specs.Scripts.{IsScript};
 
     ghost Value = { List Line };
 
     ghost view = { λ s. s.lines.items };
 
-    ghost invariant = { λ s. (text : List ℕ) × IsScript text s.lines.items };
+    ghost invariant = { λ s. (text : List ℕ) × IsScript text s.lines.items × (past_of s.known ≡ after_all nothing s.lines.items) };
 }
 
 impl Script {
@@ -41,6 +46,14 @@ impl Script {
         ensures in_order { InOrder nothing self.now }
     {
         self.lines.as_slice()
+    }
+
+    /// Whether the script cancels the request of this name: by `cancel`, or by the `close` of its
+    /// transaction before a `wait`. It takes logarithmic time.
+    pub fn is_cancelled(&self, name: &Name) -> bool
+        ensures { result ≡ is_cancelled self.now name.now }
+    {
+        self.known.is_given_up(name.as_text())
     }
 }
 
@@ -83,7 +96,8 @@ fn keep(lines: &mut Vec<Line>, made: Option<Line>) -> Result<(), AllocError>
     Ok(())
 }
 
-fn lines_of(alloc: Global, bytes: &[u8]) -> Result<Vec<Line>, Broken>
+/// The lines, and what is known at their end.
+fn lines_of(alloc: Global, bytes: &[u8]) -> Result<(Vec<Line>, Known), Broken>
     ensures { AreLines bytes.now result }
 {
     let mut known = Known::new(alloc);
@@ -100,14 +114,14 @@ fn lines_of(alloc: Global, bytes: &[u8]) -> Result<Vec<Line>, Broken>
             Err(stop) => return Err(broken_at(at, stop)),
         }
     }
-    Ok(lines)
+    Ok((lines, known))
 }
 
 /// Reads a script: all of it is checked before anything runs.
 ///
 /// `TooLong` is tested first. A `Fault` names the first line with a fault and the first test
 /// that fails there, the operands from left to right. The time is that of a walk over the bytes,
-/// and of a look-up in an ordered set for each line.
+/// and of a few look-ups in ordered maps for each line, `close` among them.
 pub fn read(alloc: Global, bytes: &[u8]) -> Result<Script, ScriptRefusal>
     ensures { IsRead bytes.now result }
 {
@@ -116,7 +130,7 @@ pub fn read(alloc: Global, bytes: &[u8]) -> Result<Script, ScriptRefusal>
     }
     readings_are_one();
     match lines_of(alloc, bytes) {
-        Ok(lines) => Ok(Script { lines }),
+        Ok((lines, known)) => Ok(Script { lines, known }),
         Err(Broken::At(at, word)) => Err(ScriptRefusal::Fault {
             line: 1 + line_feeds(&bytes[..at]),
             word,

@@ -1,6 +1,7 @@
 use Rattle.std.proofs.Common.{◌≡◌, ◌≤◌, ◌+◌, ◌++◌, sym, subst, length, drop, List, arith, rules, option_to_list}
 use Rattle.script.specs.declared.line.Line.{Line}
-use Rattle.script.specs.Taking.{past_of, IsBroken, broken_at}
+use Rattle.script.specs.Known.{past_of}
+use Rattle.script.specs.Taking.{IsBroken, broken_at}
 use Rattle.script.specs.declared.script.Broken.{Broken}
 use Rattle.script.proofs.Reached.{Reached, step, stopped_by, finished}
 use Rattle.script.proofs.script.lines_of.Goals as goal
@@ -24,4 +25,4 @@ returns-in-Err c =
 pub returns : goal.returns
 returns c =
     let h : length c.args.bytes.now ≤ c.loop-at.at = omega arith in
-    finished c.args.bytes.now (past_of c.loop-at.known) c.loop-at.lines.items c.loop-at.at h c.loop-at.invariant.reached
+    (finished c.args.bytes.now (past_of c.loop-at.known) c.loop-at.lines.items c.loop-at.at h c.loop-at.invariant.reached, c.loop-at.invariant.reached.past)

@@ -1,5 +1,5 @@
 use Rattle.std.proofs.Common.{◌≤◌, ◌-◌, length, drop}
-use Rattle.script.specs.Taking.{past_of}
+use Rattle.script.specs.Known.{past_of}
 use Rattle.script.proofs.Reached.{Reached}
 use Rattle.script.proofs.script.lines_of.Given as goal
 

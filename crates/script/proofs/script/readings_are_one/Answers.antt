@@ -1,4 +1,4 @@
-use Rattle.script.specs.Faults.{nothing}
+use Rattle.script.specs.Past.{nothing}
 use Rattle.script.proofs.Laws.{one_script, one_line, no_both}
 use Rattle.script.proofs.script.readings_are_one.Goals as goal
 

@@ -1,6 +1,6 @@
 use Rattle.std.proofs.Common.{subst, List}
 use Rattle.script.specs.declared.line.Line.{Line}
-use Rattle.script.specs.Faults.{nothing}
+use Rattle.script.specs.Past.{nothing}
 use Rattle.script.specs.Order.{InOrder}
 use Rattle.script.proofs.Laws.{in_order}
 use Rattle.script.proofs.script.Script.lines.Goals as goal

@@ -1,90 +1,33 @@
-//! What the lines so far did, and the tests of the next one.
-ghost use Rattle.std.specs.Prelude.{◌≡◌, ◌↔◌, ◌≤◌, ◌<◌, ◌++◌, ◌∷◌, [], ℕ, true, length, drop, take, ◌+◌, IfOk, OnOk};
-ghost use Rattle.script.specs.Lines.{IsDecimal, line_of, behind_line};
-ghost use Rattle.script.specs.Faults.{nothing, after, tests, puts, commits, opens, asks, acts, IsEnough, IsFollowed};
-ghost use Rattle.script.specs.Scripts.{IsSkipped};
+//! What is known of the lines so far, and the tests of the next one.
+ghost use Rattle.std.specs.Prelude.{◌≡◌, ◌≤◌, ◌<◌, length, IfOk};
+ghost use Rattle.script.specs.Past.{nothing, fate_of, is_given_up};
+ghost use Rattle.script.specs.Faults.{puts, drops, commits, opens, asks, acts, waits, cancels, closes};
+ghost use Rattle.script.specs.Known.{past_of};
 ghost use Rattle.script.specs.Seen.{form_seen};
-ghost use Rattle.script.specs.Taking.{past_of, IsPathRead, IsNameRead, IsLabelRead, IsPutRead, IsRequestRead, IsTaken, IsLineTaken};
+ghost use Rattle.script.specs.Taking.{IsPutRead, IsRequestRead, IsTaken, IsLineTaken};
 
+use crate::fate::Fate;
 use crate::fault::{Stop, Word};
 use crate::form::{Form, before, form_of};
 use crate::line::{Line, Request};
-use crate::name::{Name, is_name};
+use crate::name::Name;
 use crate::names::Names;
 use crate::number::small_number;
-use buck_label::{Label, Path, Refused, Text};
-use std::alloc::{AllocError, Global};
+use crate::operand::{is_enough, is_skipped, past_byte, read_label, read_name, read_path};
+use crate::requests::Requests;
+use crate::transactions::Transactions;
+use buck_label::{Path, Text};
+use std::alloc::Global;
 
-/// The paths put since the last commit, the transactions opened, and the requests made.
+/// The paths put or dropped since the last commit, the transactions opened, and the requests made.
+///
+/// A transaction that is closed leaves its requests as they were noted: what has become of one is
+/// told by its own note and by its transaction. So a `close` takes no longer than a look-up.
 #[derive(Drop)]
 pub(crate) struct Known {
     touched: Names,
-    opened: Names,
-    asked: Names,
-}
-
-/// Behind this place and the byte that stands there, if one does.
-fn past_byte(text: &[u8], at: usize) -> usize
-    requires { at ≤ length text.now }
-    ensures left { drop result text.now ≡ drop (at + 1) text.now }
-    ensures fits { result ≤ length text.now }
-    ensures more { (at ≤ result) × (0 < length text.now → 0 < result) }
-{
-    if at < text.len() { at + 1 } else { at }
-}
-
-/// Whether so many bytes are left, and then an LF or the end.
-fn is_enough(count: usize, rest: &[u8]) -> bool
-    ensures { (result ≡ true) ↔ ((count ≤ length rest.now) × IsFollowed (drop count rest.now)) }
-{
-    count <= rest.len() && is_followed(&rest[count..])
-}
-
-fn is_followed(rest: &[u8]) -> bool
-    ensures { (result ≡ true) ↔ IsFollowed rest.now }
-{
-    match rest {
-        [] => true,
-        [byte, _rest @ ..] => *byte == b'\n',
-    }
-}
-
-fn is_skipped(line: &[u8]) -> bool
-    ensures { (result ≡ true) ↔ IsSkipped line.now }
-{
-    match line {
-        [] => true,
-        [byte, _rest @ ..] => *byte == b'#',
-    }
-}
-
-fn read_path(alloc: Global, path: &[u8]) -> Result<Path, Stop>
-    ensures { IsPathRead path.now result }
-{
-    match Path::read(alloc, path) {
-        Ok(path) => Ok(path),
-        Err(Refused::Bad) => Err(Stop::Fault(Word::Path)),
-        Err(Refused::NoMemory) => Err(Stop::NoMemory),
-    }
-}
-
-fn read_label(alloc: Global, label: &[u8]) -> Result<Label, Stop>
-    ensures { IsLabelRead label.now result }
-{
-    match Label::read(alloc, label) {
-        Ok(label) => Ok(label),
-        Err(Refused::Bad) => Err(Stop::Fault(Word::Label)),
-        Err(Refused::NoMemory) => Err(Stop::NoMemory),
-    }
-}
-
-fn read_name(alloc: Global, name: &[u8]) -> Result<Name, Stop>
-    ensures { IsNameRead name.now result }
-{
-    if !is_name(name) {
-        return Err(Stop::Fault(Word::Name));
-    }
-    Ok(Name::of(alloc, name)?)
+    transactions: Transactions,
+    requests: Requests,
 }
 
 impl Known {
@@ -93,9 +36,29 @@ impl Known {
     {
         Known {
             touched: Names::new(alloc),
-            opened: Names::new(alloc),
-            asked: Names::new(alloc),
+            transactions: Transactions::new(alloc),
+            requests: Requests::new(alloc),
         }
+    }
+
+    /// What has become of a request; `None` where none has this name.
+    fn fate_of(&self, name: &Text) -> Option<Fate>
+        ensures { result ≡ fate_of (past_of self.now) name.now }
+    {
+        let Some(asked) = self.requests.get(name) else {
+            return None;
+        };
+        match self.transactions.is_open(&asked.transaction) {
+            Some(false) => Some(asked.fate.given_up()),
+            Some(true) | None => Some(asked.fate),
+        }
+    }
+
+    /// Whether a request was given up.
+    pub(crate) fn is_given_up(&self, name: &Text) -> bool
+        ensures { result ≡ is_given_up (fate_of (past_of self.now) name.now) }
+    {
+        matches!(self.fate_of(name), Some(Fate::Cancelled))
     }
 
     /// The operands of a put, tested in order: path, twice, number, count.
@@ -142,11 +105,11 @@ impl Known {
         ensures { IsRequestRead (past_of self.now) t.now name.now label.now result }
     {
         let transaction = read_name(alloc, t)?;
-        if !self.opened.has(transaction.as_text()) {
+        if self.transactions.is_open(transaction.as_text()) != Some(true) {
             return Err(Stop::Fault(Word::Open));
         }
         let name = read_name(alloc, name)?;
-        if self.asked.has(name.as_text()) {
+        if self.requests.get(name.as_text()).is_some() {
             return Err(Stop::Fault(Word::Taken));
         }
         let label = read_label(alloc, label)?;
@@ -155,6 +118,23 @@ impl Known {
             name,
             label,
         })
+    }
+
+    fn drop_path(
+        &mut self,
+        alloc: Global,
+        path: &[u8],
+        behind: &[u8],
+    ) -> Result<(Line, usize), Stop>
+        ensures taken { IsTaken (past_of self.old) (drops path.now) behind.now result (past_of self.new) }
+        ensures fits { IfOk result (λ r. r.1 ≤ length behind.now) }
+    {
+        let path = read_path(alloc, path)?;
+        if self.touched.has(path.as_text()) {
+            return Err(Stop::Fault(Word::Twice));
+        }
+        self.touched.add(path.as_text())?;
+        Ok((Line::Drop(path), 0))
     }
 
     fn commit(&mut self, alloc: Global, behind: &[u8]) -> Result<(Line, usize), Stop>
@@ -170,10 +150,10 @@ impl Known {
         ensures fits { IfOk result (λ r. r.1 ≤ length behind.now) }
     {
         let name = read_name(alloc, t)?;
-        if self.opened.has(name.as_text()) {
+        if self.transactions.is_open(name.as_text()).is_some() {
             return Err(Stop::Fault(Word::Taken));
         }
-        self.opened.add(name.as_text())?;
+        self.transactions.set(name.as_text(), true)?;
         Ok((Line::Open(name), 0))
     }
 
@@ -189,7 +169,8 @@ impl Known {
         ensures fits { IfOk result (λ r. r.1 ≤ length behind.now) }
     {
         let request = self.request(alloc, t, name, label)?;
-        self.asked.add(request.name.as_text())?;
+        self.requests
+            .add(request.name.as_text(), request.transaction.as_text())?;
         Ok((Line::Ask(request), 0))
     }
 
@@ -205,8 +186,53 @@ impl Known {
         ensures fits { IfOk result (λ r. r.1 ≤ length behind.now) }
     {
         let request = self.request(alloc, t, name, label)?;
-        self.asked.add(request.name.as_text())?;
+        self.requests
+            .add(request.name.as_text(), request.transaction.as_text())?;
         Ok((Line::Action(request), 0))
+    }
+
+    fn wait(&mut self, alloc: Global, name: &[u8], behind: &[u8]) -> Result<(Line, usize), Stop>
+        ensures taken { IsTaken (past_of self.old) (waits name.now) behind.now result (past_of self.new) }
+        ensures fits { IfOk result (λ r. r.1 ≤ length behind.now) }
+    {
+        let name = read_name(alloc, name)?;
+        match self.fate_of(name.as_text()) {
+            None => Err(Stop::Fault(Word::Unknown)),
+            Some(Fate::Cancelled) => Err(Stop::Fault(Word::Cancelled)),
+            Some(Fate::Answered) => Ok((Line::Wait(name), 0)),
+            Some(Fate::Pending) => {
+                self.requests.settle(name.as_text(), Fate::Answered);
+                Ok((Line::Wait(name), 0))
+            }
+        }
+    }
+
+    fn cancel(&mut self, alloc: Global, name: &[u8], behind: &[u8]) -> Result<(Line, usize), Stop>
+        ensures taken { IsTaken (past_of self.old) (cancels name.now) behind.now result (past_of self.new) }
+        ensures fits { IfOk result (λ r. r.1 ≤ length behind.now) }
+    {
+        let name = read_name(alloc, name)?;
+        match self.fate_of(name.as_text()) {
+            None => Err(Stop::Fault(Word::Unknown)),
+            Some(Fate::Answered) => Err(Stop::Fault(Word::Answered)),
+            Some(Fate::Cancelled) => Err(Stop::Fault(Word::Cancelled)),
+            Some(Fate::Pending) => {
+                self.requests.settle(name.as_text(), Fate::Cancelled);
+                Ok((Line::Cancel(name), 0))
+            }
+        }
+    }
+
+    fn close(&mut self, alloc: Global, t: &[u8], behind: &[u8]) -> Result<(Line, usize), Stop>
+        ensures taken { IsTaken (past_of self.old) (closes t.now) behind.now result (past_of self.new) }
+        ensures fits { IfOk result (λ r. r.1 ≤ length behind.now) }
+    {
+        let name = read_name(alloc, t)?;
+        if self.transactions.is_open(name.as_text()) != Some(true) {
+            return Err(Stop::Fault(Word::Open));
+        }
+        self.transactions.set(name.as_text(), false)?;
+        Ok((Line::Close(name), 0))
     }
 
     /// Takes a line of this form, and so many of the bytes behind it.
@@ -216,10 +242,14 @@ impl Known {
     {
         match form {
             Form::Put(path, number) => self.put(alloc, path, number, behind),
-            Form::Open(t) => self.open(alloc, t, behind),
+            Form::Drop(path) => self.drop_path(alloc, path, behind),
             Form::Commit => self.commit(alloc, behind),
+            Form::Open(t) => self.open(alloc, t, behind),
             Form::Ask(t, name, label) => self.ask(alloc, t, name, label, behind),
             Form::Action(t, name, label) => self.action(alloc, t, name, label, behind),
+            Form::Wait(name) => self.wait(alloc, name, behind),
+            Form::Cancel(name) => self.cancel(alloc, name, behind),
+            Form::Close(t) => self.close(alloc, t, behind),
         }
     }
 

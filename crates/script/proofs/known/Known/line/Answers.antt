@@ -4,10 +4,11 @@ use Rattle.script.specs.Lines.{line_of, behind_line, words}
 use Rattle.script.specs.Scripts.{IsSkipped}
 use Rattle.script.specs.Faults.{form_of}
 use Rattle.script.specs.Seen.{form_seen}
-use Rattle.script.specs.Taking.{past_of, IsTaken}
+use Rattle.script.specs.Known.{past_of}
+use Rattle.script.specs.Taking.{IsTaken}
 use Rattle.script.proofs.WordLemmas.{rest_of}
 use Rattle.script.proofs.Taken.{line_taken, fault_taken}
-use Rattle.script.proofs.past.Known.line.Goals as goal
+use Rattle.script.proofs.known.Known.line.Goals as goal
 
 pub returns-in-Ok-clause-taken : goal.returns-in-Ok-clause-taken
 returns-in-Ok-clause-taken c =

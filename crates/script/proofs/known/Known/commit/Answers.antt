@@ -1,8 +1,8 @@
 use Rattle.std.proofs.Common.{ap}
-use Rattle.script.specs.Faults.{Texts}
-use Rattle.script.specs.Taking.{past_of}
+use Rattle.script.specs.Past.{Texts}
+use Rattle.script.specs.Known.{past_of}
 use Rattle.script.proofs.Taken.{commit_taken}
-use Rattle.script.proofs.past.Known.commit.Goals as goal
+use Rattle.script.proofs.known.Known.commit.Goals as goal
 
 pub returns-clause-taken : goal.returns-clause-taken
 returns-clause-taken c =

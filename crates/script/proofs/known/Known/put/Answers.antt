@@ -1,9 +1,9 @@
 use Rattle.std.proofs.Common.{◌≡◌, ◌+◌, ap, take, drop, rules}
 use Rattle.script.specs.Names.{has}
-use Rattle.script.specs.Faults.{adding, Texts}
-use Rattle.script.specs.Taking.{past_of}
+use Rattle.script.specs.Past.{adding, Texts}
+use Rattle.script.specs.Known.{past_of}
 use Rattle.script.proofs.Taken.{put_taken}
-use Rattle.script.proofs.past.Known.put.Goals as goal
+use Rattle.script.proofs.known.Known.put.Goals as goal
 
 pub returns-clause-taken : goal.returns-clause-taken
 returns-clause-taken c =
