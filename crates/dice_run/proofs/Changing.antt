@@ -1,6 +1,6 @@
 -- The changes of a commit, in the script's terms and in those of the universe.
 use Rattle.std.proofs.Common.{◌≡◌, ◌<◌, inl, inr, ℕ, Bool, true, false, cond, not, List, [], ◌∷◌, length, map, filter, Option, Some, None, refl, sym, ap, ◌∙◌, subst}
-use Rattle.std.specs.Option.{option_or, option_map, unwrap_or}
+use Rattle.std.specs.Option.{option_eq, option_map, unwrap_or}
 use Rattle.std.specs.Map.{lookup, keys_of}
 use Rattle.std.specs.List.{AllByRecursion}
 use Rattle.std.specs.Str.{bytes_eq}
@@ -13,7 +13,7 @@ use Rattle.action_digest.specs.declared.value.Value.{Value}
 use Rattle.action_digest.specs.declared.value.Value.TheVariants as value
 use Rattle.action_digest.specs.Buck.{buck}
 use Rattle.action_digest.specs.Same.{key_equal, value_equal}
-use Rattle.script.specs.Plan.{Change, bytes_in, file_after, newest, is_file, differs}
+use Rattle.script.specs.Plan.{Change, file_in, file_after, newest, differs}
 use Rattle.dice_run.specs.Output.{pair_of_change, pairs_of_changes, log_of}
 use Rattle.dice_run.specs.Driving.{paths_of, AreDistinctSources, differs_from}
 
@@ -48,39 +48,35 @@ distinct_filtered g h (x ∷ xs) d = by_test (distinct_filtered g h xs d.1) (h x
 
 -- ---- the newest file of a path
 
-value_of_file : Option (List ℕ) → Value
-value_of_file o = value.Source o
-
-in_commit : (path : List ℕ) (c : List Change) → lookup (key_equal (key.Source path)) (pairs_of_changes c) ≡ option_map (λ b. value.Source (Some b)) (bytes_in path c)
+in_commit : (path : List ℕ) (c : List Change) → lookup (key_equal (key.Source path)) (pairs_of_changes c) ≡ option_map value.Source (file_in path c)
 in_commit path [] = refl
 in_commit path (c ∷ cs) = by_test (bytes_eq path c.path) (in_commit path cs)
   where
-    by_test : (b : Bool) → lookup (key_equal (key.Source path)) (pairs_of_changes cs) ≡ option_map (λ b. value.Source (Some b)) (bytes_in path cs)
-        → cond b (Some (value.Source (Some c.bytes))) (lookup (key_equal (key.Source path)) (pairs_of_changes cs)) ≡ option_map (λ b. value.Source (Some b)) (cond b (Some c.bytes) (bytes_in path cs))
+    by_test : (b : Bool) → lookup (key_equal (key.Source path)) (pairs_of_changes cs) ≡ option_map value.Source (file_in path cs)
+        → cond b (Some (value.Source c.file)) (lookup (key_equal (key.Source path)) (pairs_of_changes cs)) ≡ option_map value.Source (cond b (Some c.file) (file_in path cs))
     by_test true e = refl
     by_test false e = e
 
-one_commit : (path : List ℕ) (file : Option (List ℕ)) (c : List Change) → unwrap_or (lookup (key_equal (key.Source path)) (pairs_of_changes c)) (value.Source file) ≡ value.Source (option_or (bytes_in path c) file)
-one_commit path file c = ap (λ o. unwrap_or o (value.Source file)) (in_commit path c) ∙ by_bytes (bytes_in path c)
+one_commit : (path : List ℕ) (file : Option (List ℕ)) (c : List Change) → unwrap_or (lookup (key_equal (key.Source path)) (pairs_of_changes c)) (value.Source file) ≡ value.Source (unwrap_or (file_in path c) file)
+one_commit path file c = ap (λ o. unwrap_or o (value.Source file)) (in_commit path c) ∙ by_file (file_in path c)
   where
-    by_bytes : (o : Option (List ℕ)) → unwrap_or (option_map (λ b. value.Source (Some b)) o) (value.Source file) ≡ value.Source (option_or o file)
-    by_bytes None = refl
-    by_bytes (Some b) = refl
+    by_file : (o : Option (Option (List ℕ))) → unwrap_or (option_map value.Source o) (value.Source file) ≡ value.Source (unwrap_or o file)
+    by_file None = refl
+    by_file (Some f) = refl
 
 last_file : (path : List ℕ) (file : Option (List ℕ)) (log : List (List Change)) → last_value_of (key_equal (key.Source path)) (value.Source file) (log_of log) ≡ value.Source (file_after path file log)
 last_file path file [] = refl
 last_file path file (c ∷ cs) =
-    ap (λ x. last_value_of (key_equal (key.Source path)) x (log_of cs)) (one_commit path file c) ∙ last_file path (option_or (bytes_in path c) file) cs
+    ap (λ x. last_value_of (key_equal (key.Source path)) x (log_of cs)) (one_commit path file c) ∙ last_file path (unwrap_or (file_in path c) file) cs
 
 newest_input : (path : List ℕ) (log : List (List Change)) → input key_equal buck (log_of log) (length (log_of log)) (key.Source path) ≡ value.Source (newest path log)
 newest_input path log = ap (last_value_of (key_equal (key.Source path)) (value.Source None)) (take-length (log_of log)) ∙ last_file path None log
 
-is_file_equal : (o : Option (List ℕ)) (b : List ℕ) → value_equal (value.Source o) (value.Source (Some b)) ≡ is_file o b
-is_file_equal None b = refl
-is_file_equal (Some a) b = refl
+file_equal : (a b : Option (List ℕ)) → value_equal (value.Source a) (value.Source b) ≡ option_eq bytes_eq a b
+file_equal a b = refl
 
 differs_same : (log : List (List Change)) (c : Change) → differs_from (log_of log) (pair_of_change c) ≡ differs log c
-differs_same log c = ap (λ x. not (value_equal x (value.Source (Some c.bytes)))) (newest_input c.path log) ∙ ap not (is_file_equal (newest c.path log) c.bytes)
+differs_same log c = ap (λ x. not (value_equal x (value.Source c.file))) (newest_input c.path log) ∙ ap not (file_equal (newest c.path log) c.file)
 
 -- what differs, in the universe's terms and in the script's
 pub differing_same : (log : List (List Change)) (cs : List Change) → filter (differs_from (log_of log)) (pairs_of_changes cs) ≡ pairs_of_changes (filter (differs log) cs)

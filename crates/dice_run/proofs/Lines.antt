@@ -1,5 +1,5 @@
 -- One line of a script more.
-use Rattle.std.proofs.Common.{◌≡◌, ◌≤◌, ◌<◌, ◌+◌, zero, suc, drop, get_or, drop-cons, add-one, ◌⊎◌, inl, inr, ℕ, Bool, true, false, cond, nat_eq, List, [], ◌∷◌, ◌++◌, length, filter, decimal, codes, Option, Some, refl, sym, ap, ◌∙◌, subst, arith, append-nil, append_assoc, length-append}
+use Rattle.std.proofs.Common.{◌≡◌, ◌≤◌, ◌<◌, ◌+◌, zero, suc, drop, get_or, drop-cons, add-one, ◌⊎◌, inl, inr, ℕ, Bool, true, false, cond, nat_eq, List, [], ◌∷◌, ◌++◌, length, filter, decimal, codes, Option, Some, None, refl, sym, ap, ◌∙◌, subst, arith, append-nil, append_assoc, length-append}
 use Rattle.std.proofs.lemmas.List.{length-map}
 use Rattle.std.specs.Option.{unwrap_or}
 use Rattle.std.specs.Map.{lookup}
@@ -18,13 +18,13 @@ use Rattle.action_digest.specs.declared.value.Value.TheVariants as value
 use Rattle.action_digest.specs.Buck.{buck}
 use Rattle.action_digest.specs.Same.{key_equal}
 use Rattle.script.specs.declared.line.Line.{Line}
-use Rattle.script.specs.declared.line.Line.TheVariants.{Put, Commit, Open, Ask, Action}
+use Rattle.script.specs.declared.line.Line.TheVariants.{Put, Drop, Commit, Open, Ask, Action, Wait, Cancel, Close}
 use Rattle.script.specs.declared.line.Request.{Request}
-use Rattle.script.specs.Faults.{Past, after, nothing}
+use Rattle.script.specs.Past.{Past, after, nothing, is_cancelled}
 use Rattle.script.specs.Order.{InOrder}
-use Rattle.script.specs.Plan.{Plan, Change, Wish, Digest, Text, no_plan, planned, plan_from, plan_of, version_of, wanted, requested, differs, committed, with_commit}
-use Rattle.dice_run.specs.Output.{line, log_of, pair_of_change, pairs_of_changes, key_of, value_lines, IsAnswered, IsPrinted, IsOutputFrom, IsOutput}
-use Rattle.dice_run.specs.Driving.{paths_of, Matches, Drove, Answered, IsReady, differs_from, with_pairs}
+use Rattle.script.specs.Plan.{Ends, Plan, Planned, Change, Wish, Digest, Text, no_plan, planned, plan_from, plan_of, version_of, wanted, requested, gathering, differs, committed, with_commit}
+use Rattle.dice_run.specs.Output.{line, log_of, pair_of_change, pairs_of_changes, key_of, value_lines, cancelled_line, IsAnswered, IsReplied, IsRepliedAs, IsPrinted, IsOutputFrom, IsOutput}
+use Rattle.dice_run.specs.Driving.{paths_of, Matches, Drove, Answered, PassedOver, Replied, IsReady, differs_from, with_pairs}
 use Rattle.dice_run.specs.declared.driver.Driver.{Driver}
 use Rattle.dice_run.proofs.Changing.{differing_same}
 
@@ -61,24 +61,60 @@ put_touched past path q xs t e h = elim (has_end xs path q h) as (λ _. ⊥) [
   | inr s ↦ (let b : bytes_eq path q ≡ true = (bytes_eq-Decides path q).1 s in let f : cond true true (past.touched q) ≡ false = subst (λ (x : Bool). cond x true (past.touched q) ≡ false) b e in cc)
 ]
 
-pub put_drove : (d e : Driver) (p : Plan) (past : Past) (path bytes : List ℕ) → Matches d p past → past.touched path ≡ false
+gathered_stands : (d e : Driver) (p : Plan) (past : Past) (path : List ℕ) (file : Option (List ℕ)) → Matches d p past → past.touched path ≡ false
+    → e.commits ≡ d.commits → pairs_of e.gathered.items ≡ pairs_of d.gathered.items ++ (key.Source path, value.Source file) ∷ [] → e.versions ≡ d.versions → Matches e (gathering p path file) (after past (Drop path))
+gathered_stands d e p past path file m fresh ec eg ev =
+    let c : Change = record { path = path; file = file } in
+    record {
+      commits = ec ∙ m.commits;
+      gathered = eg ∙ put_gathered (pairs_of d.gathered.items) p.gathered c m.gathered;
+      versions = λ t. ap (λ v. get (pointwise nat_eq) v t) ev ∙ m.versions t;
+      within = m.within;
+      distinct = subst AreDistinct (sym (put_paths p.gathered c)) (distinct_end (paths_of p.gathered) path m.distinct (m.touched path fresh));
+      touched = λ q t h. put_touched past path q (paths_of p.gathered) m.touched t (subst (λ (xs : List (List ℕ)). Has xs q) (put_paths p.gathered c) h);
+    }
+
+pub put_drove : (ends : Ends) (d e : Driver) (p : Plan) (past : Past) (path bytes : List ℕ) → Matches d p past → past.touched path ≡ false
     → e.commits ≡ d.commits → pairs_of e.gathered.items ≡ pairs_of d.gathered.items ++ (key.Source path, value.Source (Some bytes)) ∷ [] → e.versions ≡ d.versions → e.out.items ≡ d.out.items
-    → Drove d e p past (Put path bytes)
-put_drove d e p past path bytes m fresh ec eg ev eo =
-    let c : Change = record { path = path; bytes = bytes } in
+    → Drove ends d e p past (Put path bytes)
+put_drove ends d e p past path bytes m fresh ec eg ev eo =
+    let s = gathered_stands d e p past path (Some bytes) m fresh ec eg ev in
     record {
       text = [];
       out = eo ∙ sym (append-nil d.out.items);
       printed = λ more. refl;
-      stands = record {
-        commits = ec ∙ m.commits;
-        gathered = eg ∙ put_gathered (pairs_of d.gathered.items) p.gathered c m.gathered;
-        versions = λ t. ap (λ v. get (pointwise nat_eq) v t) ev ∙ m.versions t;
-        within = m.within;
-        distinct = subst AreDistinct (sym (put_paths p.gathered c)) (distinct_end (paths_of p.gathered) path m.distinct (m.touched path fresh));
-        touched = λ q t h. put_touched past path q (paths_of p.gathered) m.touched t (subst (λ (xs : List (List ℕ)). Has xs q) (put_paths p.gathered c) h);
-      };
+      stands = record { commits = s.commits; gathered = s.gathered; versions = s.versions; within = s.within; distinct = s.distinct; touched = s.touched };
     }
+
+pub drop_drove : (ends : Ends) (d e : Driver) (p : Plan) (past : Past) (path : List ℕ) → Matches d p past → past.touched path ≡ false
+    → e.commits ≡ d.commits → pairs_of e.gathered.items ≡ pairs_of d.gathered.items ++ (key.Source path, value.Source None) ∷ [] → e.versions ≡ d.versions → e.out.items ≡ d.out.items
+    → Drove ends d e p past (Drop path)
+drop_drove ends d e p past path m fresh ec eg ev eo =
+    record { text = []; out = eo ∙ sym (append-nil d.out.items); printed = λ more. refl; stands = gathered_stands d e p past path None m fresh ec eg ev }
+
+-- ---- lines that say what becomes of a request
+
+settled_stands : (d : Driver) (p : Plan) (past new : Past) → new.touched ≡ past.touched → Matches d p past → Matches d p new
+settled_stands d p past new e m = record {
+  commits = m.commits;
+  gathered = m.gathered;
+  versions = m.versions;
+  within = m.within;
+  distinct = m.distinct;
+  touched = λ q t h. m.touched q (ap (λ (s : List ℕ → Bool). s q) (sym e) ∙ t) h;
+}
+
+pub wait_drove : (ends : Ends) (d : Driver) (p : Plan) (past : Past) (name : List ℕ) → Matches d p past → Drove ends d d p past (Wait name)
+wait_drove ends d p past name m =
+    record { text = []; out = sym (append-nil d.out.items); printed = λ more. refl; stands = settled_stands d p past (after past (Wait name)) refl m }
+
+pub cancel_drove : (ends : Ends) (d : Driver) (p : Plan) (past : Past) (name : List ℕ) → Matches d p past → Drove ends d d p past (Cancel name)
+cancel_drove ends d p past name m =
+    record { text = []; out = sym (append-nil d.out.items); printed = λ more. refl; stands = settled_stands d p past (after past (Cancel name)) refl m }
+
+pub close_drove : (ends : Ends) (d : Driver) (p : Plan) (past : Past) (t : List ℕ) → Matches d p past → Drove ends d d p past (Close t)
+close_drove ends d p past t m =
+    record { text = []; out = sym (append-nil d.out.items); printed = λ more. refl; stands = settled_stands d p past (after past (Close t)) refl m }
 
 -- ---- the log goes on
 
@@ -86,18 +122,22 @@ pub log_more : (log : List (List Change)) (cs : List Change) → (m : List (List
 log_more log [] = ([], sym (append-nil log))
 log_more log (c ∷ cs) = ((c ∷ cs) ∷ [], refl)
 
-planned_more : (p : Plan) (l : Line) → (m : List (List Change)) × ((planned p l).log ≡ p.log ++ m)
-planned_more p (Put path bytes) = ([], sym (append-nil p.log))
-planned_more p Commit = log_more p.log (filter (differs p.log) p.gathered)
-planned_more p (Open t) = ([], sym (append-nil p.log))
-planned_more p (Ask r) = ([], sym (append-nil p.log))
-planned_more p (Action r) = ([], sym (append-nil p.log))
+planned_more : (ends : Ends) (p : Plan) (l : Line) → (m : List (List Change)) × ((planned ends p l).log ≡ p.log ++ m)
+planned_more ends p (Put path bytes) = ([], sym (append-nil p.log))
+planned_more ends p (Drop path) = ([], sym (append-nil p.log))
+planned_more ends p Commit = log_more p.log (filter (differs p.log) p.gathered)
+planned_more ends p (Open t) = ([], sym (append-nil p.log))
+planned_more ends p (Ask r) = ([], sym (append-nil p.log))
+planned_more ends p (Action r) = ([], sym (append-nil p.log))
+planned_more ends p (Wait name) = ([], sym (append-nil p.log))
+planned_more ends p (Cancel name) = ([], sym (append-nil p.log))
+planned_more ends p (Close t) = ([], sym (append-nil p.log))
 
-pub plan_more : (ls : List Line) (p : Plan) → (m : List (List Change)) × ((plan_from p ls).log ≡ p.log ++ m)
-plan_more [] p = ([], sym (append-nil p.log))
-plan_more (l ∷ ls) p =
-    let a = planned_more p l in
-    let b = plan_more ls (planned p l) in
+pub plan_more : (ends : Ends) (ls : List Line) (p : Plan) → (m : List (List Change)) × ((plan_from ends p ls).log ≡ p.log ++ m)
+plan_more ends [] p = ([], sym (append-nil p.log))
+plan_more ends (l ∷ ls) p =
+    let a = planned_more ends p l in
+    let b = plan_more ends ls (planned ends p l) in
     (a.0 ++ b.0, b.1 ∙ (ap (λ (x : List (List Change)). x ++ b.0) a.1 ∙ append_assoc p.log a.0 b.0))
 
 log_of_more : (xs ys : List (List Change)) → log_of (xs ++ ys) ≡ log_of xs ++ log_of ys
@@ -118,10 +158,10 @@ committed_same d p past m =
     ∙ (ap (λ (g : List (Key × Value)). with_pairs (log_of p.log) (filter (differs_from (log_of p.log)) g)) m.gathered
     ∙ (ap (with_pairs (log_of p.log)) (differing_same p.log p.gathered) ∙ with_same p.log (filter (differs p.log) p.gathered)))
 
-pub commit_drove : (d e : Driver) (p : Plan) (past : Past) → Matches d p past
+pub commit_drove : (ends : Ends) (d e : Driver) (p : Plan) (past : Past) → Matches d p past
     → e.commits ≡ log_of (committed p.log p.gathered) → e.gathered.items ≡ [] → e.versions ≡ d.versions → e.out.items ≡ d.out.items ++ (codes "commit " ++ decimal (length e.commits) ++ 10 ∷ [])
-    → Drove d e p past Commit
-commit_drove d e p past m ec eg ev eo =
+    → Drove ends d e p past Commit
+commit_drove ends d e p past m ec eg ev eo =
     let n : length e.commits ≡ length (committed p.log p.gathered) = ap length ec ∙ log_length (committed p.log p.gathered) in
     let more = log_more p.log (filter (differs p.log) p.gathered) in
     let l : length (committed p.log p.gathered) ≡ length p.log + length more.0 = ap length more.1 ∙ length-append p.log more.0 in
@@ -151,10 +191,10 @@ open_within t q n opened w = by_test (bytes_eq q t)
     by_test true = omega arith
     by_test false = w
 
-pub open_drove : (d e : Driver) (p : Plan) (past : Past) (t : List ℕ) (n : ℕ) → Matches d p past → n ≡ length d.commits
+pub open_drove : (ends : Ends) (d e : Driver) (p : Plan) (past : Past) (t : List ℕ) (n : ℕ) → Matches d p past → n ≡ length d.commits
     → e.commits ≡ d.commits → e.gathered ≡ d.gathered → ((q : List ℕ) → get (pointwise nat_eq) e.versions q ≡ cond (bytes_eq t q) (Some n) (get (pointwise nat_eq) d.versions q))
-    → e.out.items ≡ d.out.items ++ (codes "open " ++ t ++ 32 ∷ decimal n ++ 10 ∷ []) → Drove d e p past (Open t)
-open_drove d e p past t n m en ec eg ev eo =
+    → e.out.items ≡ d.out.items ++ (codes "open " ++ t ++ 32 ∷ decimal n ++ 10 ∷ []) → Drove ends d e p past (Open t)
+open_drove ends d e p past t n m en ec eg ev eo =
     let l : n ≡ length p.log = en ∙ (ap length m.commits ∙ log_length p.log) in
     record {
       text = line (codes "open " ++ t ++ 32 ∷ decimal (length p.log));
@@ -175,39 +215,64 @@ open_drove d e p past t n m en ec eg ev eo =
 abbrev pub answer_text : Request → ℕ → Value → List ℕ
 answer_text r v x = r.name ++ 32 ∷ decimal v ++ 32 ∷ value_lines x
 
-answered : (d e : Driver) (p : Plan) (past : Past) (r : Request) (w : Wish) → Matches d p past → (a : Answered d e r (key_of w)) → (more : List (List (Key × Value))) → IsAnswered (log_of p.log ++ more) (wanted p r w) (answer_text r a.version a.value)
-answered d e p past r w m a more =
-    let v : a.version ≡ version_of r.transaction p.opened = a.version_is ∙ ap (λ o. unwrap_or o 0) (m.versions r.transaction) in
+version_same : (d : Driver) (p : Plan) (past : Past) (r : Request) (v : ℕ) → Matches d p past → v ≡ unwrap_or (get (pointwise nat_eq) d.versions r.transaction) 0 → v ≡ version_of r.transaction p.opened
+version_same d p past r v m e = e ∙ ap (λ o. unwrap_or o 0) (m.versions r.transaction)
+
+answered : (ends : Ends) (d e : Driver) (p : Plan) (past : Past) (r : Request) (w : Wish) → Matches d p past → (a : Answered d e r (key_of w)) → (more : List (List (Key × Value))) → IsAnswered (log_of p.log ++ more) (wanted ends p r w) (answer_text r a.version a.value)
+answered ends d e p past r w m a more =
+    let v : a.version ≡ version_of r.transaction p.opened = version_same d p past r a.version m a.version_is in
     let within : a.version ≤ length (log_of p.log) = (let x = m.within r.transaction in let y = log_length p.log in omega arith) in
     let has : HasValue key_equal buck (log_of p.log) a.version (key_of w) a.value = subst (λ C. HasValue key_equal buck C a.version (key_of w) a.value) m.commits a.has in
     let stable = value_stable key_equal buck (log_of p.log) more a.version within (key_of w) a.value has in
     record { value = a.value; has = subst (λ n. HasValue key_equal buck (log_of p.log ++ more) n (key_of w) a.value) v stable; text_is = ap (λ n. answer_text r n a.value) v }
 
-request_stands : (d e : Driver) (p : Plan) (past : Past) (r : Request) (w : Wish) (k : Key) → Matches d p past → Answered d e r k → Matches e (requested p (wanted p r w)) (after past (Ask r))
-request_stands d e p past r w k m a = record {
-  commits = a.commits ∙ m.commits;
-  gathered = ap (λ g. pairs_of g.items) a.gathered ∙ m.gathered;
-  versions = λ t. ap (λ v. get (pointwise nat_eq) v t) a.versions ∙ m.versions t;
+request_stands : (d e : Driver) (p : Plan) (past : Past) (r : Request) (q : Planned) → Matches d p past → e.commits ≡ d.commits → e.gathered ≡ d.gathered → e.versions ≡ d.versions → Matches e (requested p q) (after past (Ask r))
+request_stands d e p past r q m ec eg ev = record {
+  commits = ec ∙ m.commits;
+  gathered = ap (λ g. pairs_of g.items) eg ∙ m.gathered;
+  versions = λ t. ap (λ v. get (pointwise nat_eq) v t) ev ∙ m.versions t;
   within = m.within;
   distinct = m.distinct;
   touched = m.touched;
 }
 
-pub ask_drove : (d e : Driver) (p : Plan) (past : Past) (r : Request) → Matches d p past → Answered d e r (key.Digest r.label) → Drove d e p past (Ask r)
-ask_drove d e p past r m a = record {
-  text = answer_text r a.version a.value;
+-- a request, of whichever kind: what it prints, and where the driver stands behind it
+pub record Requested (ends : Ends) (d e : Driver) (p : Plan) (past : Past) (r : Request) (w : Wish) : Type 0 where
+  pub text : List ℕ
+  pub out : e.out.items ≡ d.out.items ++ text
+  pub printed : (more : List (List (Key × Value))) → IsReplied (log_of p.log ++ more) (wanted ends p r w) text
+  pub stands : Matches e (requested p (wanted ends p r w)) (after past (Ask r))
+
+passed_over : (ends : Ends) (d e : Driver) (p : Plan) (past : Past) (r : Request) (w : Wish) → Matches d p past → ends r.name ≡ true → PassedOver d e r → Requested ends d e p past r w
+passed_over ends d e p past r w m t a = record {
+  text = cancelled_line r.name a.version;
   out = a.out;
-  printed = λ more. answered d e p past r (Digest r.label) m a more;
-  stands = request_stands d e p past r (Digest r.label) (key.Digest r.label) m a;
+  printed = λ more. subst (λ (b : Bool). IsRepliedAs b (log_of p.log ++ more) (wanted ends p r w) (cancelled_line r.name a.version)) (sym t)
+      (ap (cancelled_line r.name) (version_same d p past r a.version m a.version_is));
+  stands = request_stands d e p past r (wanted ends p r w) m a.commits a.gathered a.versions;
 }
 
-pub action_drove : (d e : Driver) (p : Plan) (past : Past) (r : Request) → Matches d p past → Answered d e r (key.Action r.label) → Drove d e p past (Action r)
-action_drove d e p past r m a = record {
+was_answered : (ends : Ends) (d e : Driver) (p : Plan) (past : Past) (r : Request) (w : Wish) → Matches d p past → ends r.name ≡ false → Answered d e r (key_of w) → Requested ends d e p past r w
+was_answered ends d e p past r w m t a = record {
   text = answer_text r a.version a.value;
   out = a.out;
-  printed = λ more. answered d e p past r (Text r.label) m a more;
-  stands = request_stands d e p past r (Text r.label) (key.Action r.label) m a;
+  printed = λ more. subst (λ (b : Bool). IsRepliedAs b (log_of p.log ++ more) (wanted ends p r w) (answer_text r a.version a.value)) (sym t) (answered ends d e p past r w m a more);
+  stands = request_stands d e p past r (wanted ends p r w) m a.commits a.gathered a.versions;
 }
+
+request_drove : (ends : Ends) (d e : Driver) (p : Plan) (past : Past) (r : Request) (w : Wish) → Matches d p past → (b : Bool) → ends r.name ≡ b → Replied b d e r (key_of w) → Requested ends d e p past r w
+request_drove ends d e p past r w m true t a = passed_over ends d e p past r w m t a
+request_drove ends d e p past r w m false t a = was_answered ends d e p past r w m t a
+
+pub ask_drove : (ends : Ends) (d e : Driver) (p : Plan) (past : Past) (r : Request) (b : Bool) → Matches d p past → b ≡ ends r.name → Replied b d e r (key.Digest r.label) → Drove ends d e p past (Ask r)
+ask_drove ends d e p past r b m t a =
+    let q = request_drove ends d e p past r (Digest r.label) m b (sym t) a in
+    record { text = q.text; out = q.out; printed = q.printed; stands = q.stands }
+
+pub action_drove : (ends : Ends) (d e : Driver) (p : Plan) (past : Past) (r : Request) (b : Bool) → Matches d p past → b ≡ ends r.name → Replied b d e r (key.Action r.label) → Drove ends d e p past (Action r)
+action_drove ends d e p past r b m t a =
+    let q = request_drove ends d e p past r (Text r.label) m b (sym t) a in
+    record { text = q.text; out = q.out; printed = q.printed; stands = q.stands }
 
 -- ---- the whole script
 
@@ -217,8 +282,8 @@ pub record Going (lines rest : List Line) (d : Driver) : Type 0 where
   pub past : Past
   pub stands : Matches d plan past
   pub order : InOrder past rest
-  pub whole : plan_of lines ≡ plan_from plan rest
-  pub goes_on : (more : List ℕ) → IsOutputFrom (log_of (plan_of lines).log) plan rest more → IsOutput lines (d.out.items ++ more)
+  pub whole : plan_of lines ≡ plan_from (is_cancelled lines) plan rest
+  pub goes_on : (more : List ℕ) → IsOutputFrom (log_of (plan_of lines).log) (is_cancelled lines) plan rest more → IsOutput lines (d.out.items ++ more)
 
 pub going_first : (lines : List Line) (d : Driver) → Matches d no_plan nothing → InOrder nothing lines → d.out.items ≡ [] → Going lines lines d
 going_first lines d m o e = record {
@@ -230,13 +295,15 @@ going_first lines d m o e = record {
   goes_on = λ more h. subst (λ (x : List ℕ). IsOutput lines (x ++ more)) (sym e) h;
 }
 
-pub going_more : (lines rest : List Line) (l : Line) (d e : Driver) → (g : Going lines (l ∷ rest) d) → Drove d e g.plan g.past l → Going lines rest e
+pub going_more : (lines rest : List Line) (l : Line) (d e : Driver) → (g : Going lines (l ∷ rest) d) → Drove (is_cancelled lines) d e g.plan g.past l → Going lines rest e
 going_more lines rest l d e g w =
-    let m = plan_more rest (planned g.plan l) in
-    let C : log_of (plan_of lines).log ≡ log_of (planned g.plan l).log ++ log_of m.0 = ap (λ (p : Plan). log_of p.log) g.whole ∙ (ap log_of m.1 ∙ log_of_more (planned g.plan l).log m.0) in
-    let printed : IsPrinted (log_of (plan_of lines).log) g.plan l w.text = subst (λ C. IsPrinted C g.plan l w.text) (sym C) (w.printed (log_of m.0)) in
+    let ends = is_cancelled lines in
+    let new = planned ends g.plan l in
+    let m = plan_more ends rest new in
+    let C : log_of (plan_of lines).log ≡ log_of new.log ++ log_of m.0 = ap (λ (p : Plan). log_of p.log) g.whole ∙ (ap log_of m.1 ∙ log_of_more new.log m.0) in
+    let printed : IsPrinted (log_of (plan_of lines).log) ends g.plan l w.text = subst (λ C. IsPrinted C ends g.plan l w.text) (sym C) (w.printed (log_of m.0)) in
     record {
-      plan = planned g.plan l;
+      plan = new;
       past = after g.past l;
       stands = w.stands;
       order = g.order.1;

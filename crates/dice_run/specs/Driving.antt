@@ -1,5 +1,5 @@
 -- Where the driver of a script stands.
-use Rattle.std.specs.Prelude.{◌≡◌, ◌≤◌, ℕ, Bool, false, not, decimal, nat_eq, List, [], ◌∷◌, ◌++◌, map, length, unwrap_or}
+use Rattle.std.specs.Prelude.{◌≡◌, ◌≤◌, ℕ, Bool, true, false, not, decimal, nat_eq, List, [], ◌∷◌, ◌++◌, map, length, unwrap_or}
 use Rattle.std.specs.Map.{lookup, keys_of}
 use Rattle.std.specs.List.{AllByRecursion}
 use Rattle.dice_key.specs.declared.universe.Kind.TheVariants.{Injected}
@@ -8,22 +8,22 @@ use Rattle.std.specs.HashMap.{get}
 use Rattle.std.specs.Cmp.Lexicographic.{pointwise}
 use Rattle.dice_model.specs.Log.{pairs_of, input, Has, AreDistinct}
 use Rattle.script.specs.declared.line.Line.{Line}
-use Rattle.script.specs.Faults.{Past, after}
+use Rattle.script.specs.Past.{Past, after}
 use Rattle.script.specs.Order.{Fits}
-use Rattle.script.specs.Plan.{Plan, Change, planned, version_of}
+use Rattle.script.specs.Plan.{Ends, Plan, Change, planned, version_of}
 use Rattle.dice_model.specs.Eval.{HasValue}
 use Rattle.action_digest.specs.declared.key.Key.{Key}
 use Rattle.action_digest.specs.declared.value.Value.{Value}
 use Rattle.action_digest.specs.Buck.{buck}
 use Rattle.action_digest.specs.Same.{key_equal, value_equal}
 use Rattle.script.specs.declared.line.Request.{Request}
-use Rattle.dice_run.specs.Output.{log_of, pairs_of_changes, value_lines, IsPrinted}
+use Rattle.dice_run.specs.Output.{log_of, pairs_of_changes, value_lines, cancelled_line, IsPrinted}
 use Rattle.dice_run.specs.declared.driver.Driver.{Driver}
 
 abbrev pub paths_of : List Change → List (List ℕ)
 paths_of cs = map (λ c. c.path) cs
 
--- the driver has the log, the gathered changes and the versions of this plan, and the paths put since the last commit are distinct
+-- the driver has the log, the gathered changes and the versions of this plan, and the paths put or dropped since the last commit are distinct
 pub record Matches (d : Driver) (p : Plan) (past : Past) : Type 0 where
   pub commits : d.commits ≡ log_of p.log
   pub gathered : pairs_of d.gathered.items ≡ pairs_of_changes p.gathered
@@ -33,11 +33,11 @@ pub record Matches (d : Driver) (p : Plan) (past : Past) : Type 0 where
   pub touched : (q : List ℕ) → past.touched q ≡ false → Has (paths_of p.gathered) q → ⊥
 
 -- one line more was driven: what it prints stands behind the output, by each log that goes on from the plan's
-pub record Drove (d e : Driver) (p : Plan) (past : Past) (l : Line) : Type 0 where
+pub record Drove (ends : Ends) (d e : Driver) (p : Plan) (past : Past) (l : Line) : Type 0 where
   pub text : List ℕ
   pub out : e.out.items ≡ d.out.items ++ text
-  pub printed : (more : List (List (Key × Value))) → IsPrinted (log_of (planned p l).log ++ more) p l text
-  pub stands : Matches e (planned p l) (after past l)
+  pub printed : (more : List (List (Key × Value))) → IsPrinted (log_of (planned ends p l).log ++ more) ends p l text
+  pub stands : Matches e (planned ends p l) (after past l)
 
 -- whether a pair's value is another than the newest
 abbrev pub differs_from : List (List (Key × Value)) → Key × Value → Bool
@@ -53,6 +53,20 @@ pub record Answered (d e : Driver) (r : Request) (k : Key) : Type 0 where
   pub commits : e.commits ≡ d.commits
   pub gathered : e.gathered ≡ d.gathered
   pub versions : e.versions ≡ d.versions
+
+-- a request that the script cancels was passed over
+pub record PassedOver (d e : Driver) (r : Request) : Type 0 where
+  pub version : ℕ
+  pub version_is : version ≡ unwrap_or (get (pointwise nat_eq) d.versions r.transaction) 0
+  pub out : e.out.items ≡ d.out.items ++ cancelled_line r.name version
+  pub commits : e.commits ≡ d.commits
+  pub gathered : e.gathered ≡ d.gathered
+  pub versions : e.versions ≡ d.versions
+
+-- a request was passed over where it is cancelled, and else answered
+abbrev pub Replied : Bool → Driver → Driver → Request → Key → Type 0
+Replied true d e r k = PassedOver d e r
+Replied false d e r k = Answered d e r k
 
 -- these are pairs of distinct sources
 pub record AreDistinctSources (ps : List (Key × Value)) : Type 0 where

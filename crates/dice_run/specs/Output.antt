@@ -1,5 +1,5 @@
 -- The output that stands for a script.
-use Rattle.std.specs.Prelude.{◌≡◌, ℕ, List, [], ◌∷◌, ◌++◌, codes, map, length, decimal, Result, Ok, Err, Some}
+use Rattle.std.specs.Prelude.{◌≡◌, ℕ, Bool, true, false, List, [], ◌∷◌, ◌++◌, codes, map, length, decimal, Result, Ok, Err}
 use Rattle.hex.specs.Hex.{encode_lower}
 use Rattle.buck_label.specs.Labels.{printed_package}
 use Rattle.dice_model.specs.Eval.{HasValue}
@@ -12,8 +12,9 @@ use Rattle.action_digest.specs.declared.fault.Fault.TheVariants.{NoPackage, BadF
 use Rattle.action_digest.specs.Buck.{buck}
 use Rattle.action_digest.specs.Same.{key_equal}
 use Rattle.script.specs.declared.line.Line.{Line}
-use Rattle.script.specs.declared.line.Line.TheVariants.{Put, Commit, Open, Ask, Action}
-use Rattle.script.specs.Plan.{Plan, Planned, Change, Wish, Digest, Text, no_plan, planned, plan_of, wanted}
+use Rattle.script.specs.declared.line.Line.TheVariants.{Put, Drop, Commit, Open, Ask, Action, Wait, Cancel, Close}
+use Rattle.script.specs.Past.{is_cancelled}
+use Rattle.script.specs.Plan.{Ends, Plan, Planned, Change, Wish, Digest, Text, no_plan, planned, plan_of, wanted, committed}
 
 -- a text and its line feed
 abbrev pub line : List ℕ → List ℕ
@@ -50,7 +51,7 @@ key_of (Text l) = key.Action l
 
 -- a commit of a script, as the universe's keys and values
 abbrev pub pair_of_change : Change → Key × Value
-pair_of_change c = (key.Source c.path, value.Source (Some c.bytes))
+pair_of_change c = (key.Source c.path, value.Source c.file)
 
 abbrev pub pairs_of_changes : List Change → List (Key × Value)
 pairs_of_changes cs = map pair_of_change cs
@@ -64,19 +65,37 @@ pub record IsAnswered (C : List (List (Key × Value))) (r : Planned) (text : Lis
   pub has : HasValue key_equal buck C r.version (key_of r.wish) value
   pub text_is : text ≡ r.name ++ 32 ∷ decimal r.version ++ 32 ∷ value_lines value
 
--- what a line of the script prints, by the whole log C, where the lines before it make this plan
-abbrev pub IsPrinted : List (List (Key × Value)) → Plan → Line → List ℕ → Type 0
-IsPrinted C p (Put path bytes) text = text ≡ []
-IsPrinted C p Commit text = text ≡ line (codes "commit " ++ decimal (length (planned p Commit).log))
-IsPrinted C p (Open t) text = text ≡ line (codes "open " ++ t ++ 32 ∷ decimal (length p.log))
-IsPrinted C p (Ask r) text = IsAnswered C (wanted p r (Digest r.label)) text
-IsPrinted C p (Action r) text = IsAnswered C (wanted p r (Text r.label)) text
+-- the line of a request that the script cancels
+abbrev pub cancelled_line : List ℕ → ℕ → List ℕ
+cancelled_line name version = line (name ++ 32 ∷ decimal version ++ codes " cancelled")
+
+-- a request's text, where it is cancelled or is not
+abbrev pub IsRepliedAs : Bool → List (List (Key × Value)) → Planned → List ℕ → Type 0
+IsRepliedAs true C r text = text ≡ cancelled_line r.name r.version
+IsRepliedAs false C r text = IsAnswered C r text
+
+-- `cancelled` exactly where the script cancels the request, and else how it is answered, by the log C
+abbrev pub IsReplied : List (List (Key × Value)) → Planned → List ℕ → Type 0
+IsReplied C r text = IsRepliedAs r.cancelled C r text
+
+-- what a line of the script prints, by the whole log C and the requests that are cancelled, where the lines before it make this plan
+abbrev pub IsPrinted : List (List (Key × Value)) → Ends → Plan → Line → List ℕ → Type 0
+IsPrinted C ends p (Put path bytes) text = text ≡ []
+IsPrinted C ends p (Drop path) text = text ≡ []
+IsPrinted C ends p Commit text = text ≡ line (codes "commit " ++ decimal (length (committed p.log p.gathered)))
+IsPrinted C ends p (Open t) text = text ≡ line (codes "open " ++ t ++ 32 ∷ decimal (length p.log))
+IsPrinted C ends p (Ask r) text = IsReplied C (wanted ends p r (Digest r.label)) text
+IsPrinted C ends p (Action r) text = IsReplied C (wanted ends p r (Text r.label)) text
+IsPrinted C ends p (Wait name) text = text ≡ []
+IsPrinted C ends p (Cancel name) text = text ≡ []
+IsPrinted C ends p (Close t) text = text ≡ []
 
 -- the texts of these lines in order, one behind the other
-abbrev pub IsOutputFrom : List (List (Key × Value)) → Plan → List Line → List ℕ → Type 0
-IsOutputFrom C p [] out = out ≡ []
-IsOutputFrom C p (l ∷ ls) out = (text : List ℕ) × (rest : List ℕ) × (out ≡ text ++ rest) × IsPrinted C p l text × IsOutputFrom C (planned p l) ls rest
+abbrev pub IsOutputFrom : List (List (Key × Value)) → Ends → Plan → List Line → List ℕ → Type 0
+IsOutputFrom C ends p [] out = out ≡ []
+IsOutputFrom C ends p (l ∷ ls) out =
+    (text : List ℕ) × (rest : List ℕ) × (out ≡ text ++ rest) × IsPrinted C ends p l text × IsOutputFrom C ends (planned ends p l) ls rest
 
 -- the output stands for the script of these lines
 abbrev pub IsOutput : List Line → List ℕ → Type 0
-IsOutput ls out = IsOutputFrom (log_of (plan_of ls).log) no_plan ls out
+IsOutput ls out = IsOutputFrom (log_of (plan_of ls).log) (is_cancelled ls) no_plan ls out

@@ -10,11 +10,11 @@ ghost use Rattle.action_digest.specs.Buck.{buck};
 ghost use Rattle.action_digest.specs.Same.{key_equal};
 ghost use Rattle.dice_model.specs.Eval.{HasValue};
 ghost use Rattle.std.specs.Option.{unwrap_or};
-ghost use Rattle.script.specs.Faults.{Past};
+ghost use Rattle.script.specs.Past.{Past, is_cancelled};
 ghost use Rattle.script.specs.Order.{Fits};
 ghost use Rattle.script.specs.Plan.{Plan};
-ghost use Rattle.dice_run.specs.Output.{line, value_lines, IsOutput};
-ghost use Rattle.dice_run.specs.Driving.{Matches, Drove, Answered, AreDistinctSources, IsReady, differs_from, with_pairs};
+ghost use Rattle.dice_run.specs.Output.{line, value_lines, cancelled_line, IsOutput};
+ghost use Rattle.dice_run.specs.Driving.{Matches, Drove, Answered, PassedOver, Replied, AreDistinctSources, IsReady, differs_from, with_pairs};
 
 use crate::append;
 use crate::request::value_lines;
@@ -44,7 +44,8 @@ pub(crate) struct Driver {
     out: Vec<u8>,
 }
 
-/// The output of a script: what each line prints, in the order of the lines, each request answered by evaluation from nothing.
+/// The output of a script: what each line prints, in the order of the lines. A request that the script cancels has the line
+/// `cancelled`, and each other one is answered by evaluation from nothing.
 pub fn drive(alloc: Global, script: &Script) -> Result<Vec<u8>, NoMemory>
     ensures { IfOk result (λ out. IsOutput script.now out.items) }
 {
@@ -57,7 +58,7 @@ pub fn drive(alloc: Global, script: &Script) -> Result<Vec<u8>, NoMemory>
         out: Vec::new(alloc),
     };
     for line in script.lines() {
-        driver.line(line)?;
+        driver.line(script, line)?;
     }
     Ok(driver.into_output())
 }
@@ -69,29 +70,35 @@ impl Driver {
         self.out
     }
 
-    /// Carries out a line.
-    fn line(&mut self, line: &Line) -> Result<(), NoMemory>
+    /// Carries out a line of the script. Nothing is done for a request before its own line, and nothing after it: what is
+    /// waited for was answered there, and what is given up was passed over.
+    fn line(&mut self, script: &Script, line: &Line) -> Result<(), NoMemory>
         requires { IsReady self.old line.now }
-        ensures { OnOk result ((p : Plan) (past : Past) → Matches self.old p past → Fits past line.now → Drove self.old self.new p past line.now) }
+        ensures { OnOk result ((p : Plan) (past : Past) → Matches self.old p past → Fits past line.now → Drove (is_cancelled script.now) self.old self.new p past line.now) }
     {
         match line {
-            Line::Put(path, bytes) => self.put(path, bytes)?,
+            Line::Put(path, bytes) => self.gather(path, Some(bytes.try_clone()?))?,
+            Line::Drop(path) => self.gather(path, None)?,
             Line::Commit => self.commit()?,
             Line::Open(name) => self.open(name)?,
-            Line::Ask(request) => self.ask(request)?,
-            Line::Action(request) => self.action(request)?,
+            Line::Ask(request) => self.ask(request, script.is_cancelled(&request.name))?,
+            Line::Action(request) => self.action(request, script.is_cancelled(&request.name))?,
+            Line::Wait(_) => {}
+            Line::Cancel(_) => {}
+            Line::Close(_) => {}
         }
         Ok(())
     }
 
-    fn put(&mut self, path: &Path, bytes: &Text) -> Result<(), NoMemory>
+    /// Notes the file of a path from the next commit on, or that it has none.
+    fn gather(&mut self, path: &Path, file: Option<Text>) -> Result<(), NoMemory>
         ensures commits { OnOk result (self.new.commits ≡ self.old.commits) }
-        ensures gathered { OnOk result (pairs_of self.new.gathered.items ≡ pairs_of self.old.gathered.items ++ (key.Source path.now, value.Source (Some bytes.now)) ∷ []) }
+        ensures gathered { OnOk result (pairs_of self.new.gathered.items ≡ pairs_of self.old.gathered.items ++ (key.Source path.now, value.Source file) ∷ []) }
         ensures versions { OnOk result (self.new.versions ≡ self.old.versions) }
         ensures out { OnOk result (self.new.out.items ≡ self.old.out.items) }
     {
         let key = Arc::new(self.alloc, Key::Source(path.try_clone()?))?;
-        let value = Arc::new(self.alloc, Value::Source(Some(bytes.try_clone()?)))?;
+        let value = Arc::new(self.alloc, Value::Source(file))?;
         self.gathered.push((key, value))?;
         Ok(())
     }
@@ -126,18 +133,32 @@ impl Driver {
         append::bytes(&mut self.out, b"\n")
     }
 
-    fn ask(&mut self, request: &Request) -> Result<(), NoMemory>
-        ensures { OnOk result (Answered self.old self.new request.now (key.Digest request.now.label)) }
+    fn ask(&mut self, request: &Request, cancelled: bool) -> Result<(), NoMemory>
+        ensures { OnOk result (Replied cancelled self.old self.new request.now (key.Digest request.now.label)) }
     {
+        if cancelled {
+            return self.pass_over(request);
+        }
         let key = Arc::new(self.alloc, Key::Digest(request.label.try_clone()?))?;
         self.answer(request, &key)
     }
 
-    fn action(&mut self, request: &Request) -> Result<(), NoMemory>
-        ensures { OnOk result (Answered self.old self.new request.now (key.Action request.now.label)) }
+    fn action(&mut self, request: &Request, cancelled: bool) -> Result<(), NoMemory>
+        ensures { OnOk result (Replied cancelled self.old self.new request.now (key.Action request.now.label)) }
     {
+        if cancelled {
+            return self.pass_over(request);
+        }
         let key = Arc::new(self.alloc, Key::Action(request.label.try_clone()?))?;
         self.answer(request, &key)
+    }
+
+    /// Says of a request that it was cancelled.
+    fn pass_over(&mut self, request: &Request) -> Result<(), NoMemory>
+        ensures { OnOk result (PassedOver self.old self.new request.now) }
+    {
+        let version = self.version_of(request.transaction.as_text());
+        append_cancelled(&mut self.out, request.name.as_bytes(), version)
     }
 
     /// The version of an open transaction.
@@ -193,6 +214,16 @@ fn append_answer(
     append::number(out, version)?;
     append::bytes(out, b" ")?;
     value_lines(out, value)
+}
+
+/// Appends a cancelled request's name, its version and that it is cancelled.
+fn append_cancelled(out: &mut Vec<u8>, name: &[u8], version: u64) -> Result<(), NoMemory>
+    ensures { OnOk result (out.new.items ≡ out.old.items ++ cancelled_line name.now version) }
+{
+    append::bytes(out, name)?;
+    append::bytes(out, b" ")?;
+    append::number(out, version)?;
+    append::bytes(out, b" cancelled\n")
 }
 
 /// The changes whose value is not the newest one.

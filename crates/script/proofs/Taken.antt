@@ -1,18 +1,18 @@
 -- What the parts of the reader answer, over plain values.
-use Rattle.std.proofs.Common.{◌≡◌, ◌≢◌, ◌∙◌, ◌+◌, sym, ap, subst, inr, ℕ, true, false, List, take, drop, Ok, Err, Some, None}
+use Rattle.std.proofs.Common.{◌≡◌, ◌≢◌, ◌∙◌, ◌+◌, sym, ap, subst, inl, inr, ℕ, true, false, List, take, drop, Ok, Err, Some, None}
+use Rattle.script.specs.declared.fault.Word.{Word}
 use Rattle.script.specs.declared.fault.Stop.{Stop}
 use Rattle.script.specs.declared.fault.Stop.TheVariants as stop
 use Rattle.script.specs.declared.line.Line.{Line}
 use Rattle.script.specs.declared.line.Request.{Request}
 use Rattle.script.specs.declared.line.Line.TheVariants.{Put, Drop, Commit, Open, Ask, Action, Wait, Cancel, Close}
-use Rattle.buck_label.specs.Paths.{IsPath}
 use Rattle.script.specs.declared.fate.Fate.{Fate}
 use Rattle.script.specs.declared.fate.Fate.TheVariants.{Pending, Answered, Cancelled}
 use Rattle.script.specs.Lines.{IsName, words, line_of, behind_line}
 use Rattle.script.specs.Past.{Past, adding, no_texts, with_entry, made_in, settling, closing, fate_of}
-use Rattle.script.specs.Faults.{Form, puts, drops, commits, opens, asks, acts, waits, cancels, closes, form_of}
+use Rattle.script.specs.Faults.{Tests, done, touching, FirstToFail, Form, puts, drops, commits, opens, asks, acts, waits, cancels, closes, form_of}
 use Rattle.script.specs.Scripts.{IsSkipped, Makes, put_line, drop_line, commit_line, open_line, ask_line, action_line, wait_line, cancel_line, close_line}
-use Rattle.script.specs.Taking.{IsPutRead, IsRequestRead, IsTaken, IsLineTaken}
+use Rattle.script.specs.Taking.{IsUntouched, IsPutRead, IsRequestRead, IsTaken, IsLineTaken}
 
 pub commit_taken : (p q : Past) (behind : List ℕ) → q ≡ record p { touched = no_texts } → IsTaken p commits behind (Ok (Commit, 0)) q
 commit_taken p q behind g = (tt, commit_line behind, g)
@@ -43,9 +43,15 @@ pub action_taken : (p q : Past) (t name label behind : List ℕ) (r : Request) �
 action_taken p q t name label behind r h g =
     (h.0, subst (λ (s : Request). Makes (acts t name label) behind (Action s) behind) (sym h.1.2) (action_line t name label behind h.1.0 h.1.1), g)
 
-pub drop_taken : (p q : Past) (path name behind : List ℕ) → name ≡ path → IsPath path → p.touched path ≡ false → q ≡ record p { touched = adding name p.touched } → IsTaken p (drops path) behind (Ok (Drop name, 0)) q
-drop_taken p q path name behind e h f g =
-    ((h, (f, tt)), subst (λ (n : List ℕ). Makes (drops path) behind (Drop n) behind) (sym e) (drop_line path behind), g)
+-- a path that is refused is refused whatever tests are to come
+pub touched_first : (p : Past) (path : List ℕ) (ts : Tests) (w : Word) → FirstToFail (touching p path done) w → FirstToFail (touching p path ts) w
+touched_first p path ts w (inl f) = inl f
+touched_first p path ts w (inr (h, inl f)) = inr (h, inl f)
+touched_first p path ts w (inr (h, inr f)) = absurd f.1
+
+pub drop_taken : (p q : Past) (path name behind : List ℕ) → IsUntouched p path (Ok name) → q ≡ record p { touched = adding name p.touched } → IsTaken p (drops path) behind (Ok (Drop name, 0)) q
+drop_taken p q path name behind h g =
+    (h.1, subst (λ (n : List ℕ). Makes (drops path) behind (Drop n) behind) (sym h.0) (drop_line path behind), g)
 
 pub wait_taken : (p q : Past) (n name behind : List ℕ) (f : Fate) → name ≡ n → IsName n → fate_of p n ≡ Some f → f ≢ Cancelled → q ≡ record p { asked = settling name Answered p.asked } →
     IsTaken p (waits n) behind (Ok (Wait name, 0)) q
@@ -54,9 +60,11 @@ wait_taken p q n name behind f e h k d g =
 
 pub cancel_taken : (p q : Past) (n name behind : List ℕ) → name ≡ n → IsName n → fate_of p n ≡ Some Pending → q ≡ record p { asked = settling name Cancelled p.asked } →
     IsTaken p (cancels n) behind (Ok (Cancel name, 0)) q
-cancel_taken p q n name behind e h f g =
-    ((h, ((λ k. let x = sym f ∙ k in cc), ((λ k. let x = sym f ∙ k in cc), ((λ k. let x = sym f ∙ k in cc), tt)))),
-        subst (λ (x : List ℕ). Makes (cancels n) behind (Cancel x) behind) (sym e) (cancel_line n behind), g)
+cancel_taken p q n name behind e h f g = (
+  (h, ((λ k. let x = sym f ∙ k in cc), ((λ k. let x = sym f ∙ k in cc), ((λ k. let x = sym f ∙ k in cc), tt)))),
+  subst (λ (x : List ℕ). Makes (cancels n) behind (Cancel x) behind) (sym e) (cancel_line n behind),
+  g,
+)
 
 pub close_taken : (p q : Past) (t name behind : List ℕ) → name ≡ t → IsName t → p.opened t ≡ Some true →
     q ≡ record { touched = p.touched; opened = with_entry name false p.opened; asked = closing name p.asked } → IsTaken p (closes t) behind (Ok (Close name, 0)) q

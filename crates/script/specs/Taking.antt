@@ -13,7 +13,7 @@ use Rattle.script.specs.declared.known.Known.{Known}
 use Rattle.script.specs.Known.{past_of}
 use Rattle.script.specs.Lines.{IsDecimal, IsName, words, line_of, behind_line}
 use Rattle.script.specs.Past.{Past, nothing, after, after_all}
-use Rattle.script.specs.Faults.{Form, puts, asking, form_of, AllHold, FirstToFail, tests}
+use Rattle.script.specs.Faults.{Form, puts, done, touching, asking, form_of, AllHold, FirstToFail, tests}
 use Rattle.script.specs.Scripts.{IsSkipped, Makes, IsFrom, FaultAt}
 use Rattle.buck_label.specs.Paths.{IsPath}
 use Rattle.buck_label.specs.Labels.{Name, IsLabel, printed}
@@ -32,6 +32,12 @@ abbrev pub IsLabelRead : List ℕ → Result (List ℕ) Stop → Type 0
 IsLabelRead text (Ok l) = (n : Name) × IsLabel text n × (l ≡ printed n)
 IsLabelRead text (Err (stop.Fault w)) = (w ≡ fault.Label) × ((n : Name) → IsLabel text n → ⊥)
 IsLabelRead text (Err stop.NoMemory) = Unit {0}
+
+-- a path that was neither put nor dropped
+abbrev pub IsUntouched : Past → List ℕ → Result (List ℕ) Stop → Type 0
+IsUntouched p text (Ok path) = (path ≡ text) × AllHold (touching p text done)
+IsUntouched p text (Err (stop.Fault w)) = FirstToFail (touching p text done) w
+IsUntouched p text (Err stop.NoMemory) = Unit {0}
 
 -- the operands of a put
 abbrev pub IsPutRead : Past → List ℕ → List ℕ → List ℕ → Result (List ℕ × ℕ) Stop → Type 0

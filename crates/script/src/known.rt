@@ -4,7 +4,7 @@ ghost use Rattle.script.specs.Past.{nothing, fate_of, is_given_up};
 ghost use Rattle.script.specs.Faults.{puts, drops, commits, opens, asks, acts, waits, cancels, closes};
 ghost use Rattle.script.specs.Known.{past_of};
 ghost use Rattle.script.specs.Seen.{form_seen};
-ghost use Rattle.script.specs.Taking.{IsPutRead, IsRequestRead, IsTaken, IsLineTaken};
+ghost use Rattle.script.specs.Taking.{IsUntouched, IsPutRead, IsRequestRead, IsTaken, IsLineTaken};
 
 use crate::fate::Fate;
 use crate::fault::{Stop, Word};
@@ -61,6 +61,17 @@ impl Known {
         matches!(self.fate_of(name), Some(Fate::Cancelled))
     }
 
+    /// A path that is put or dropped, tested in order: path, twice.
+    fn untouched(&self, alloc: Global, path: &[u8]) -> Result<Path, Stop>
+        ensures { IsUntouched (past_of self.now) path.now result }
+    {
+        let path = read_path(alloc, path)?;
+        if self.touched.has(path.as_text()) {
+            return Err(Stop::Fault(Word::Twice));
+        }
+        Ok(path)
+    }
+
     /// The operands of a put, tested in order: path, twice, number, count.
     fn put_operands(
         &self,
@@ -72,10 +83,7 @@ impl Known {
         ensures tested { IsPutRead (past_of self.now) path.now number.now behind.now result }
         ensures fits { IfOk result (λ r. r.1 ≤ length behind.now) }
     {
-        let path = read_path(alloc, path)?;
-        if self.touched.has(path.as_text()) {
-            return Err(Stop::Fault(Word::Twice));
-        }
+        let path = self.untouched(alloc, path)?;
         match small_number(number) {
             None => Err(Stop::Fault(Word::Number)),
             Some(count) if is_enough(count, behind) => Ok((path, count)),
@@ -129,10 +137,7 @@ impl Known {
         ensures taken { IsTaken (past_of self.old) (drops path.now) behind.now result (past_of self.new) }
         ensures fits { IfOk result (λ r. r.1 ≤ length behind.now) }
     {
-        let path = read_path(alloc, path)?;
-        if self.touched.has(path.as_text()) {
-            return Err(Stop::Fault(Word::Twice));
-        }
+        let path = self.untouched(alloc, path)?;
         self.touched.add(path.as_text())?;
         Ok((Line::Drop(path), 0))
     }

@@ -48,10 +48,10 @@ fn faults_of_words(rt: HostRuntime) {
         b" ",
         b"put a/x",
         b"ask t r //a //b",
-        b"drop a/x",
-        b"wait r",
-        b"cancel r",
-        b"close t",
+        b"drop",
+        b"wait r q",
+        b"cancel",
+        b"close t ",
         b"client a",
         b"Open t",
     ];
@@ -89,6 +89,59 @@ fn faults_of_names(rt: HostRuntime) {
 }
 
 #[test]
+fn faults_of_requests_and_transactions(rt: HostRuntime) {
+    let alloc = rt.alloc();
+    let rows: [(&[u8], usize, Word); 19] = [
+        (b"wait r", 1, Word::Unknown),
+        (b"cancel r", 1, Word::Unknown),
+        (b"wait r!", 1, Word::Name),
+        (b"cancel ", 1, Word::Name),
+        (b"close t\r", 1, Word::Name),
+        (b"close t", 1, Word::Open),
+        (b"open t\nclose t\nopen t", 3, Word::Taken),
+        (b"open t\nclose t\nclose t", 3, Word::Open),
+        (b"open t\nclose t\nask t r //a", 3, Word::Open),
+        (
+            b"open t\nask t r //a:w\nclose t\nwait r",
+            4,
+            Word::Cancelled,
+        ),
+        (
+            b"open t\nask t r //a:w\nclose t\ncancel r",
+            4,
+            Word::Cancelled,
+        ),
+        (
+            b"open t\nask t r //a:w\ncancel r\nwait r",
+            4,
+            Word::Cancelled,
+        ),
+        (
+            b"open t\nask t r //a:w\ncancel r\ncancel r",
+            4,
+            Word::Cancelled,
+        ),
+        (
+            b"open t\nask t r //a:w\nwait r\ncancel r",
+            4,
+            Word::Answered,
+        ),
+        (
+            b"open t\nask t r //a:w\nwait r\nclose t\ncancel r",
+            5,
+            Word::Answered,
+        ),
+        (b"drop a//x", 1, Word::Path),
+        (b"drop a/x\ndrop a/x", 2, Word::Twice),
+        (b"put a/x 0\n\ndrop a/x", 3, Word::Twice),
+        (b"drop a/x\nput a/x 01", 2, Word::Twice),
+    ];
+    for row in &rows {
+        assert!(rt; has_fault(alloc, row.0, row.1, row.2));
+    }
+}
+
+#[test]
 fn scripts_of_few_lines(rt: HostRuntime) {
     let alloc = rt.alloc();
     assert!(rt; is_script(alloc, b"", 0));
@@ -97,6 +150,14 @@ fn scripts_of_few_lines(rt: HostRuntime) {
     assert!(rt; is_script(alloc, b"put a/x 0\n", 1));
     assert!(rt; is_script(alloc, b"put a/x 0\n\ncommit\nput a/x 1\nb\ncommit", 4));
     assert!(rt; is_script(alloc, b"open abcdefghijklmnopqrstuvwxyz123456", 1));
+    assert!(rt; is_script(alloc, b"drop a/x\ncommit\ndrop a/x", 3));
+    assert!(rt;
+        is_script(
+            alloc,
+            b"open t\nask t r //a\nwait r\nwait r\nclose t\nwait r",
+            6
+        )
+    );
     readings_are_one();
 }
 
@@ -134,6 +195,27 @@ fn lines_as_written(rt: HostRuntime) {
     let alloc = rt.alloc();
     assert!(rt; is_as_written(alloc));
     assert!(rt; Word::Twice.text() == "twice");
+}
+
+fn cancels(alloc: Global, text: &[u8], at: usize) -> bool {
+    match read(alloc, text) {
+        Ok(script) => match script.lines().get(at) {
+            Some(Line::Ask(request) | Line::Action(request)) => script.is_cancelled(&request.name),
+            _ => false,
+        },
+        Err(_) => false,
+    }
+}
+
+#[test]
+fn requests_that_a_script_cancels(rt: HostRuntime) {
+    let alloc = rt.alloc();
+    let text =
+        b"open t\nask t r //a\nask t q //a\nask t p //a\naction t o //a\nopen s\nask s n //a\nwait q\ncancel r\nclose t";
+    let rows = [(1, true), (2, false), (3, true), (4, true), (6, false)];
+    for row in &rows {
+        assert!(rt; cancels(alloc, text, row.0) == row.1);
+    }
 }
 
 fn of_line_feeds(alloc: Global, count: usize) -> Result<usize, ScriptRefusal> {

@@ -1,7 +1,6 @@
-use Rattle.std.proofs.Common.{◌≡◌, ◌∙◌, ap, Bool}
+use Rattle.std.proofs.Common.{◌∙◌, ap, Bool}
 use Rattle.script.specs.declared.requests.Asked.{Asked}
-use Rattle.script.specs.Names.{has}
-use Rattle.script.specs.Past.{Texts, Table, no_texts, no_entries, nothing}
+use Rattle.script.specs.Past.{Texts, Table, no_texts, no_entries}
 use Rattle.script.specs.Known.{transactions_at, requests_at}
 use Rattle.script.proofs.Fates.{told_past}
 use Rattle.script.proofs.known.Known.new.Goals as goal

@@ -1,4 +1,4 @@
-use Rattle.std.proofs.Common.{◌≡◌, ◌∙◌, ap, refl, Some, List, ℕ, rules}
+use Rattle.std.proofs.Common.{◌≡◌, refl, Some, rules}
 use Rattle.script.specs.declared.fate.Fate.TheVariants.{Pending, Answered}
 use Rattle.script.specs.Lines.{IsName}
 use Rattle.script.specs.Names.{has}
