@@ -75,11 +75,97 @@ fn scripts_and_their_outputs(rt: HostRuntime) -> Result<(), Fail> {
             b"commit 1\nopen t 1\nq 1 72801cd249fb51131b7bbb93151ac0d3277ce1ef6febdf4fdc9f980dbb59266d\n",
         ),
         (b"put a/x 5\nabc", 5, b"line 1: count\n"),
-        (b"open t\nwait r\n", 5, b"line 2: word\n"),
+        (b"open t\nwait r\n", 5, b"line 2: unknown\n"),
     ];
     for row in &rows {
         let (status, out) = outcome(&rt, rt.alloc(), &["dice", "run"], row.0, &[], &[])?;
         assert!(rt; status == row.1 && out.as_slice() == row.2);
+    }
+    Ok(())
+}
+
+/// One target file is put and committed, `open t`, and then these lines.
+fn in_one_version(alloc: Global, lines: &[u8]) -> Result<Vec<u8>, NoMemory> {
+    let mut script = Vec::from_slice(
+        alloc,
+        b"put a/BUCK 55\nwrite_file(name = \"w\", out = \"w.txt\", content = \"abc\")\n\ncommit\n",
+    )?;
+    script.extend_from_slice(lines)?;
+    Ok(script)
+}
+
+#[test]
+fn requests_that_are_given_up_and_paths_that_are_dropped(rt: HostRuntime) -> Result<(), Fail> {
+    let rows: [(&[u8], u8, &[u8]); 7] = [
+        (
+            b"open t\nask t r //a:w\nask t q //a:w\ncancel r\n",
+            0,
+            b"commit 1\nopen t 1\nr 1 cancelled\nq 1 72801cd249fb51131b7bbb93151ac0d3277ce1ef6febdf4fdc9f980dbb59266d\n",
+        ),
+        (
+            b"open t\nask t r //a:w\nask t q //a:w\nwait q\nclose t\n",
+            0,
+            b"commit 1\nopen t 1\nr 1 cancelled\nq 1 72801cd249fb51131b7bbb93151ac0d3277ce1ef6febdf4fdc9f980dbb59266d\n",
+        ),
+        (
+            b"open t\nask t r //a:w\nwait r\ncancel r\n",
+            5,
+            b"line 8: answered\n",
+        ),
+        (
+            b"open t\nask t r //a:w\ncancel r\nask t q //a:w\n",
+            0,
+            b"commit 1\nopen t 1\nr 1 cancelled\nq 1 72801cd249fb51131b7bbb93151ac0d3277ce1ef6febdf4fdc9f980dbb59266d\n",
+        ),
+        (
+            b"open t\nask t r //a:w\nclose t\nopen s\nask s q //a:w\n",
+            0,
+            b"commit 1\nopen t 1\nr 1 cancelled\nopen s 1\nq 1 72801cd249fb51131b7bbb93151ac0d3277ce1ef6febdf4fdc9f980dbb59266d\n",
+        ),
+        (
+            b"drop a/BUCK\ncommit\nopen t\nask t r //a:w\n",
+            0,
+            b"commit 1\ncommit 2\nopen t 2\nr 2 fault no-package //a\n",
+        ),
+        (
+            b"drop a/x\ncommit\n",
+            0,
+            b"commit 1\ncommit 1\n",
+        ),
+    ];
+    for row in &rows {
+        let script = in_one_version(rt.alloc(), row.0)?;
+        let (status, out) = outcome(&rt, rt.alloc(), &["dice", "run"], &script, &[], &[])?;
+        assert!(rt; status == row.1 && out.as_slice() == row.2);
+    }
+    let (status, out) = outcome(&rt, rt.alloc(), &["dice", "run"], b"drop a/x\ncommit\n", &[], &[])?;
+    assert!(rt; status == 0 && out.as_slice() == b"commit 0\n".as_slice());
+    Ok(())
+}
+
+#[test]
+fn hostile_scripts(rt: HostRuntime) -> Result<(), Fail> {
+    let rows: [(&[u8], &[u8]); 10] = [
+        (b"put a/x 4194305\n", b"line 1: number\n"),
+        (b"put a/x 01\n", b"line 1: number\n"),
+        (b"put a//x 1\n", b"line 1: path\n"),
+        (b"put a/x 1\nab\n", b"line 1: count\n"),
+        (b"commit \n", b"line 1: word\n"),
+        (b"open t\nclose t\nopen t\n", b"line 3: taken\n"),
+        (b"open t\nclose t\nclose t\n", b"line 3: open\n"),
+        (b"wait r\n", b"line 1: unknown\n"),
+        (
+            b"open t\nask t r //a:w\nclose t\nwait r\n",
+            b"line 4: cancelled\n",
+        ),
+        (
+            b"open abcdefghijklmnopqrstuvwxyzabcdefg\n",
+            b"line 1: name\n",
+        ),
+    ];
+    for row in &rows {
+        let (status, out) = outcome(&rt, rt.alloc(), &["dice", "run"], row.0, &[], &[])?;
+        assert!(rt; status == 5 && out.as_slice() == row.1);
     }
     Ok(())
 }

@@ -3,7 +3,7 @@ use Rattle.std.specs.Map.{lookup}
 use Rattle.std.specs.Prelude.{nat_eq}
 use Rattle.std.specs.Cmp.Lexicographic.{pointwise}
 use Rattle.dice_model.specs.Log.{pairs_of}
-use Rattle.script.specs.Faults.{nothing}
+use Rattle.script.specs.Past.{nothing}
 use Rattle.script.specs.Plan.{no_plan}
 use Rattle.script.specs.declared.line.Line.{Line}
 use Rattle.dice_run.specs.declared.driver.Driver.{Driver}
