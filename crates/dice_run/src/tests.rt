@@ -127,18 +127,21 @@ fn requests_that_are_given_up_and_paths_that_are_dropped(rt: HostRuntime) -> Res
             0,
             b"commit 1\ncommit 2\nopen t 2\nr 2 fault no-package //a\n",
         ),
-        (
-            b"drop a/x\ncommit\n",
-            0,
-            b"commit 1\ncommit 1\n",
-        ),
+        (b"drop a/x\ncommit\n", 0, b"commit 1\ncommit 1\n"),
     ];
     for row in &rows {
         let script = in_one_version(rt.alloc(), row.0)?;
         let (status, out) = outcome(&rt, rt.alloc(), &["dice", "run"], &script, &[], &[])?;
         assert!(rt; status == row.1 && out.as_slice() == row.2);
     }
-    let (status, out) = outcome(&rt, rt.alloc(), &["dice", "run"], b"drop a/x\ncommit\n", &[], &[])?;
+    let (status, out) = outcome(
+        &rt,
+        rt.alloc(),
+        &["dice", "run"],
+        b"drop a/x\ncommit\n",
+        &[],
+        &[],
+    )?;
     assert!(rt; status == 0 && out.as_slice() == b"commit 0\n".as_slice());
     Ok(())
 }
