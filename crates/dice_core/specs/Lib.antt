@@ -1,3 +1,10 @@
 pub mod Commits
+pub mod Endings
 pub mod Entries
+pub mod Hands
+pub mod Helds
+pub mod Loads
+pub mod Makings
 pub mod Sessions
+pub mod Shelves
+pub mod Waitings

@@ -1,7 +1,17 @@
-//! Parts of the core of an engine: what a commit does, which transactions and asks are open, and how values that were finished
-//! are looked up and kept. The core's own calls are not there yet.
+//! The core of an engine: one event machine without threads.
 #![tactic(auto)]
 
+mod anew;
 mod commit;
+mod desk;
+mod end;
+mod make;
 mod sessions;
+mod shelf;
+mod task;
 mod value;
+mod wait;
+mod wake;
+
+/// The tasks of one version.
+pub(crate) type Tasks<U> = task_share::Table<<U as dice_key::Universe>::Key, crate::task::Task<U>>;
