@@ -1,3 +1,4 @@
+pub mod AtHand
 pub mod Commits
 pub mod Endings
 pub mod Entries

@@ -130,17 +130,16 @@ pub(crate) fn end_value<U: Universe>(
 
 /// Ends the task at work of a key as lost, and puts the key on the list of those whose askers are still to be told. It takes no
 /// memory.
-fn end_lost<U: Universe>(desk: &mut Desk<U>, tasks: &mut Tasks<U>, version: u64, key: KeyRef<U>)
+fn end_lost<U: Universe>(desk: &mut Desk<U>, tasks: &mut Tasks<U>, version: u64, key: &KeyRef<U>)
     requires known { Knows U.Key.eq version tasks.old desk.old }
-    requires live { is_live U.Key.eq tasks.old (arc_value key) ≡ true }
-    ensures ended { (h : Held U.Key U.Value) × ListsEnd U.Key.eq version (arc_value key) h WithNothing (Lost version (arc_value key)) tasks.old tasks.new desk.old desk.new }
+    requires live { is_live U.Key.eq tasks.old (arc_value key.now) ≡ true }
+    ensures ended { (h : Held U.Key U.Value) × ListsEnd U.Key.eq version (arc_value key.now) h WithNothing (Lost version (arc_value key.now)) tasks.old tasks.new desk.old desk.new }
 {
-    let Some(Spare { first, second: _ }) = end_task(desk, tasks, version, &key, Outcome::Lost)
-    else {
+    let Some(Spare { first, second }) = end_task(desk, tasks, version, key, Outcome::Lost) else {
         return;
     };
     desk.push(Event::Lost(version, first));
-    desk.push_ended(key);
+    desk.push_ended(second);
 }
 
 /// Ends the task at work of a key with a circle, and puts the key on the list of those whose askers are still to be told. It takes
@@ -149,24 +148,24 @@ fn end_cyclic<U: Universe>(
     desk: &mut Desk<U>,
     tasks: &mut Tasks<U>,
     version: u64,
-    key: KeyRef<U>,
+    key: &KeyRef<U>,
     path: Arc<Path<U::Key>>,
 )
     requires known { Knows U.Key.eq version tasks.old desk.old }
-    requires live { is_live U.Key.eq tasks.old (arc_value key) ≡ true }
-    ensures ended { (h : Held U.Key U.Value) × ListsEnd U.Key.eq version (arc_value key) h (WithCycle (arc_value path)) (Cyclic version (arc_value key)) tasks.old tasks.new desk.old desk.new }
+    requires live { is_live U.Key.eq tasks.old (arc_value key.now) ≡ true }
+    ensures ended { (h : Held U.Key U.Value) × ListsEnd U.Key.eq version (arc_value key.now) h (WithCycle (arc_value path)) (Cyclic version (arc_value key.now)) tasks.old tasks.new desk.old desk.new }
 {
-    let Some(Spare { first, second: _ }) = end_task(
+    let Some(Spare { first, second }) = end_task(
         desk,
         tasks,
         version,
-        &key,
+        key,
         Outcome::Cycle(path),
     ) else {
         return;
     };
     desk.push(Event::Cyclic(version, first));
-    desk.push_ended(key);
+    desk.push_ended(second);
 }
 
 /// Ends the task at work of a key as is said, and puts the key on the list of those whose askers are still to be told. Where there
@@ -175,12 +174,12 @@ fn end_one<U: Universe>(
     desk: &mut Desk<U>,
     tasks: &mut Tasks<U>,
     version: u64,
-    key: KeyRef<U>,
+    key: &KeyRef<U>,
     how: &How<'_, U::Key>,
 )
     requires known { Knows U.Key.eq version tasks.old desk.old }
-    requires live { is_live U.Key.eq tasks.old (arc_value key) ≡ true }
-    ensures ended { (h : Held U.Key U.Value) × (o : Came U.Key U.Value) × ComesOf (path_of how.now) o × ListsEnd U.Key.eq version (arc_value key) h o (told_end version (arc_value key) o) tasks.old tasks.new desk.old desk.new }
+    requires live { is_live U.Key.eq tasks.old (arc_value key.now) ≡ true }
+    ensures ended { (h : Held U.Key U.Value) × (o : Came U.Key U.Value) × ComesOf (path_of how.now) o × ListsEnd U.Key.eq version (arc_value key.now) h o (told_end version (arc_value key.now) o) tasks.old tasks.new desk.old desk.new }
 {
     match how {
         How::Lost => end_lost(desk, tasks, version, key),
@@ -208,7 +207,7 @@ fn tell_one<U: Universe>(
     };
     match tasks.take_asker(last) {
         Some(asker) => {
-            end_one(desk, tasks, version, asker, how);
+            end_one(desk, tasks, version, &asker, how);
             true
         }
         None => {
@@ -226,14 +225,14 @@ pub(crate) fn end_all<U: Universe>(
     desk: &mut Desk<U>,
     tasks: &mut Tasks<U>,
     version: u64,
-    key: KeyRef<U>,
+    key: &KeyRef<U>,
     how: &How<'_, U::Key>,
 )
     requires working { (w : World U.Key U.Value) × (owed : ℕ) × Working U.Key.eq U.meaning version [] w owed tasks.old desk.old }
-    requires live { is_live U.Key.eq tasks.old (arc_value key) ≡ true }
+    requires live { is_live U.Key.eq tasks.old (arc_value key.now) ≡ true }
     requires ended { desk.old.ended ≡ [] }
-    requires reached { ReachesPath U.Key.eq U.meaning (path_of how.now) (commits_of (reverse desk.old.events)) version (arc_value key) }
-    ensures ends { (es : List (U.Key × Came U.Key U.Value)) × EndsTasks U.Key.eq version (path_of how.now) (arc_value key) es tasks.old tasks.new desk.old desk.new }
+    requires reached { ReachesPath U.Key.eq U.meaning (path_of how.now) (commits_of (reverse desk.old.events)) version (arc_value key.now) }
+    ensures ends { (es : List (U.Key × Came U.Key U.Value)) × EndsTasks U.Key.eq version (path_of how.now) (arc_value key.now) es tasks.old tasks.new desk.old desk.new }
     ensures ended { desk.new.ended ≡ [] }
     ensures tasked { AreTasked U.Key.eq tasks.old → AreTasked U.Key.eq tasks.new }
     ensures kept { (w : World U.Key U.Value) (owed : ℕ) → Working U.Key.eq U.meaning version [] w owed tasks.old desk.old → Working U.Key.eq U.meaning version [] w owed tasks.new desk.new }

@@ -20,7 +20,7 @@ askers-init g c =
     let e = c.end_one.ensures.ended in
     let eq = g.U.Key.PartialEq.eq in
     let p = path_of c.args.how.now in
-    let k = arc_value c.args.key in
+    let k = arc_value c.args.key.now in
     record {
       ends = ((k, e.1) ∷ [], all_first eq c.laws_of.ensures.keys c.args.version p k e.0 e.1 _ _ _ _ e.2 e.3, listed_first eq c.laws_of.ensures.keys c.args.version p k e.0 e.1 _ _ _ _ e.3 c.requires.ended);
       tasked = tasked_end eq c.laws_of.ensures.keys c.args.version k e.0 e.1 _ _ _ _ e.3.tells.ends;
@@ -39,7 +39,7 @@ askers-preserved g c =
     let m = g.U.Universe.meaning in
     let v = c.args.version in
     let p = path_of c.args.how.now in
-    let k = arc_value c.args.key in
+    let k = arc_value c.args.key.now in
     let n = c.askers.invariant.ends in
     elim (c.tell_one.ensures.some c.askers-test.true) [
       | inl a ↦ record {
