@@ -71,6 +71,16 @@ pub record KeepsHands {K V : Type 0} (d e : DeskSeen K V) : Type 0 where
   pub live : e.live ≡ d.live
   pub ended : e.ended ≡ d.ended
 
+-- the same tasks are ready, out and at work; there may be other events, and no less room
+pub record KeepsWork {K V : Type 0} (d e : DeskSeen K V) : Type 0 where
+  pub ready : e.ready ≡ d.ready
+  pub out : e.out ≡ d.out
+  pub live : e.live ≡ d.live
+  pub ended : e.ended ≡ d.ended
+  pub spare : d.spare ≤ e.spare
+  pub ready_room : d.ready_room ≤ e.ready_room
+  pub live_room : d.live_room ≤ e.live_room
+
 -- the last of the ready tasks goes out
 pub record Takes {K V : Type 0} (p : ℕ × K) (d e : DeskSeen K V) : Type 0 where
   pub ready : d.ready ≡ e.ready ++ p ∷ []

@@ -1,5 +1,7 @@
+pub mod Askings
 pub mod AtHand
 pub mod Commits
+pub mod Cores
 pub mod Endings
 pub mod Entries
 pub mod Hands

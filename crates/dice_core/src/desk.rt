@@ -83,6 +83,25 @@ impl<U: Universe> Desk<U> {
         self.reserve_live(tasks)
     }
 
+    /// The index of the next event, which is below the greatest number.
+    pub(crate) fn next_index(&self) -> Result<u64, NoMemory>
+        ensures { IfOk result (λ n. (n ≡ length self.now.events) × (n < u64.MAX)) }
+    {
+        let len = self.journal.len();
+        let _next = len.checked_add(1).ok_or(NoMemory)?;
+        Ok(len as u64)
+    }
+
+    /// Makes room for one event more than there is room for. Nothing else changes.
+    pub(crate) fn reserve_event(&mut self) -> Result<(), NoMemory>
+        ensures same { KeepsHands self.old self.new }
+        ensures room { KeepsDeskRoom self.old self.new }
+        ensures ok { OnOk result (self.old.spare < self.new.spare) }
+    {
+        let room = self.journal.spare().checked_add(1).ok_or(NoMemory)?;
+        self.journal.reserve(room)
+    }
+
     /// Appends an event to the journal, in room made ahead. It takes no memory.
     pub(crate) fn push(&mut self, event: Event<U::Key, U::Value>)
         requires { 0 < self.old.spare }

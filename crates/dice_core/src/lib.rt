@@ -2,16 +2,25 @@
 #![tactic(auto)]
 
 mod anew;
+mod asking;
 mod commit;
 mod desk;
 mod end;
+mod jobs_out;
+mod machine;
 mod make;
+mod polled;
 mod sessions;
 mod shelf;
 mod task;
 mod value;
 mod wait;
 mod wake;
+
+pub use commit::CommitRefusal;
+pub use machine::Core;
+pub use polled::Polled;
+pub use dice_jobs::{Job, JobName, Step};
 
 /// The tasks of one version.
 pub(crate) type Tasks<U> = task_share::Table<<U as dice_key::Universe>::Key, crate::task::Task<U>>;

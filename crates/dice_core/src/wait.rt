@@ -51,29 +51,26 @@ fn take_job<U: Universe>(tasks: &mut Tasks<U>, key: &KeyRef<U>) -> Option<Job<U>
     task.take()
 }
 
-/// Takes back the job of the task of a key, undone, where it is out: the task is ready again. Another job is handed back. It takes
-/// no memory.
+/// Takes back a job, undone, where it is out: its task is ready again. Another job is handed back. It takes no memory.
 pub(crate) fn put_back<U: Universe>(
     desk: &mut Desk<U>,
     tasks: &mut Tasks<U>,
-    version: u64,
-    key: &KeyRef<U>,
     job: Job<U>,
 ) -> Option<Job<U>>
-    requires known { Knows U.Key.eq version tasks.old desk.old }
+    requires known { Knows U.Key.eq job.name.version tasks.old desk.old }
     ensures same { IfSome result (λ j. (j ≡ job) × (desk.new ≡ desk.old) × KeepsTable U.Key.eq tasks.old tasks.new) }
-    ensures other { IfSome result (λ j. task_at U.Key.eq tasks.old (arc_value key.now) ≡ Some (held_of job IsOut) → ⊥) }
-    ensures back { IfNone result (ReturnsJob U.Key.eq version (arc_value key.now) job job tasks.old tasks.new desk.old desk.new) }
-    ensures kept { IfNone result ((w : World U.Key U.Value) (W : List U.Key) (owed : ℕ) → Working U.Key.eq U.meaning version W w owed tasks.old desk.old → Working U.Key.eq U.meaning version W w owed tasks.new desk.new) }
+    ensures other { IfSome result (λ j. task_at U.Key.eq tasks.old job.name.key ≡ Some (held_of job IsOut) → ⊥) }
+    ensures back { IfNone result (ReturnsJob U.Key.eq job.name.version job.name.key job job tasks.old tasks.new desk.old desk.new) }
+    ensures kept { IfNone result ((w : World U.Key U.Value) (W : List U.Key) (owed : ℕ) → Working U.Key.eq U.meaning job.name.version W w owed tasks.old desk.old → Working U.Key.eq U.meaning job.name.version W w owed tasks.new desk.new) }
 {
     laws_of::<U>();
-    let Some(task) = tasks.task_mut(key) else {
+    let Some(task) = tasks.task_mut(job.name().key()) else {
         return Some(job);
     };
     if let Some(job) = task.back(job) {
         return Some(job);
     }
-    desk.returned(version, key);
+    desk.returned(task.name().version(), task.name().key());
     None
 }
 
