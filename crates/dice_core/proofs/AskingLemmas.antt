@@ -62,12 +62,12 @@ module _ {K V : Type 0} (eq : K → K → Bool) (equality : IsEquality eq) (m : 
   pub in_hand_again : (x : Told K V) (ks : List K) (owed : ℕ) (qs rs : List (K × Share K (Held K V))) (d e : DeskSeen K V) (es : List (K × Stored K V)) (s : Seen K V) (w : World K V) → DropsTasks eq v ks qs rs (with_event d x) e
       → d.ended ≡ [] → EntriesStand eq m (x ∷ reverse d.events) es → CellsStand eq (x ∷ reverse d.events) s → 0 < open_count (x ∷ reverse d.events) v
       → Working eq m v [] w owed rs e → AreTasked eq rs → IsDone (asked_of eq rs) → AtHand eq m v w owed rs e es s
-  in_hand_again x ks owed qs rs d e es s w drops told entries cells open work tasked done = record {
+  in_hand_again x ks owed qs rs d e es s w drops told entries cells some work tasked done = record {
     working = work;
     told = drops.ended ∙ told;
     tasked = tasked;
     done = done;
-    open = subst (λ n. 0 < n) (sym (count_works v (d.events ++ x ∷ []) e.events v works)) (subst (λ R. 0 < open_count R v) (sym (back_more d.events x)) open);
+    opened = subst (λ n. 0 < n) (sym (count_works v (d.events ++ x ∷ []) e.events v works)) (subst (λ R. 0 < open_count R v) (sym (back_more d.events x)) some);
     entries = subst (λ X. EntriesStand eq m (reverse X) es) (sym drops.events) (entries_given_up v eq m es (d.events ++ x ∷ []) (map (Drop v) ks) (all_drops v ks) (subst (λ R. EntriesStand eq m R es) (sym (back_more d.events x)) entries));
     cells = cells_works v eq s (d.events ++ x ∷ []) e.events works (subst (λ R. CellsStand eq R s) (sym (back_more d.events x)) cells);
   }

@@ -1,4 +1,5 @@
 pub mod AllLemmas
+pub mod AskingLemmas
 pub mod BackLemmas
 pub mod CascadeLemmas
 pub mod CommitLaws
@@ -9,12 +10,14 @@ pub mod DifferLemmas
 pub mod EndedLemmas
 pub mod EndsLemmas
 pub mod EntriesLemmas
+pub mod GivingUp
 pub mod Laid
 pub mod Lists
 pub mod EventLemmas
 pub mod LooksLemmas
 pub mod MakeFrames
 pub mod MakeLemmas
+pub mod OpeningLemmas
 pub mod ParkLemmas
 pub mod Parts
 pub mod PollLemmas

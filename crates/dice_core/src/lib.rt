@@ -9,6 +9,7 @@ mod end;
 mod jobs_out;
 mod machine;
 mod make;
+mod opening;
 mod polled;
 mod sessions;
 mod shelf;
