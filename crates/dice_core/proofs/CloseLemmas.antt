@@ -154,24 +154,23 @@ closed_count R v by t o is_open at u = ap (λ b. open_count R u - one_if b) (ap 
 
 module _ {K V : Type 0} (eq : K → K → Bool) (equality : IsEquality eq) (m : Meaning K V) (law : IsLawful m) (v : ℕ) where
   -- while a call works each promise is a live ask of its key
-  pub promised_here : (w : World K V) (owed : ℕ) (ps : List (K × Share K (Held K V))) (d : DeskSeen K V) → Working eq m v [] w owed ps d → ArePromised eq (reverse d.events) ps
-  promised_here w owed ps d h k i e =
-      let here = stands_here eq equality m (reverse d.events) v [] (asked_of eq ps) (tasks_of eq ps) w (desk_of d) owed h.stand in
+  pub promised_here : (w : World K V) (owes : ℕ) (ps : List (K × Share K (Held K V))) (d : DeskSeen K V) → Working eq m v [] w owes ps d → ArePromised eq (reverse d.events) ps
+  promised_here w owes ps d h k i e =
+      let here = stands_here eq equality m (reverse d.events) v [] (asked_of eq ps) (tasks_of eq ps) w (desk_of d) owes h.stand in
       let p = here.promised k i e in (p.0, p.1, p.3)
 
   -- the asks of the transaction are gone: all is there for the cascade
-  pub closed_cleaning : (by t owed less : ℕ) (o : Opened) (xs : List ℕ) (ps qs : List (K × Share K (Held K V))) (d : DeskSeen K V) → less ≤ owed → open_at (reverse d.events) t ≡ Some o → o.by ≡ by → o.version ≡ v → ((i : ℕ) → has_ask xs i ≡ asks_in (reverse d.events) t i)
-      → KeepsTasks eq ps qs → ((q : K) (a : By K) → asks eq qs q a ≡ (asks eq ps q a && not (is_promise_of xs a))) → (w : World K V) → Working eq m v [] w (owed + 1) ps d
+  pub closed_cleaning : (by t owes less : ℕ) (o : Opened) (xs : List ℕ) (ps qs : List (K × Share K (Held K V))) (d : DeskSeen K V) → less ≤ owes → open_at (reverse d.events) t ≡ Some o → o.by ≡ by → o.version ≡ v → ((i : ℕ) → has_ask xs i ≡ asks_in (reverse d.events) t i)
+      → KeepsTasks eq ps qs → ((q : K) (a : By K) → asks eq qs q a ≡ (asks eq ps q a && not (is_promise_of xs a))) → (w : World K V) → Working eq m v [] w (owes + 1) ps d
       → Cleaning eq m v w less qs (with_event d (Close by t)) × (ended_at (reverse (d.events ++ Close by t ∷ [])) ≡ Some v)
-  closed_cleaning by t owed less o xs ps qs d fewer is_open his at listed keeps asked w work =
+  closed_cleaning by t owes less o xs ps qs d fewer is_open his at listed keeps asked w work =
+      let r = closed_stand eq equality m law (reverse d.events) v w [] (asked_of eq ps) (asked_of eq qs) (tasks_of eq ps) by t o (desk_of d) (desk_of (with_event d (Close by t))) (owes + 1) less work.stand is_open his at leaves keeps.live
+          (record { ready = refl; out = refl; live = refl }) (let n = work.stand.room in omega arith) in
       (cleaning_by eq equality m law v (Close by t) less ps qs d keeps w r.1 work.outs work.named, ap ended_at (back_more d.events (Close by t)) ∙ r.2)
     where
       leaves : (q : K) (a : By K) → asks eq qs q a ≡ (asks eq ps q a && not (is_promise_in (reverse d.events) t a))
       leaves q (Promised i) = asked q (Promised i) ∙ ap (λ b. asks eq ps q (Promised i) && not b) (listed i)
       leaves q (Tasked k) = asked q (Tasked k)
-
-      r = closed_stand eq equality m law (reverse d.events) v w [] (asked_of eq ps) (asked_of eq qs) (tasks_of eq ps) by t o (desk_of d) (desk_of (with_event d (Close by t))) (owed + 1) less work.stand is_open his at leaves keeps.live
-          (record { ready = refl; out = refl; live = refl }) (let n = work.stand.room in omega arith)
 
   -- what was told
   pub closed_log : (x : Told K V) (ks : List K) (ps qs rs : List (K × Share K (Held K V))) (d e : DeskSeen K V) → KeepsTasks eq ps qs → DropsTasks eq v ks qs rs (with_event d x) e → DropsAfter eq v (x ∷ []) ks ps rs d e
@@ -184,7 +183,7 @@ module _ {K V : Type 0} (eq : K → K → Bool) (equality : IsEquality eq) (m : 
       list_has q = list_any (eq q) ks
 
   works_after : (x : Told K V) (ks : List K) (qs rs : List (K × Share K (Held K V))) (d e : DeskSeen K V) → DropsTasks eq v ks qs rs (with_event d x) e → WorksOn v (d.events ++ x ∷ []) e.events
-  works_after x ks qs rs d e drops = (map (Drop v) ks, drops.events, all_works v (map (Drop v) ks) (all_drops v ks))
+  works_after x ks qs rs d e drops = (map (Drop v) ks, drops.events, all_works v (map (Drop v) ks) (all_drops V v ks))
 
   pub closed_sessions : (by t : ℕ) (ks : List K) (qs rs : List (K × Share K (Held K V))) (d e : DeskSeen K V) (s : SessionsSeen K) → DropsTasks eq v ks qs rs (with_event d (Close by t)) e → Closing (reverse d.events) by t [] s → SessionsStand (reverse e.events) s
   closed_sessions by t ks qs rs d e s drops c =
@@ -197,30 +196,30 @@ module _ {K V : Type 0} (eq : K → K → Bool) (equality : IsEquality eq) (m : 
       count_works v (d.events ++ Close by t ∷ []) e.events u (works_after (Close by t) ks qs rs d e drops) ∙ (ap (λ R. open_count R u) (back_more d.events (Close by t)) ∙ closed_count (reverse d.events) v by t o is_open at u)
 
   -- after the cascade
-  pub left_again : (by t : ℕ) (ks : List K) (owed : ℕ) (qs rs : List (K × Share K (Held K V))) (d e : DeskSeen K V) (es : List (K × Stored K V)) (s : Seen K V) (w : World K V) → DropsTasks eq v ks qs rs (with_event d (Close by t)) e
-      → d.ended ≡ [] → EntriesStand eq m (reverse d.events) es → CellsStand eq (reverse d.events) s → Working eq m v [] w owed rs e → AreTasked eq rs → IsDone (asked_of eq rs) → LeftHand eq m v w owed rs e es s
-  left_again by t ks owed qs rs d e es s w drops told entries cells work tasked done = record {
+  pub left_again : (by t : ℕ) (ks : List K) (owes : ℕ) (qs rs : List (K × Share K (Held K V))) (d e : DeskSeen K V) (es : List (K × Stored K V)) (s : Seen K V) (w : World K V) → DropsTasks eq v ks qs rs (with_event d (Close by t)) e
+      → d.ended ≡ [] → EntriesStand eq m (reverse d.events) es → CellsStand eq (reverse d.events) s → Working eq m v [] w owes rs e → AreTasked eq rs → IsDone (asked_of eq rs) → LeftHand eq m v w owes rs e es s
+  left_again by t ks owes qs rs d e es s w drops told entries cells work tasked done = record {
     working = work;
     told = drops.ended ∙ told;
     tasked = tasked;
     done = done;
     entries = subst (λ X. EntriesStand eq m (reverse X) es) (sym drops.events)
-        (entries_given_up v eq m es (d.events ++ Close by t ∷ []) (map (Drop v) ks) (all_drops v ks) (subst (λ R. EntriesStand eq m R es) (sym (back_more d.events (Close by t))) (stand_close eq m (reverse d.events) es entries by t)));
+        (entries_given_up v eq m es (d.events ++ Close by t ∷ []) (map (Drop v) ks) (all_drops V v ks) (subst (λ R. EntriesStand eq m R es) (sym (back_more d.events (Close by t))) (stand_close eq m (reverse d.events) es entries by t)));
     cells = cells_works v eq s (d.events ++ Close by t ∷ []) e.events (works_after (Close by t) ks qs rs d e drops) (subst (λ R. CellsStand eq R s) (sym (back_more d.events (Close by t))) (record { are = cells.are; newest = cells.newest }));
   }
 
 -- ---- the version put back, or ended
 
 -- a version with an is_open transaction is in hand still
-pub hand_of_left : {K V : Type 0} (eq : K → K → Bool) (m : Meaning K V) (v : ℕ) (w : World K V) (owed : ℕ) (ps : List (K × Share K (Held K V))) (d : DeskSeen K V) (es : List (K × Stored K V)) (s : Seen K V) → LeftHand eq m v w owed ps d es s → 0 < open_count (reverse d.events) v → AtHand eq m v w owed ps d es s
-hand_of_left eq m v w owed ps d es s h is_open = record { working = h.working; told = h.told; tasked = h.tasked; done = h.done; opened = is_open; entries = h.entries; cells = h.cells }
+pub hand_of_left : {K V : Type 0} (eq : K → K → Bool) (m : Meaning K V) (v : ℕ) (w : World K V) (owes : ℕ) (ps : List (K × Share K (Held K V))) (d : DeskSeen K V) (es : List (K × Stored K V)) (s : Seen K V) → LeftHand eq m v w owes ps d es s → 0 < open_count (reverse d.events) v → AtHand eq m v w owes ps d es s
+hand_of_left eq m v w owes ps d es s h is_open = record { working = h.working; told = h.told; tasked = h.tasked; done = h.done; opened = is_open; entries = h.entries; cells = h.cells }
 
 -- what has ended is not out
 still_home : {K V : Type 0} (o : Option (Task K V)) → is_going o ≡ false → is_out o ≡ false
-still_home None e = refl
-still_home (Some t) e = of_standing t.standing e
+still_home {K} {V} None e = refl
+still_home {K} {V} (Some t) e = of_standing t.standing e
   where
-    of_standing : (p : Standing _ _) → goes_on p ≡ false → out_in p ≡ false
+    of_standing : (p : Standing K V) → goes_on p ≡ false → out_in p ≡ false
     of_standing (Works w p A) f = let h : true ≡ false = f in cc
     of_standing (Ended o) f = refl
 
@@ -288,6 +287,7 @@ module _ {K V : Type 0} (eq : K → K → Bool) (equality : IsEquality eq) (m : 
       here : VersionStands eq m (reverse e.events) v [] (asked_of eq qs) (tasks_of eq qs)
       here = stands_here eq equality m (reverse e.events) v [] (asked_of eq qs) (tasks_of eq qs) (world_of eq c.tables) (desk_of e) (owed x) hand.working.stand
 
+      finite : (all : List K) × ((q : K) → is_live eq qs q ≡ true → Has all q)
       finite = live_stand eq equality m law (reverse e.events) v (world_of eq c.tables) [] (asked_of eq qs) (tasks_of eq qs) (desk_of e) (owed x) hand.working.stand
 
       home : (p : ℕ × K) → is_out ((with_version v nobody (λ q. None) (world_of eq c.tables)).tasks p.0 p.1) ≡ is_out ((seen_world eq v qs (world_of eq c.tables)).tasks p.0 p.1)

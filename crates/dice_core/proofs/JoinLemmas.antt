@@ -91,13 +91,17 @@ module _ {K V : Type 0} (eq : K → K → Bool) (equality : IsEquality eq) (m : 
       past : reverse e.events ≡ reverse d.events
       past = ap reverse h.events
 
+      st : Stand eq m (reverse d.events) v [] (seen_world eq v ps w) (desk_of d) owed
       st = work.stand
 
   -- a key is asked for: one event more, and one promise more where the key is not injected
   pub asked_works : (w : World K V) (owed less : ℕ) (ps qs : List (K × Share K (Held K V))) (d : DeskSeen K V) (by t : ℕ) (k : K) → IsOpenAt (reverse d.events) v t → KeepsTasks eq ps qs
       → (m.kind k ≡ Injected → SameAsks eq (asked_of eq ps) (asked_of eq qs)) → (m.kind k ≢ Injected → Joins eq k (Promised (length (reverse d.events))) (asked_of eq ps) (asked_of eq qs))
       → 2 * d.live + less ≤ d.spare - 1 → Working eq m v [] w owed ps d → Working eq m v [] w less qs (with_event d (Ask by t k))
-  asked_works w owed less ps qs d by t k is_open keeps same joins room work = record {
+  asked_works w owed less ps qs d by t k is_open keeps same joins room work =
+      let r = asked_stand eq equality m law (reverse d.events) v w [] (asked_of eq ps) (asked_of eq qs) (tasks_of eq ps) by t k is_open.0 (desk_of d) (desk_of (with_event d (Ask by t k))) owed less work.stand is_open.1 is_open.2 same joins keeps.live
+          (record { ready = refl; out = refl; live = refl }) room in
+      record {
     stand = subst (λ R. Stand eq m R v [] (seen_world eq v qs w) (desk_of (with_event d x)) less) (sym told)
         (subst (λ ts. Stand eq m (x ∷ reverse d.events) v [] (with_version v (asked_of eq qs) ts w) (desk_of (with_event d x)) less) (sym alike) r.1);
     outs = subst (λ ts. AreAll (λ (p : ℕ × K). is_out ((with_version v (asked_of eq qs) ts w).tasks p.0 p.1)) d.out) (sym alike) work.outs;
@@ -113,9 +117,6 @@ module _ {K V : Type 0} (eq : K → K → Bool) (equality : IsEquality eq) (m : 
 
       alike : tasks_of eq qs ≡ tasks_of eq ps
       alike = same_tasks eq ps qs keeps
-
-      r = asked_stand eq equality m law (reverse d.events) v w [] (asked_of eq ps) (asked_of eq qs) (tasks_of eq ps) by t k is_open.0 (desk_of d) (desk_of (with_event d (Ask by t k))) owed less work.stand is_open.1 is_open.2 same joins keeps.live
-          (record { ready = refl; out = refl; live = refl }) room
 
   -- the same tasks, where all that is seen is as before
   pub working_kept : (w : World K V) (W : List K) (owed : ℕ) (ps qs : List (K × Share K (Held K V))) (d : DeskSeen K V) → KeepsTasks eq ps qs → KeepsAsks eq ps qs → Working eq m v W w owed ps d → Working eq m v W w owed qs d
