@@ -103,7 +103,7 @@ module _ {K V : Type 0} (eq : K → K → Bool) (equality : IsEquality eq) (m : 
   module _ (c : CoreSeen K V) (st : CoreStands eq m c) (v : ℕ) where
     -- a version with an open transaction is taken in hand
     pub in_hand : 0 < open_count (past_of c) v → AtHand eq m v (world_of eq c.tables) (owed c.sessions) (table_at c.tables v) c.desk c.entries c.cells
-    in_hand open = record {
+    in_hand some = record {
       working = record {
         stand = stand_with eq equality m law (past_of c) v (world_of eq c.tables) (desk_of c.desk) (owed c.sessions) st.rests;
         outs = subst (λ (x : World K V). AreAll (λ (p : ℕ × K). is_out (x.tasks p.0 p.1)) c.desk.out) (sym (same_world v (world_of eq c.tables))) st.outs;
@@ -113,7 +113,7 @@ module _ {K V : Type 0} (eq : K → K → Bool) (equality : IsEquality eq) (m : 
       told = st.told;
       tasked = λ k a i. (let t = (st.rests.each v).tasked k a i in held_there (task_at eq (table_at c.tables v) k) t.0 t.1);
       done = (st.rests.each v).wanted;
-      open = open;
+      opened = some;
       entries = st.entries;
       cells = st.cells;
     }
@@ -131,7 +131,7 @@ module _ {K V : Type 0} (eq : K → K → Bool) (equality : IsEquality eq) (m : 
         → AtHand eq m v (world_of eq c.tables) (owed x) qs e es s → SessionsStand (reverse e.events) x → ((u : ℕ) → 0 < open_count (reverse e.events) u → has_table c.tables u ≡ true)
         → CoreStands eq m (record { desk = e; tables = us; entries = es; cells = s; sessions = x })
     put_back_so us qs e es s x put hand stands tabled = record {
-      rests = subst (λ (w : World K V). Rests eq m (reverse e.events) w (desk_of e) (owed x)) (sym same) (rests_of eq equality m law (reverse e.events) v (world_of eq c.tables) (asked_of eq qs) (tasks_of eq qs) (desk_of e) (owed x) hand.working.stand hand.done tasked (λ z. absurd (let n = hand.open in omega arith)));
+      rests = subst (λ (w : World K V). Rests eq m (reverse e.events) w (desk_of e) (owed x)) (sym same) (rests_of eq equality m law (reverse e.events) v (world_of eq c.tables) (asked_of eq qs) (tasks_of eq qs) (desk_of e) (owed x) hand.working.stand hand.done tasked (λ z. absurd (let n = hand.opened in omega arith)));
       outs = subst (λ (w : World K V). AreAll (λ (p : ℕ × K). is_out (w.tasks p.0 p.1)) e.out) (sym same) hand.working.outs;
       named = named_put_in c.tables us v qs put eq hand.working.named st.named;
       told = hand.told;
