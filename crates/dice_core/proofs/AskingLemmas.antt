@@ -18,6 +18,7 @@ use Rattle.core_laws.proofs.Shapes.{both_parts}
 use Rattle.dice_core.specs.Askings.{IsAskAt, DropsAfter}
 use Rattle.dice_core.specs.AtHand.{AtHand}
 use Rattle.dice_core.specs.Commits.{CellsStand}
+use Rattle.dice_core.specs.Cores.{IsWorkAt}
 use Rattle.dice_core.specs.Endings.{DropsTasks, AreTasked}
 use Rattle.dice_core.specs.Entries.{EntriesStand}
 use Rattle.dice_core.specs.Hands.{DeskSeen, desk_of, tasks_of, seen_world, with_event, Working, Cleaning}
@@ -46,13 +47,10 @@ module _ {K V : Type 0} (eq : K → K → Bool) (equality : IsEquality eq) (m : 
   pub left_cleaning : (k : K) (by i owed : ℕ) (ps qs : List (K × Share K (Held K V))) (d : DeskSeen K V) → KeepsTasks eq ps qs → ((q : K) (a : By K) → asks eq qs q a ≡ (asks eq ps q a && not (eq k q && is_by eq (Promised i) a)))
       → IsAskAt (reverse d.events) v by i k → (w : World K V) → Working eq m v [] w (owed + 1) ps d → Cleaning eq m v w owed qs (with_event d (Leave by i)) × (ended_at (reverse (d.events ++ Leave by i ∷ [])) ≡ Some v)
   left_cleaning k by i owed ps qs d keeps asked ask w work =
+      let leaves : Leaves eq ask.asking.key (Promised i) (asked_of eq ps) (asked_of eq qs) = subst (λ z. Leaves eq z (Promised i) (asked_of eq ps) (asked_of eq qs)) (sym ask.key) asked in
+      let r = left_stand eq equality m law (reverse d.events) v w [] (asked_of eq ps) (asked_of eq qs) (tasks_of eq ps) by i ask.asking (desk_of d) (desk_of (with_event d (Leave by i))) (owed + 1) owed work.stand ask.live ask.his ask.at leaves keeps.live
+          (record { ready = refl; out = refl; live = refl }) (let n = work.stand.room in omega arith) in
       (cleaning_by (Leave by i) owed ps qs d keeps w r.1 work.outs work.named, ap ended_at (back_more d.events (Leave by i)) ∙ r.2)
-    where
-      leaves : Leaves eq ask.asking.key (Promised i) (asked_of eq ps) (asked_of eq qs)
-      leaves = subst (λ z. Leaves eq z (Promised i) (asked_of eq ps) (asked_of eq qs)) (sym ask.key) asked
-
-      r = left_stand eq equality m law (reverse d.events) v w [] (asked_of eq ps) (asked_of eq qs) (tasks_of eq ps) by i ask.asking (desk_of d) (desk_of (with_event d (Leave by i))) (owed + 1) owed work.stand ask.live ask.his ask.at leaves keeps.live
-          (record { ready = refl; out = refl; live = refl }) (let n = work.stand.room in omega arith)
 
   -- whoever is asked for still, has a task
   pub left_tasked : (ps qs : List (K × Share K (Held K V))) → KeepsTasks eq ps qs → ((q : K) (a : By K) → asks eq qs q a ≡ true → asks eq ps q a ≡ true) → AreTasked eq ps → AreTasked eq qs
@@ -68,9 +66,9 @@ module _ {K V : Type 0} (eq : K → K → Bool) (equality : IsEquality eq) (m : 
     tasked = tasked;
     done = done;
     opened = subst (λ n. 0 < n) (sym (count_works v (d.events ++ x ∷ []) e.events v works)) (subst (λ R. 0 < open_count R v) (sym (back_more d.events x)) some);
-    entries = subst (λ X. EntriesStand eq m (reverse X) es) (sym drops.events) (entries_given_up v eq m es (d.events ++ x ∷ []) (map (Drop v) ks) (all_drops v ks) (subst (λ R. EntriesStand eq m R es) (sym (back_more d.events x)) entries));
+    entries = subst (λ X. EntriesStand eq m (reverse X) es) (sym drops.events) (entries_given_up v eq m es (d.events ++ x ∷ []) (map (Drop v) ks) (all_drops V v ks) (subst (λ R. EntriesStand eq m R es) (sym (back_more d.events x)) entries));
     cells = cells_works v eq s (d.events ++ x ∷ []) e.events works (subst (λ R. CellsStand eq R s) (sym (back_more d.events x)) cells);
   }
     where
-      works : (fs : List (Told K V)) × (e.events ≡ (d.events ++ x ∷ []) ++ fs) × AllByRecursion _ fs
-      works = (map (Drop v) ks, drops.events, all_works v (map (Drop v) ks) (all_drops v ks))
+      works : (fs : List (Told K V)) × (e.events ≡ (d.events ++ x ∷ []) ++ fs) × AllByRecursion (IsWorkAt v) fs
+      works = (map (Drop v) ks, drops.events, all_works v (map (Drop v) ks) (all_drops V v ks))

@@ -98,18 +98,13 @@ module _ {K V : Type 0} (v : ℕ) where
   pub entries_given_up : (eq : K → K → Bool) (m : Meaning K V) (es : List (K × Stored K V)) (J E : List (Told K V)) → AllByRecursion GivesUp E → EntriesStand eq m (reverse J) es → EntriesStand eq m (reverse (J ++ E)) es
   entries_given_up eq m es J E a t = along (λ R. EntriesStand eq m R es) GivesUp (λ e R h p. entries_on eq m es e R h p) J E a t
 
-  -- drops
-  pub all_drops : (ks : List K) → AllByRecursion GivesUp (map (Drop v) ks)
-  all_drops [] = tt
-  all_drops (k ∷ ks) = (refl, all_drops ks)
-
   pub all_works : (E : List (Told K V)) → AllByRecursion GivesUp E → AllByRecursion (IsWorkAt v) E
   all_works [] a = tt
   all_works (e ∷ E) a = (works_given_up e a.0, all_works E a.1)
 
-  pub all_both : {Q : Told K V → Type 0} (D E : List (Told K V)) → AllByRecursion Q D → AllByRecursion Q E → AllByRecursion Q (D ++ E)
-  all_both [] E a b = b
-  all_both (d ∷ D) E a b = (a.0, all_both D E a.1 b)
+  pub all_both : (Q : Told K V → Type 0) (D E : List (Told K V)) → AllByRecursion Q D → AllByRecursion Q E → AllByRecursion Q (D ++ E)
+  all_both Q [] E a b = b
+  all_both Q (d ∷ D) E a b = (a.0, all_both Q D E a.1 b)
 
   -- ends that come of a circle or of want of memory
   module _ (path : Option (List K)) where
@@ -138,3 +133,9 @@ module _ {K V : Type 0} (v : ℕ) where
   pub ended_after : (J E : List (Told K V)) (e : Told K V) → Has E e → AllByRecursion EndsSo E → ended_at (reverse (J ++ E)) ≡ Some v
   ended_after J [] e h a = absurd h
   ended_after J (d ∷ E) e h a = subst (λ X. ended_at (reverse X) ≡ Some v) (append_assoc J (d ∷ []) E) (along (λ R. ended_at R ≡ Some v) EndsSo (λ x R i p. ended_so x R i) (J ++ d ∷ []) E a.1 (subst (λ R. ended_at R ≡ Some v) (sym (back_more J d)) (ended_so d (reverse J) a.0)))
+
+-- drops
+module _ {K : Type 0} (V : Type 0) (v : ℕ) where
+  pub all_drops : (ks : List K) → AllByRecursion (GivesUp {K = K} {V = V} v) (map (Drop v) ks)
+  all_drops [] = tt
+  all_drops (k ∷ ks) = (refl, all_drops ks)
