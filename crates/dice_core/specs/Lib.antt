@@ -1,11 +1,13 @@
 pub mod Askings
 pub mod AtHand
+pub mod Closings
 pub mod Commits
 pub mod Cores
 pub mod Endings
 pub mod Entries
 pub mod Hands
 pub mod Helds
+pub mod Joinings
 pub mod Loads
 pub mod Makings
 pub mod Sessions

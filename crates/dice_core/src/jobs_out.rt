@@ -72,17 +72,27 @@ pub(crate) fn fail_named<U: Universe>(
 {
     laws_of::<U>();
     let version = name.version();
+    if !is_out_among::<U>(versions, name) {
+        return false;
+    }
     let Some(tasks) = versions.get_mut(&version) else {
         return false;
     };
-    if !is_name_out::<U>(tasks, name) {
-        return false;
-    }
     give_up::<U>(desk, tasks, version, name.key(), &How::Lost);
     true
 }
 
-/// Whether the job of this name is out.
+/// Whether the job of this name is out, among the tasks of all versions.
+fn is_out_among<U: Universe>(versions: &HashMap<u64, Tasks<U>>, name: &JobName<U>) -> bool
+    ensures { IsTrue result ↔ IsJobNamed U.Key.eq name.now (table_at versions.now.entries name.now.version) }
+{
+    match versions.get(&name.version()) {
+        Some(tasks) => is_name_out::<U>(tasks, name),
+        None => false,
+    }
+}
+
+/// Whether the job of this name is out, among the tasks of its version.
 fn is_name_out<U: Universe>(tasks: &Tasks<U>, name: &JobName<U>) -> bool
     ensures { IsTrue result ↔ IsJobNamed U.Key.eq name.now tasks.now }
 {

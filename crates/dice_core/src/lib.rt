@@ -2,7 +2,9 @@
 #![tactic(auto)]
 
 mod anew;
+mod ask;
 mod asking;
+mod close;
 mod commit;
 mod desk;
 mod end;

@@ -10,13 +10,14 @@ ghost use Rattle.dice_model.specs.Asks.{AsksFor};
 ghost use Rattle.task_share.specs.Asked.{Tasked};
 ghost use Rattle.task_share.specs.Seen.{task_at, asks};
 ghost use Rattle.journal.specs.Events.{Opened, Asking, commits_of, decided, open_at, open_count, opened_at, live_at};
+ghost use Rattle.injected.specs.Seen.{cell_at};
 ghost use Rattle.journal.specs.Law.{IsLawfulJournal};
 ghost use Rattle.versioned_graph.specs.Sound.{AreTrue};
 ghost use Rattle.core_laws.specs.Stands.{CycleStands, lost_in_epoch};
 ghost use Rattle.dice_core.specs.Commits.{CellsStand, Fault, fault_of, AreSettable, IsFirstFault, differing_of, event_of};
 ghost use Rattle.dice_core.specs.Hands.{KeepsWork};
 ghost use Rattle.dice_core.specs.Sessions.{transaction_at, ask_at};
-ghost use Rattle.dice_core.specs.Cores.{CoreSeen, Came, ToValue, ToCycle, ToNothing, Pending, Absent, came_of, decision_of, events_of, past_of, table_at, held_to, held_in, poll_of, IsAsBefore, KeepsTasksOf, DropsOnly, IsJobOut, IsNameOut, TakesOut, GivesUpOnly};
+ghost use Rattle.dice_core.specs.Cores.{CoreSeen, Came, ToValue, ToCycle, ToNothing, Pending, Absent, came_of, decision_of, events_of, past_of, table_at, held_to, injected_to, held_in, poll_of, IsAsBefore, KeepsTasksOf, DropsOnly, IsJobOut, IsNameOut, TakesOut, GivesUpOnly};
 
 use crate::Tasks;
 use crate::commit::{CommitRefusal, commit};
@@ -121,12 +122,14 @@ impl<U: Universe> Core<U> {
     {
         laws_of::<U>();
         cells_are_the_inputs::<U>();
-        match self.universe.kind(key) {
-            Kind::Injected if self.sessions.open_count(version) != 0 => {
-                Polled::Value(self.cells.at(version, key))
-            }
-            _ => polled(&self.versions, version, key),
-        }
+        polled_at(
+            &*self.universe,
+            &self.cells,
+            self.sessions.open_count(version),
+            &self.versions,
+            version,
+            key,
+        )
     }
 
     /// Applies changes together: those whose value is not the key's newest one are a commit, one event and one version more; with
@@ -269,6 +272,23 @@ impl<U: Universe> Core<U> {
         ensures { result ≡ is_some (live_at (past_of self.now) ask) }
     {
         self.sessions.stands(ask)
+    }
+}
+
+/// What a key has come to at a version at which so many transactions are open.
+fn polled_at<'a, U: Universe>(
+    universe: &U,
+    cells: &'a Cells<U>,
+    count: u64,
+    versions: &'a HashMap<u64, Tasks<U>>,
+    version: u64,
+    key: &KeyRef<U>,
+) -> Polled<'a, U>
+    ensures { came_of result ≡ injected_to (U.meaning.kind (arc_value key.now)) count (cell_at U.Key.eq U.meaning cells.now version (arc_value key.now)) (held_to (task_at U.Key.eq (table_at versions.now.entries version) (arc_value key.now))) }
+{
+    match universe.kind(key) {
+        Kind::Injected if count != 0 => Polled::Value(cells.at(version, key)),
+        _ => polled(versions, version, key),
     }
 }
 
