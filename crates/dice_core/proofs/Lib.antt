@@ -8,6 +8,7 @@ pub mod DifferLemmas
 pub mod EndedLemmas
 pub mod EndsLemmas
 pub mod EntriesLemmas
+pub mod FinishLemmas
 pub mod Laid
 pub mod Lists
 pub mod LooksLemmas
@@ -23,3 +24,5 @@ pub mod Tasks
 pub mod TellLemmas
 pub mod WaitLemmas
 pub mod WakeLemmas
+pub mod WakesLemmas
+pub mod WokenLemmas

@@ -2,6 +2,7 @@ pub mod AtHand
 pub mod Commits
 pub mod Endings
 pub mod Entries
+pub mod Finishings
 pub mod Hands
 pub mod Helds
 pub mod Loads
@@ -9,3 +10,4 @@ pub mod Makings
 pub mod Sessions
 pub mod Shelves
 pub mod Waitings
+pub mod Wokens

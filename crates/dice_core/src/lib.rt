@@ -5,6 +5,7 @@ mod anew;
 mod commit;
 mod desk;
 mod end;
+mod finish;
 mod make;
 mod sessions;
 mod shelf;
@@ -12,6 +13,7 @@ mod task;
 mod value;
 mod wait;
 mod wake;
+mod woken;
 
 /// The tasks of one version.
 pub(crate) type Tasks<U> = task_share::Table<<U as dice_key::Universe>::Key, crate::task::Task<U>>;
