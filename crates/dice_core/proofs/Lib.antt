@@ -12,6 +12,7 @@ pub mod EndedLemmas
 pub mod EndsLemmas
 pub mod EntriesLemmas
 pub mod EventLemmas
+pub mod FinishLemmas
 pub mod GivingUp
 pub mod JobsLemmas
 pub mod JoinLemmas
@@ -32,3 +33,5 @@ pub mod Tasks
 pub mod TellLemmas
 pub mod WaitLemmas
 pub mod WakeLemmas
+pub mod WakesLemmas
+pub mod WokenLemmas

@@ -5,6 +5,7 @@ pub mod Commits
 pub mod Cores
 pub mod Endings
 pub mod Entries
+pub mod Finishings
 pub mod Hands
 pub mod Helds
 pub mod Joinings
@@ -13,3 +14,4 @@ pub mod Makings
 pub mod Sessions
 pub mod Shelves
 pub mod Waitings
+pub mod Wokens

@@ -10,6 +10,7 @@ mod desk;
 mod end;
 mod jobs_out;
 mod machine;
+mod finish;
 mod make;
 mod opening;
 mod polled;
@@ -19,6 +20,7 @@ mod task;
 mod value;
 mod wait;
 mod wake;
+mod woken;
 
 pub use commit::CommitRefusal;
 pub use machine::Core;
