@@ -31,6 +31,7 @@ pub mod TakeLemmas
 pub mod TaskedLemmas
 pub mod Tasks
 pub mod TellLemmas
+pub mod TurnLemmas
 pub mod WaitLemmas
 pub mod WakeLemmas
 pub mod WakesLemmas

@@ -4,15 +4,18 @@
 mod anew;
 mod ask;
 mod asking;
+mod batch;
 mod close;
 mod commit;
 mod desk;
 mod end;
+mod finish;
+mod giving;
 mod jobs_out;
 mod machine;
-mod finish;
 mod make;
 mod opening;
+mod plan;
 mod polled;
 mod sessions;
 mod shelf;
@@ -23,9 +26,13 @@ mod wake;
 mod woken;
 
 pub use commit::CommitRefusal;
+pub use giving::Gave;
 pub use machine::Core;
 pub use polled::Polled;
 pub use dice_jobs::{Job, JobName, Step};
 
 /// The tasks of one version.
 pub(crate) type Tasks<U> = task_share::Table<<U as dice_key::Universe>::Key, crate::task::Task<U>>;
+
+#[cfg(test)]
+mod tests;

@@ -2,7 +2,7 @@
 ghost use Rattle.std.specs.Prelude.{◌≡◌, ◌≢◌, ◌<◌, ◌+◌, ◌++◌, ◌∷◌, ◌↔◌, IsTrue, ℕ, List, [], true, false, length, map, reverse, Some, None, is_some, IfOk, IfErr, IfSome, IfNone, OnOk, OnErr, MatchResult};
 ghost use Rattle.std.specs.Map.{keys_of};
 ghost use Rattle.dice_model.specs.Log.{Has, pairs_of};
-ghost use Rattle.journal.specs.declared.event.Told.TheVariants.{Open, Leave, Drop, Lost};
+ghost use Rattle.journal.specs.declared.event.Told.TheVariants.{Open, Close, Leave, Drop, Lost};
 ghost use Rattle.std.specs.Arc.{arc_value};
 ghost use Rattle.dice_key.specs.declared.universe.Kind.TheVariants.{Injected};
 ghost use Rattle.dice_model.specs.Eval.{HasValue};
@@ -16,17 +16,20 @@ ghost use Rattle.versioned_graph.specs.Sound.{AreTrue};
 ghost use Rattle.core_laws.specs.Stands.{CycleStands, lost_in_epoch};
 ghost use Rattle.dice_core.specs.Commits.{CellsStand, Fault, fault_of, AreSettable, IsFirstFault, differing_of, event_of};
 ghost use Rattle.dice_core.specs.Hands.{KeepsWork};
+ghost use Rattle.dice_core.specs.Givings.{stale_of, Gives};
+ghost use Rattle.dice_core.specs.Joinings.{AsksForKey};
 ghost use Rattle.dice_core.specs.Sessions.{transaction_at, ask_at};
-ghost use Rattle.dice_core.specs.Cores.{CoreSeen, Came, ToValue, ToCycle, ToNothing, Pending, Absent, came_of, decision_of, events_of, past_of, table_at, held_to, injected_to, held_in, poll_of, IsAsBefore, KeepsTasksOf, DropsOnly, IsJobOut, IsNameOut, TakesOut, GivesUpOnly};
+ghost use Rattle.dice_core.specs.Cores.{CoreSeen, Came, ToValue, ToCycle, ToNothing, Pending, Absent, came_of, decision_of, events_of, past_of, table_at, held_to, injected_to, held_in, poll_of, Turned, IsAsBefore, KeepsTasksOf, DropsOnly, IsJobOut, IsNameOut, TakesOut, GivesUpOnly};
 
 use crate::Tasks;
 use crate::commit::{CommitRefusal, commit};
 use crate::desk::Desk;
+use crate::giving::{Gave, give_in};
 use crate::jobs_out::{bring_back, fail_named, take_next};
-use crate::opening::{leave_ask, open_at_newest};
+use crate::opening::{ask_in, close_in, leave_ask, open_at_newest};
 use crate::polled::Polled;
 use crate::sessions::Sessions;
-use dice_jobs::{Job, JobName};
+use dice_jobs::{Job, JobName, Step};
 use dice_key::{KeyRef, Kind, NoMemory, Universe, ValueRef, Version, laws_of};
 use injected::{Cells, cells_are_the_inputs};
 use journal::Journal;
@@ -184,6 +187,45 @@ impl<U: Universe> Core<U> {
         )
     }
 
+    /// Asks for a key in an open transaction, by a seat; the index of the event is the name of the ask. The key's task at the
+    /// transaction's version is joined; where there is none, or one that was given up, it is made by what is known of the key. Where
+    /// memory is refused all is as before.
+    pub fn ask(&mut self, by: u64, tx: u64, key: KeyRef<U>) -> Result<u64, NoMemory>
+        requires { is_some (open_at (past_of self.old) tx) ≡ true }
+        ensures index { IfOk result (λ i. i ≡ length (events_of self.old)) }
+        ensures asked { OnOk result ((o : Opened) × (open_at (past_of self.old) tx ≡ Some o) × Turned U.Key.eq U.meaning o.version self.old.tables self.new.tables (λ ps qs. AsksForKey U.Key.eq o.version by tx (arc_value key) ps qs self.old.desk self.new.desk)) }
+        ensures err { OnErr result (IsAsBefore U.Key.eq self.old self.new) }
+    {
+        laws_of::<U>();
+        ask_in(
+            self.alloc,
+            &*self.universe,
+            &mut self.graph,
+            &mut self.desk,
+            &mut self.versions,
+            &mut self.sessions,
+            by,
+            tx,
+            key,
+        )
+    }
+
+    /// Closes a transaction: its asks go, and the tasks that nobody asks for any more are dropped; with the last transaction of a
+    /// version all its tasks go. It takes no memory.
+    pub fn close(&mut self, tx: u64)
+        requires { is_some (open_at (past_of self.old) tx) ≡ true }
+        ensures log { (o : Opened) × (ks : List U.Key) × (open_at (past_of self.old) tx ≡ Some o) × (events_of self.new ≡ events_of self.old ++ (Close o.by tx ∷ map (Drop o.version) ks)) }
+        ensures tasks { DropsOnly U.Key.eq self.old self.new }
+    {
+        laws_of::<U>();
+        close_in(
+            &mut self.desk,
+            &mut self.versions,
+            &mut self.sessions,
+            tx,
+        );
+    }
+
     /// Leaves an ask, and drops the tasks that nobody asks for any more. It takes no memory.
     pub fn leave(&mut self, ask: u64)
         requires { is_some (live_at (past_of self.old) ask) ≡ true }
@@ -230,6 +272,32 @@ impl<U: Universe> Core<U> {
     {
         laws_of::<U>();
         fail_named(&mut self.desk, &mut self.versions, name)
+    }
+
+    /// Takes up a step: a value is kept and ends its task; a check that found all as it was keeps the earlier value; one that found a
+    /// change makes its key be computed; and a batch makes its task wait for those of its keys that have not come to a value, or end
+    /// with the circle that it would close.
+    ///
+    /// `Stale` exactly where it is not the step of the job that is out: by its name, the batches that were answered, what is done, and
+    /// of a check the value, trace and base; then nothing changes. Where memory is refused all is as before, and the step comes back.
+    pub fn give(&mut self, step: Step<U>) -> Result<Gave<U>, (NoMemory, Step<U>)>
+        ensures stale { IfOk result (λ g. IfSome (stale_of g) (λ s. (s ≡ step) × (IsJobOut U.Key.eq self.old step.job → ⊥) × (self.new ≡ self.old))) }
+        ensures taken { IfOk result (λ g. IfNone (stale_of g) (Turned U.Key.eq U.meaning step.job.name.version self.old.tables self.new.tables (λ ps qs. Gives U.Key.eq step.job.name.version step ps qs self.old.desk self.new.desk))) }
+        ensures step { IfErr result (λ e. e.1 ≡ step) }
+        ensures err { OnErr result (IsJobOut U.Key.eq self.old step.job × IsAsBefore U.Key.eq self.old self.new) }
+    {
+        laws_of::<U>();
+        let owed = self.sessions.owed();
+        give_in(
+            self.alloc,
+            &*self.universe,
+            &self.cells,
+            &mut self.graph,
+            &mut self.desk,
+            &mut self.versions,
+            owed,
+            step,
+        )
     }
 
     /// How many tasks are ready.
