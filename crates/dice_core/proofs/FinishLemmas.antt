@@ -106,6 +106,23 @@ module _ {K V : Type 0} (m : Meaning K V) (veq : V → V → Bool) (a : Assigned
         let f = r.2 in
         record { before = f.before; batch = f.batch; later = f.after; trace_is = f.trace_is; answers = f.answers; answered = f.fed_is; keys_before = f.keys_before; keys_later = f.keys_after; same = f.same; was_later = f.was_after; now_later = f.now_after; was = r.0; now = r.1; keys_are = f.keys_are; values_are = f.values_are; answers_are = f.answers_are; counted = f.counted; changed = f.changed }
 
+-- ---- the event that tells an end, and what the graph keeps then
+
+module _ {K V : Type 0} where
+  pub told_of : (v : ℕ) (k : K) (s : Stepped K V) (x : V) (t : Told K V) → EndsWith v k s x t → (t ≡ End v k) ⊎ ((b : ℕ) × (t ≡ Keep v k b))
+  told_of v k s x t ends = elim ends as (λ _. (t ≡ End v k) ⊎ ((b : ℕ) × (t ≡ Keep v k b))) [ inl i ↦ inl i.1 | inr i ↦ inr (i.2, i.4) ]
+
+module _ {K V : Type 0} (eq : K → K → Bool) (m : Meaning K V) (v : ℕ) (R : List (Told K V)) (fs : List (K × Stored K V)) (k i : K) (x y : V) (A B : List (Answered K V)) (key : i ≡ k) (value : y ≡ x) (trace : B ≡ A) where
+  -- the graph was given a copy of the key, of the value and of the trace
+  traced_so : IsTrace eq m (commits_of R) v k A x → IsTrace eq m (commits_of R) v i B y
+  traced_so t = subst (λ z. IsTrace eq m (commits_of R) v z B y) (sym key) (subst (λ z. IsTrace eq m (commits_of R) v k z y) (sym trace) (subst (λ z. IsTrace eq m (commits_of R) v k A z) (sym value) t))
+
+  pub entries_ended : (t : Told K V) → t ≡ End v k → (IsTrace eq m (commits_of R) v i B y → EntriesStand eq m (End v i ∷ R) fs) → IsTrace eq m (commits_of R) v k A x → EntriesStand eq m (t ∷ R) fs
+  entries_ended t is f trace_is = subst (λ (z : Told K V). EntriesStand eq m (z ∷ R) fs) (ap (λ z. End v z) key ∙ sym is) (f (traced_so trace_is))
+
+  pub entries_kept : (t : Told K V) (b : ℕ) → t ≡ Keep v k b → (IsTrace eq m (commits_of R) v i B y → EntriesStand eq m (Keep v i b ∷ R) fs) → IsTrace eq m (commits_of R) v k A x → EntriesStand eq m (t ∷ R) fs
+  entries_kept t b is f trace_is = subst (λ (z : Told K V). EntriesStand eq m (z ∷ R) fs) (ap (λ z. Keep v z b) key ∙ sym is) (f (traced_so trace_is))
+
 -- ---- the task of a key, which is out
 
 and_true : (b : Bool) → (b && true) ≡ b
