@@ -101,15 +101,19 @@ module _ {K V : Type 0} (eq : K → K → Bool) (equality : IsEquality eq) (m : 
   -- ---- one version in hand
 
   module _ (c : CoreSeen K V) (st : CoreStands eq m c) (v : ℕ) where
-    -- a version with an open transaction is taken in hand
+    -- a version is taken in hand
+    pub working_in : Working eq m v [] (world_of eq c.tables) (owed c.sessions) (table_at c.tables v) c.desk
+    working_in = record {
+      stand = stand_with eq equality m law (past_of c) v (world_of eq c.tables) (desk_of c.desk) (owed c.sessions) st.rests;
+      outs = subst (λ (x : World K V). AreAll (λ (p : ℕ × K). is_out (x.tasks p.0 p.1)) c.desk.out) (sym (same_world v (world_of eq c.tables))) st.outs;
+      named = st.named v;
+      wanted = λ k l. wanted_here eq equality m law (past_of c) v (world_of eq c.tables) (desk_of c.desk) (owed c.sessions) st.rests k l;
+    }
+
+    -- with an open transaction all is there
     pub in_hand : 0 < open_count (past_of c) v → AtHand eq m v (world_of eq c.tables) (owed c.sessions) (table_at c.tables v) c.desk c.entries c.cells
     in_hand some = record {
-      working = record {
-        stand = stand_with eq equality m law (past_of c) v (world_of eq c.tables) (desk_of c.desk) (owed c.sessions) st.rests;
-        outs = subst (λ (x : World K V). AreAll (λ (p : ℕ × K). is_out (x.tasks p.0 p.1)) c.desk.out) (sym (same_world v (world_of eq c.tables))) st.outs;
-        named = st.named v;
-        wanted = λ k l. wanted_here eq equality m law (past_of c) v (world_of eq c.tables) (desk_of c.desk) (owed c.sessions) st.rests k l;
-      };
+      working = working_in;
       told = st.told;
       tasked = λ k a i. (let t = (st.rests.each v).tasked k a i in held_there (task_at eq (table_at c.tables v) k) t.0 t.1);
       done = (st.rests.each v).wanted;

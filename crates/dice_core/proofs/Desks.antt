@@ -1,12 +1,13 @@
 -- What the calls on a desk do to what contracts see of it.
 use Rattle.std.proofs.Common.{◌≡◌, ℕ, ◌+◌, ◌-◌, ◌<◌, ◌≤◌, List, [], ◌∷◌, ◌++◌, length, map, take, drop, get_or, slice_get, Option, Some, None, Bor, inl, inr, refl, sym, ap, ◌∙◌, subst, arith, length-drop}
-use Rattle.std.specs.Prelude.{IfSome}
-use Rattle.std.specs.Option.{option_copied}
+use Rattle.std.specs.Prelude.{IfSome, IfNone}
+use Rattle.std.specs.Option.{option_copied, option_map}
+use Rattle.std.proofs.lemmas.Option.{slice_get-map}
 use Rattle.std.proofs.lemmas.List.{length-map, length-take-le, take_more, map-append}
 use Rattle.dice_model.specs.Log.{Has, AreDistinct}
 use Rattle.core_laws.specs.Desk.{Loses}
 use Rattle.dice_core.specs.declared.shelf.ReadyTask.{ReadyTask}
-use Rattle.dice_core.specs.Hands.{DeskSeen, Gains, Stays, Takes, Unreadies}
+use Rattle.dice_core.specs.Hands.{DeskSeen, place_at, Gains, Stays, Takes, Unreadies}
 use Rattle.dice_core.specs.Shelves.{place_of, ready_of, out_of, IsLaid}
 use Rattle.dice_core.proofs.Laid.{found_at}
 use Rattle.dice_core.proofs.Lists.{has_either}
@@ -95,3 +96,20 @@ module _ {K V : Type 0} where
         room = ap (λ (z : DeskSeen K V). z.ready_room) v;
         rest = record { events = ap (λ (z : DeskSeen K V). z.events) v; live = ap (λ (z : DeskSeen K V). z.live) v; ended = ap (λ (z : DeskSeen K V). z.ended) v; spare = ap (λ (z : DeskSeen K V). z.spare) v; live_room = ap (λ (z : DeskSeen K V). z.live_room) v };
       }
+
+module _ {K V : Type 0} where
+  -- the tasks by their numbers
+  pub places_are : (n : ℕ) (ks : List (ReadyTask K)) (w d : DeskSeen K V) → w ≡ d → w.ready ≡ ready_of n ks → w.out ≡ out_of n ks → d.ready ++ d.out ≡ map place_of ks
+  places_are n ks w d v wr wo = ap (λ (z : DeskSeen K V). z.ready ++ z.out) (sym v) ∙ (ap (λ z. z ++ w.out) wr ∙ (ap (λ z. ready_of n ks ++ z) wo ∙ parts place_of n ks))
+
+  pub place_is : (n : ℕ) (ks : List (ReadyTask K)) (w d : DeskSeen K V) → w ≡ d → w.ready ≡ ready_of n ks → w.out ≡ out_of n ks → (i : ℕ) → place_at d i ≡ option_map place_of (slice_get ks i)
+  place_is n ks w d v wr wo i = ap (λ z. slice_get z i) (places_are n ks w d v wr wo) ∙ slice_get-map place_of ks i
+
+  -- the number that was found
+  pub index_is : (n : ℕ) (ks : List (ReadyTask K)) (w d : DeskSeen K V) → w ≡ d → w.ready ≡ ready_of n ks → w.out ≡ out_of n ks → (p : ℕ × K) (o : Option ℕ) → IfSome o (λ i. (x : ReadyTask K) × (slice_get ks i ≡ Some x) × (place_of x ≡ p)) → IfSome o (λ i. place_at d i ≡ Some p)
+  index_is n ks w d v wr wo p None h = tt
+  index_is n ks w d v wr wo p (Some i) h = place_is n ks w d v wr wo i ∙ (ap (option_map place_of) h.1 ∙ ap Some h.2)
+
+  pub index_is_none : (n : ℕ) (ks : List (ReadyTask K)) (w d : DeskSeen K V) → w ≡ d → w.ready ≡ ready_of n ks → w.out ≡ out_of n ks → (p : ℕ × K) (o : Option ℕ) → IfNone o (Has (map place_of ks) p → ⊥) → IfNone o (Has (d.ready ++ d.out) p → ⊥)
+  index_is_none n ks w d v wr wo p None h = λ q. h (subst (λ z. Has z p) (places_are n ks w d v wr wo) q)
+  index_is_none n ks w d v wr wo p (Some i) h = tt

@@ -108,7 +108,7 @@ module _ {K V : Type 0} (eq : K → K → Bool) (equality : IsEquality eq) (m : 
 
   -- how the journal decided it
   decides : 0 < open_count (past_of c) v → decided eq (past_of c) v k ≡ decision_of (held_to (held_in eq c v k))
-  decides open = by_held (held_in eq c v k) refl
+  decides some = by_held (held_in eq c v k) refl
     where
       by_standing : (s : Standing K V) → IsStanding eq m (past_of c) v k s → decided eq (past_of c) v k ≡ decision_of (comes_to s)
       by_standing (Works w p A) t = t.undecided
@@ -117,7 +117,7 @@ module _ {K V : Type 0} (eq : K → K → Bool) (equality : IsEquality eq) (m : 
       by_standing (Ended WithNothing) t = t.1
 
       by_held : (o : Option (Held K V)) → held_in eq c v k ≡ o → decided eq (past_of c) v k ≡ decision_of (held_to o)
-      by_held None e = (st.rests.each v).stands.fresh k (ap (option_map task_of) e) open
+      by_held None e = (st.rests.each v).stands.fresh k (ap (option_map task_of) e) some
       by_held (Some h) e = by_standing h.standing (stood h e).standing
 
   -- where nothing is ready and nothing out, no task is at work
@@ -172,7 +172,7 @@ module _ {K V : Type 0} (eq : K → K → Bool) (equality : IsEquality eq) (m : 
   poll_lost = by_kind {P = TellsLost} (m.kind k) (open_count_of c.sessions.epochs v) (cell_at eq m c.cells v k) (held_to (held_in eq c v k)) (λ i e. (let y : ToValue (cell_at eq m c.cells v k) ≡ ToNothing = e in cc)) tells_lost
 
   pub poll_decided : 0 < open_count (past_of c) v → m.kind k ≢ Injected → decided eq (past_of c) v k ≡ decision_of (poll_of eq m c v k)
-  poll_decided open computed = decides open ∙ ap decision_of (sym (by_task (m.kind k) (open_count_of c.sessions.epochs v) (cell_at eq m c.cells v k) (held_to (held_in eq c v k)) computed))
+  poll_decided some computed = decides some ∙ ap decision_of (sym (by_task (m.kind k) (open_count_of c.sessions.epochs v) (cell_at eq m c.cells v k) (held_to (held_in eq c v k)) computed))
 
   pub poll_quiet : c.desk.ready ≡ [] → c.desk.out ≡ [] → poll_of eq m c v k ≢ Pending
   poll_quiet ready out = by_kind {P = λ o. o ≢ Pending} (m.kind k) (open_count_of c.sessions.epochs v) (cell_at eq m c.cells v k) (held_to (held_in eq c v k)) (λ i e. (let y : ToValue (cell_at eq m c.cells v k) ≡ Pending = e in cc)) (settles ready out)

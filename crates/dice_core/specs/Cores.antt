@@ -1,5 +1,5 @@
 -- The core as contracts see it, and what holds of it between calls.
-use Rattle.std.specs.Prelude.{◌≡◌, ◌<◌, ◌≤◌, ℕ, Bool, true, false, cond, ◌&&◌, ◌++◌, nat_eq, List, [], reverse, length, Option, Some, None, unwrap_or, is_some}
+use Rattle.std.specs.Prelude.{◌≡◌, ◌<◌, ◌≤◌, ℕ, Bool, true, false, cond, ◌&&◌, ◌++◌, ◌+◌, ◌⊎◌, nat_eq, List, [], reverse, length, Option, Some, None, unwrap_or, is_some}
 use Rattle.std.specs.Map.{lookup}
 use Rattle.std.specs.Arc.{arc_value}
 use Rattle.dice_key.specs.Meaning.{Meaning}
@@ -15,12 +15,12 @@ use Rattle.journal.specs.Events.{Decision, ByValue, ByCycle, commits_of, open_co
 use Rattle.version_epoch.specs.Standings.{open_count_of}
 use Rattle.versioned_graph.specs.Entries.{Stored, entry_at}
 use Rattle.dice_jobs.specs.Jobs.{Name, Assigned}
-use Rattle.core_laws.specs.Tasks.{IsOut, Outcome, WithValue, WithCycle, WithNothing, Standing, Works, Ended, Task}
+use Rattle.core_laws.specs.Tasks.{IsReady, IsOut, Outcome, WithValue, WithCycle, WithNothing, Standing, Works, Ended, Task}
 use Rattle.core_laws.specs.Desk.{World, Rests, AreAll, is_out}
 use Rattle.dice_core.specs.Commits.{SameSets, CellsStand}
 use Rattle.dice_core.specs.Entries.{EntriesStand}
 use Rattle.dice_core.specs.Hands.{DeskSeen, desk_of, KeepsHands, KeepsDeskRoom, AreNamed, tasks_of}
-use Rattle.dice_core.specs.Helds.{Held, held_of}
+use Rattle.dice_core.specs.Helds.{Held, held_of, held_ended}
 use Rattle.dice_core.specs.Sessions.{SessionsSeen, owed, IsSame, SessionsStand}
 use Rattle.dice_core.specs.declared.polled.Polled.{Polled}
 use Rattle.dice_core.specs.declared.polled.Polled.TheVariants as polled
@@ -172,3 +172,31 @@ module _ {K V : Type 0} where
   -- all events that were added are of tasks at v
   abbrev pub WorksOn : ℕ → List (Told K V) → List (Told K V) → Type 0
   WorksOn v J I = (es : List (Told K V)) × (I ≡ J ++ es) × AllByRecursion (IsWorkAt v) es
+
+module _ {K V : Type 0} (eq : K → K → Bool) where
+  -- the tasks of all versions, and who asks for them, are as before
+  pub record KeepsTasksOf (c d : CoreSeen K V) : Type 0 where
+    pub tasks : (v : ℕ) (q : K) → held_in eq d v q ≡ held_in eq c v q
+    pub asks : (v : ℕ) (q : K) (a : By K) → asks eq (table_at d.tables v) q a ≡ asks eq (table_at c.tables v) q a
+    pub ready : d.desk.ready ≡ c.desk.ready
+    pub out : d.desk.out ≡ c.desk.out
+
+  -- tasks may have gone; all others are as before
+  abbrev pub DropsOnly : CoreSeen K V → CoreSeen K V → Type 0
+  DropsOnly c d = (v : ℕ) (q : K) → (held_in eq d v q ≡ None) ⊎ (held_in eq d v q ≡ held_in eq c v q)
+
+  -- this job is that of a task that is out
+  abbrev pub IsJobOut : CoreSeen K V → Assigned K V → Type 0
+  IsJobOut c j = held_in eq c j.name.version j.name.key ≡ Some (held_of j IsOut)
+
+  -- this job, which was ready in c, is out in d; nothing else is another
+  pub record TakesOut (j : Assigned K V) (c d : CoreSeen K V) : Type 0 where
+    pub was : held_in eq c j.name.version j.name.key ≡ Some (held_of j IsReady)
+    pub tasks : (v : ℕ) (q : K) → held_in eq d v q ≡ cond (nat_eq j.name.version v && eq j.name.key q) (Some (held_of j IsOut)) (held_in eq c v q)
+    pub ready : length c.desk.ready ≡ length d.desk.ready + 1
+    pub out : length d.desk.out ≡ length c.desk.out + 1
+
+module _ {K V : Type 0} (eq : K → K → Bool) where
+  -- tasks may have gone, or ended for want of memory; all others are as before
+  abbrev pub GivesUpOnly : CoreSeen K V → CoreSeen K V → Type 0
+  GivesUpOnly c d = (v : ℕ) (q : K) → (held_in eq d v q ≡ None) ⊎ (held_in eq d v q ≡ held_in eq c v q) ⊎ ((h : Held K V) × (held_in eq c v q ≡ Some h) × (held_in eq d v q ≡ Some (held_ended h.name WithNothing)))

@@ -15,7 +15,8 @@ use Rattle.core_laws.specs.Stands.{CycleStands}
 use Rattle.core_laws.specs.Desk.{World, is_ready, is_out}
 use Rattle.dice_core.specs.declared.end.How.{How}
 use Rattle.dice_core.specs.declared.end.How.TheVariants.{Lost, Cycle}
-use Rattle.dice_core.specs.Helds.{Held, held_ended}
+use Rattle.dice_jobs.specs.Jobs.{Name, Assigned}
+use Rattle.dice_core.specs.Helds.{Held, held_of, held_ended}
 use Rattle.dice_core.specs.Hands.{DeskSeen, tasks_of, AreNamed, with_event, with_ended, with_told_next, Unreadies, Leaves, Returns, Working}
 
 -- a task that stood so, of this version and key, is no more among those that are ready or out
@@ -156,3 +157,17 @@ module _ {K V : Type 0} (eq : K → K → Bool) where
   -- whoever is asked for has a task
   abbrev pub AreTasked : List (K × Share K (Held K V)) → Type 0
   AreTasked ps = (k : K) (a : By K) → asks eq ps k a ≡ true → (h : Held K V) × (task_at eq ps k ≡ Some h)
+
+module _ {K V : Type 0} (eq : K → K → Bool) where
+  -- these tasks end, and then those are dropped
+  pub record GivesUpAll (v : ℕ) (path : Option (List K)) (k : K) (ps qs : List (K × Share K (Held K V))) (d e : DeskSeen K V) : Type 0 where
+    pub ends : List (K × Outcome K V)
+    pub drops : List K
+    pub tasks : List (K × Share K (Held K V))
+    pub desk : DeskSeen K V
+    pub ended : EndsTasks eq v path k ends ps tasks d desk
+    pub dropped : DropsTasks eq v drops tasks qs desk e
+
+  -- the job of this name is out
+  abbrev pub IsJobNamed : Name K → List (K × Share K (Held K V)) → Type 0
+  IsJobNamed n ps = (a : Assigned K V) × (task_at eq ps n.key ≡ Some (held_of a IsOut)) × (a.name ≡ n)

@@ -1,5 +1,5 @@
 -- The tasks of the version that a call works on, and the desk: the journal, and which tasks are ready, which are out, and how many are at work.
-use Rattle.std.specs.Prelude.{◌≡◌, ◌⊎◌, ◌+◌, ◌-◌, ◌*◌, ◌≤◌, ℕ, Bool, true, List, [], ◌∷◌, ◌++◌, length, reverse, Option, Some, None}
+use Rattle.std.specs.Prelude.{◌≡◌, ◌⊎◌, ◌+◌, ◌-◌, ◌*◌, ◌≤◌, ℕ, Bool, true, List, [], ◌∷◌, ◌++◌, length, reverse, slice_get, Option, Some, None}
 use Rattle.std.specs.Option.{option_map}
 use Rattle.std.specs.Arc.{arc_value}
 use Rattle.dice_key.specs.Meaning.{Meaning}
@@ -26,6 +26,10 @@ pub record DeskSeen (K V : Type 0) : Type 0 where
 
 abbrev pub desk_of : {K V : Type 0} → DeskSeen K V → Desk K
 desk_of d = record { ready = d.ready; out = length d.out; live = d.live; spare = d.spare }
+
+-- the tasks that are ready, and then those that are out, by their number
+abbrev pub place_at : {K V : Type 0} → DeskSeen K V → ℕ → Option (ℕ × K)
+place_at d i = slice_get (d.ready ++ d.out) i
 
 -- ys are the xs and y, each once, in some order
 pub record Gains {X : Type 0} (y : X) (xs ys : List X) : Type 0 where

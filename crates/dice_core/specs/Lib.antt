@@ -1,13 +1,17 @@
 pub mod Askings
 pub mod AtHand
+pub mod Closings
 pub mod Commits
 pub mod Cores
 pub mod Endings
 pub mod Entries
+pub mod Finishings
 pub mod Hands
 pub mod Helds
+pub mod Joinings
 pub mod Loads
 pub mod Makings
 pub mod Sessions
 pub mod Shelves
 pub mod Waitings
+pub mod Wokens

@@ -1,13 +1,13 @@
 //! The desk: the journal, and which tasks are ready, which are out, and how many are at work.
-ghost use Rattle.std.specs.Prelude.{◌≡◌, ◌<◌, ◌≤◌, ◌+◌, ◌*◌, ◌++◌, [], ◌∷◌, ℕ, List, length, IfOk, IfSome, IfNone, OnOk, OnErr};
+ghost use Rattle.std.specs.Prelude.{◌≡◌, ◌<◌, ◌≤◌, ◌+◌, ◌*◌, ◌++◌, [], ◌∷◌, ℕ, List, length, Some, None, IfOk, IfSome, IfNone, OnOk, OnErr};
 ghost use Rattle.std.specs.Arc.{arc_value};
 ghost use Rattle.dice_model.specs.Log.{Has};
 ghost use Rattle.journal.specs.Tell.{told};
-ghost use Rattle.dice_core.specs.Hands.{with_event, with_made, with_ended, with_told_next, KeepsHands, KeepsDeskRoom, HasDeskRoom, Takes, Returns, Leaves, Readies, Unreadies};
+ghost use Rattle.dice_core.specs.Hands.{place_at, with_event, with_made, with_ended, with_told_next, KeepsHands, KeepsDeskRoom, HasDeskRoom, Takes, Returns, Leaves, Readies, Unreadies};
 ghost use Rattle.dice_core.specs.Shelves.{place_of};
 
 use dice_key::{KeyRef, NoMemory, Universe};
-use crate::shelf::{ReadyTask, Shelf, put_back, put_in, take_away, take_out};
+use crate::shelf::{ReadyTask, Shelf, index_of, put_back, put_in, take_away, take_out};
 use indexmap::IndexSet;
 use journal::{Event, Journal};
 use std::alloc::Global;
@@ -119,6 +119,25 @@ impl<U: Universe> Desk<U> {
             return None;
         }
         self.at_hand.get_index(self.ready - 1)
+    }
+
+    /// The number of a task among those that are ready or out.
+    pub(crate) fn index_of(&self, version: u64, key: &KeyRef<U>) -> Option<usize>
+        ensures some { IfSome result (λ i. place_at self.now i ≡ Some (version, arc_value key.now)) }
+        ensures none { IfNone result (Has (self.now.ready ++ self.now.out) (version, arc_value key.now) → ⊥) }
+    {
+        index_of::<U>(&self.at_hand, version, key)
+    }
+
+    /// The key of the task of this number.
+    pub(crate) fn key_at(&self, index: usize) -> Option<&KeyRef<U>>
+        ensures some { IfSome result (λ k. (v : ℕ) × (place_at self.now index ≡ Some (v, arc_value k.now))) }
+        ensures none { IfNone result (place_at self.now index ≡ None) }
+    {
+        match self.at_hand.get_index(index) {
+            Some(task) => Some(&task.key),
+            None => None,
+        }
     }
 
     /// The task that is to be taken next is taken: it goes out.

@@ -1,18 +1,22 @@
 //! Jobs that are taken, brought back and given up, over the tasks of all versions.
-ghost use Rattle.std.specs.Prelude.{◌≡◌, ◌↔◌, ◌++◌, [], ◌∷◌, IfSome, IfNone, IsTrue, List, map, true, false, Some};
+ghost use Rattle.std.specs.Prelude.{◌≡◌, ◌↔◌, ◌++◌, [], ◌∷◌, ℕ, IfSome, IfNone, IsTrue, List, map, reverse, true, false, Some, None};
 ghost use Rattle.std.specs.Arc.{arc_value};
-ghost use Rattle.task_share.specs.Seen.{task_at};
+ghost use Rattle.task_share.specs.Seen.{task_at, is_live};
+ghost use Rattle.journal.specs.Events.{commits_of};
 ghost use Rattle.dice_jobs.specs.Jobs.{Assigned};
 ghost use Rattle.core_laws.specs.Tasks.{IsOut};
 ghost use Rattle.dice_core.specs.Helds.{held_of};
 ghost use Rattle.dice_core.specs.Waitings.{TakesJob, ReturnsJob};
+ghost use Rattle.dice_core.specs.Askings.{MayBeAtHand, StaysAtHand};
+ghost use Rattle.dice_core.specs.Endings.{path_of, ReachesPath, GivesUpAll, IsJobNamed};
 ghost use Rattle.dice_core.specs.Cores.{table_at, PutsTable, Turned, MayStand, StandsOn};
 
 use crate::Tasks;
 use crate::desk::Desk;
+use crate::end::{How, cascade, end_all};
 use crate::wait::{put_back, take};
 use dice_jobs::{Job, JobName};
-use dice_key::{Universe, laws_of};
+use dice_key::{KeyRef, Universe, laws_of};
 use std::collections::HashMap;
 
 /// Takes the job of the ready task that is to be taken next; `None` exactly where no task is ready. It takes no memory.
@@ -52,4 +56,72 @@ pub(crate) fn bring_back<U: Universe>(
         return Some(job);
     };
     put_back::<U>(desk, tasks, job)
+}
+
+/// Gives up the job of this name: its task and all that wait for it end as lost, and then the tasks at work that nobody asks for any
+/// more are dropped; `false` exactly where no job of the name is out. It takes no memory.
+pub(crate) fn fail_named<U: Universe>(
+    desk: &mut Desk<U>,
+    versions: &mut HashMap<u64, Tasks<U>>,
+    name: &JobName<U>,
+) -> bool
+    requires stands { MayStand U.Key.eq U.meaning desk.old versions.old.entries }
+    ensures other { result ≡ false → (IsJobNamed U.Key.eq name.now (table_at versions.old.entries name.now.version) → ⊥) × (desk.new ≡ desk.old) × (versions.new.entries ≡ versions.old.entries) }
+    ensures failed { result ≡ true → IsJobNamed U.Key.eq name.now (table_at versions.old.entries name.now.version) × Turned U.Key.eq U.meaning name.now.version versions.old.entries versions.new.entries (λ ps qs. GivesUpAll U.Key.eq name.now.version None name.now.key ps qs desk.old desk.new) }
+    ensures kept { StandsOn U.Key.eq U.meaning desk.old versions.old.entries desk.new versions.new.entries }
+{
+    laws_of::<U>();
+    let version = name.version();
+    if !is_out_among::<U>(versions, name) {
+        return false;
+    }
+    let Some(tasks) = versions.get_mut(&version) else {
+        return false;
+    };
+    give_up::<U>(desk, tasks, version, name.key(), &How::Lost);
+    true
+}
+
+/// Whether the job of this name is out, among the tasks of all versions.
+fn is_out_among<U: Universe>(versions: &HashMap<u64, Tasks<U>>, name: &JobName<U>) -> bool
+    ensures { IsTrue result ↔ IsJobNamed U.Key.eq name.now (table_at versions.now.entries name.now.version) }
+{
+    match versions.get(&name.version()) {
+        Some(tasks) => is_name_out::<U>(tasks, name),
+        None => false,
+    }
+}
+
+/// Whether the job of this name is out, among the tasks of its version.
+fn is_name_out<U: Universe>(tasks: &Tasks<U>, name: &JobName<U>) -> bool
+    ensures { IsTrue result ↔ IsJobNamed U.Key.eq name.now tasks.now }
+{
+    laws_of::<U>();
+    let Some(task) = tasks.task(name.key()) else {
+        return false;
+    };
+    match task.assignment() {
+        Some(own) => task.is_out() && own.name().is_same(name),
+        None => false,
+    }
+}
+
+/// Ends the task at work of a key and all that wait for it, as lost or with a circle that the key reaches; then the tasks at work that
+/// nobody asks for any more are dropped. It takes no memory.
+pub(crate) fn give_up<U: Universe>(
+    desk: &mut Desk<U>,
+    tasks: &mut Tasks<U>,
+    version: u64,
+    key: &KeyRef<U>,
+    how: &How<'_, U::Key>,
+)
+    requires hand { (owed : ℕ) × MayBeAtHand U.Key.eq U.meaning version owed tasks.old desk.old }
+    requires live { is_live U.Key.eq tasks.old (arc_value key.now) ≡ true }
+    requires reached { ReachesPath U.Key.eq U.meaning (path_of how.now) (commits_of (reverse desk.old.events)) version (arc_value key.now) }
+    ensures ends { GivesUpAll U.Key.eq version (path_of how.now) (arc_value key.now) tasks.old tasks.new desk.old desk.new }
+    ensures kept { StaysAtHand U.Key.eq U.meaning version 0 tasks.old desk.old tasks.new desk.new }
+{
+    laws_of::<U>();
+    end_all::<U>(desk, tasks, version, key, how);
+    cascade::<U>(desk, tasks, version);
 }

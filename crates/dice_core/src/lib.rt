@@ -2,13 +2,17 @@
 #![tactic(auto)]
 
 mod anew;
+mod ask;
 mod asking;
+mod close;
 mod commit;
 mod desk;
 mod end;
 mod jobs_out;
 mod machine;
+mod finish;
 mod make;
+mod opening;
 mod polled;
 mod sessions;
 mod shelf;
@@ -16,6 +20,7 @@ mod task;
 mod value;
 mod wait;
 mod wake;
+mod woken;
 
 pub use commit::CommitRefusal;
 pub use machine::Core;

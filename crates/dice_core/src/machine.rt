@@ -1,24 +1,33 @@
 //! The core.
-ghost use Rattle.std.specs.Prelude.{◌≡◌, ◌≢◌, ◌<◌, ◌+◌, ◌↔◌, ℕ, List, [], true, false, length, reverse, Some, None, is_some, IfOk};
+ghost use Rattle.std.specs.Prelude.{◌≡◌, ◌≢◌, ◌<◌, ◌+◌, ◌++◌, ◌∷◌, ◌↔◌, IsTrue, ℕ, List, [], true, false, length, map, reverse, Some, None, is_some, IfOk, IfErr, IfSome, IfNone, OnOk, OnErr, MatchResult};
+ghost use Rattle.std.specs.Map.{keys_of};
+ghost use Rattle.dice_model.specs.Log.{Has, pairs_of};
+ghost use Rattle.journal.specs.declared.event.Told.TheVariants.{Open, Leave, Drop, Lost};
 ghost use Rattle.std.specs.Arc.{arc_value};
 ghost use Rattle.dice_key.specs.declared.universe.Kind.TheVariants.{Injected};
 ghost use Rattle.dice_model.specs.Eval.{HasValue};
 ghost use Rattle.dice_model.specs.Asks.{AsksFor};
 ghost use Rattle.task_share.specs.Asked.{Tasked};
 ghost use Rattle.task_share.specs.Seen.{task_at, asks};
-ghost use Rattle.journal.specs.Events.{Asking, commits_of, decided, open_at, open_count, opened_at, live_at};
+ghost use Rattle.journal.specs.Events.{Opened, Asking, commits_of, decided, open_at, open_count, opened_at, live_at};
+ghost use Rattle.injected.specs.Seen.{cell_at};
 ghost use Rattle.journal.specs.Law.{IsLawfulJournal};
 ghost use Rattle.versioned_graph.specs.Sound.{AreTrue};
 ghost use Rattle.core_laws.specs.Stands.{CycleStands, lost_in_epoch};
-ghost use Rattle.dice_core.specs.Commits.{CellsStand};
+ghost use Rattle.dice_core.specs.Commits.{CellsStand, Fault, fault_of, AreSettable, IsFirstFault, differing_of, event_of};
+ghost use Rattle.dice_core.specs.Hands.{KeepsWork};
 ghost use Rattle.dice_core.specs.Sessions.{transaction_at, ask_at};
-ghost use Rattle.dice_core.specs.Cores.{CoreSeen, Came, ToValue, ToCycle, ToNothing, Pending, Absent, came_of, decision_of, events_of, past_of, table_at, held_to, held_in, poll_of};
+ghost use Rattle.dice_core.specs.Cores.{CoreSeen, Came, ToValue, ToCycle, ToNothing, Pending, Absent, came_of, decision_of, events_of, past_of, table_at, held_to, injected_to, held_in, poll_of, IsAsBefore, KeepsTasksOf, DropsOnly, IsJobOut, IsNameOut, TakesOut, GivesUpOnly};
 
 use crate::Tasks;
+use crate::commit::{CommitRefusal, commit};
 use crate::desk::Desk;
+use crate::jobs_out::{bring_back, fail_named, take_next};
+use crate::opening::{leave_ask, open_at_newest};
 use crate::polled::Polled;
 use crate::sessions::Sessions;
-use dice_key::{KeyRef, Kind, NoMemory, Universe, Version, laws_of};
+use dice_jobs::{Job, JobName};
+use dice_key::{KeyRef, Kind, NoMemory, Universe, ValueRef, Version, laws_of};
 use injected::{Cells, cells_are_the_inputs};
 use journal::Journal;
 use std::alloc::Global;
@@ -113,12 +122,114 @@ impl<U: Universe> Core<U> {
     {
         laws_of::<U>();
         cells_are_the_inputs::<U>();
-        match self.universe.kind(key) {
-            Kind::Injected if self.sessions.open_count(version) != 0 => {
-                Polled::Value(self.cells.at(version, key))
-            }
-            _ => polled(&self.versions, version, key),
-        }
+        polled_at(
+            &*self.universe,
+            &self.cells,
+            self.sessions.open_count(version),
+            &self.versions,
+            version,
+            key,
+        )
+    }
+
+    /// Applies changes together: those whose value is not the key's newest one are a commit, one event and one version more; with
+    /// none of these nothing changes. The version is the newest one after it.
+    ///
+    /// The changes are tested first, in order: the first pair whose key is not injected, or stands in an earlier pair, is named. At a
+    /// refusal all is as before. It costs a look-up for each change.
+    pub fn commit<'a>(
+        &mut self,
+        by: u64,
+        changes: &'a [(KeyRef<U>, ValueRef<U>)],
+    ) -> Result<Version, CommitRefusal<'a, U>>
+        ensures settable { OnOk result (AreSettable U.meaning (keys_of (pairs_of changes.now))) }
+        ensures fault { IfErr result (λ e. IfSome (fault_of e) (IsFirstFault U.meaning (keys_of (pairs_of changes.now)))) }
+        ensures first { (f : Fault U.Key) → IsFirstFault U.meaning (keys_of (pairs_of changes.now)) f → MatchResult result (λ _. ⊥) (λ e. IfSome (fault_of e) (λ g. g ≡ f)) }
+        ensures version { IfOk result (λ v. v ≡ length (commits_of (past_of self.new))) }
+        ensures events { OnOk result (events_of self.new ≡ events_of self.old ++ event_of by (differing_of U.Key.eq U.Value.eq U.meaning self.old.cells (pairs_of changes.now))) }
+        ensures tasks { (self.new.tables ≡ self.old.tables) × (self.new.sessions ≡ self.old.sessions) × KeepsWork self.old.desk self.new.desk }
+        ensures err { OnErr result (IsAsBefore U.Key.eq self.old self.new) }
+    {
+        laws_of::<U>();
+        let Ok(_) = self.desk.next_index() else {
+            return Err(CommitRefusal::NoMemory);
+        };
+        commit(
+            self.alloc,
+            &*self.universe,
+            &mut self.cells,
+            &mut self.graph,
+            &mut self.desk,
+            by,
+            changes,
+        )
+    }
+
+    /// Opens a transaction at the newest version, and keeps room for its close; the index of its event is its name. Where memory is
+    /// refused all is as before.
+    pub fn open(&mut self, by: u64) -> Result<u64, NoMemory>
+        ensures index { IfOk result (λ t. t ≡ length (events_of self.old)) }
+        ensures events { OnOk result (events_of self.new ≡ events_of self.old ++ Open by (length (commits_of (past_of self.old))) ∷ []) }
+        ensures tasks { OnOk result (KeepsTasksOf U.Key.eq self.old self.new) }
+        ensures err { OnErr result (IsAsBefore U.Key.eq self.old self.new) }
+    {
+        laws_of::<U>();
+        open_at_newest(
+            self.alloc,
+            &mut self.desk,
+            &mut self.versions,
+            &mut self.sessions,
+            self.cells.last(),
+            by,
+        )
+    }
+
+    /// Leaves an ask, and drops the tasks that nobody asks for any more. It takes no memory.
+    pub fn leave(&mut self, ask: u64)
+        requires { is_some (live_at (past_of self.old) ask) ≡ true }
+        ensures log { (a : Asking U.Key) × (o : Opened) × (ks : List U.Key) × (live_at (past_of self.old) ask ≡ Some a) × (open_at (past_of self.old) a.opened ≡ Some o) × (events_of self.new ≡ events_of self.old ++ (Leave a.by ask ∷ map (Drop o.version) ks)) }
+        ensures tasks { DropsOnly U.Key.eq self.old self.new }
+    {
+        laws_of::<U>();
+        leave_ask(
+            &mut self.desk,
+            &mut self.versions,
+            &mut self.sessions,
+            ask,
+        );
+    }
+
+    /// Takes the job of a ready task, the one that became ready last; `None` exactly where no task is ready. It takes no memory.
+    pub fn take_job(&mut self) -> Option<Job<U>>
+        ensures none { IfNone result ((self.old.desk.ready ≡ []) × (self.new ≡ self.old)) }
+        ensures some { IfSome result (λ j. TakesOut U.Key.eq j self.old self.new) }
+        ensures events { events_of self.new ≡ events_of self.old }
+    {
+        laws_of::<U>();
+        take_next(&mut self.desk, &mut self.versions)
+    }
+
+    /// Brings a job back, undone: its task is ready again. It is handed back exactly where it is not the job of a task that is out.
+    /// It takes no memory.
+    pub fn back(&mut self, job: Job<U>) -> Option<Job<U>>
+        ensures other { IfSome result (λ j. (j ≡ job) × IsAsBefore U.Key.eq self.old self.new × (IsJobOut U.Key.eq self.old job → ⊥)) }
+        ensures back { IfNone result (IsJobOut U.Key.eq self.old job × TakesOut U.Key.eq job self.new self.old) }
+        ensures events { events_of self.new ≡ events_of self.old }
+    {
+        laws_of::<U>();
+        bring_back(&mut self.desk, &mut self.versions, job)
+    }
+
+    /// Gives up the job of this name for want of memory: its task and all that wait for it end as lost, one event each, and the tasks that
+    /// nobody asks for any more are dropped; `false` exactly where no job of the name is out. It takes no memory.
+    pub fn fail(&mut self, name: &JobName<U>) -> bool
+        ensures out { IsTrue result ↔ IsNameOut U.Key.eq self.old name.now }
+        ensures log { result ≡ true → (ls ks : List U.Key) × Has ls name.now.key × (events_of self.new ≡ events_of self.old ++ (map (Lost name.now.version) ls ++ map (Drop name.now.version) ks)) }
+        ensures tasks { result ≡ true → GivesUpOnly U.Key.eq self.old self.new }
+        ensures other { result ≡ false → self.new ≡ self.old }
+    {
+        laws_of::<U>();
+        fail_named(&mut self.desk, &mut self.versions, name)
     }
 
     /// How many tasks are ready.
@@ -161,6 +272,23 @@ impl<U: Universe> Core<U> {
         ensures { result ≡ is_some (live_at (past_of self.now) ask) }
     {
         self.sessions.stands(ask)
+    }
+}
+
+/// What a key has come to at a version at which so many transactions are open.
+fn polled_at<'a, U: Universe>(
+    universe: &U,
+    cells: &'a Cells<U>,
+    count: u64,
+    versions: &'a HashMap<u64, Tasks<U>>,
+    version: u64,
+    key: &KeyRef<U>,
+) -> Polled<'a, U>
+    ensures { came_of result ≡ injected_to (U.meaning.kind (arc_value key.now)) count (cell_at U.Key.eq U.meaning cells.now version (arc_value key.now)) (held_to (task_at U.Key.eq (table_at versions.now.entries version) (arc_value key.now))) }
+{
+    match universe.kind(key) {
+        Kind::Injected if count != 0 => Polled::Value(cells.at(version, key)),
+        _ => polled(versions, version, key),
     }
 }
 

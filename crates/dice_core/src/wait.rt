@@ -11,13 +11,14 @@ ghost use Rattle.core_laws.specs.Tasks.{IsReady, IsOut, IsWaiting};
 ghost use Rattle.core_laws.specs.Stands.{AsksNext};
 ghost use Rattle.core_laws.specs.Desk.{World, is_ready};
 ghost use Rattle.dice_core.specs.Helds.{held_of, doing};
-ghost use Rattle.dice_core.specs.Hands.{Working, tasks_of};
+ghost use Rattle.dice_model.specs.Log.{Has};
+ghost use Rattle.dice_core.specs.Hands.{Returns, Working, tasks_of};
 ghost use Rattle.dice_core.specs.Endings.{Knows};
 ghost use Rattle.dice_core.specs.Waitings.{IsTurned, KeepsTable, TakesJob, ReturnsJob, HasRoomFor, waits_so, ParksJob, MayPark};
 
 use crate::Tasks;
 use crate::desk::Desk;
-use crate::task::Next;
+use crate::task::{Next, Task};
 use dice_jobs::{Job, Parked};
 use dice_key::{KeyRef, Universe, laws_of};
 use task_share::Wait;
@@ -64,14 +65,32 @@ pub(crate) fn put_back<U: Universe>(
     ensures kept { IfNone result ((w : World U.Key U.Value) (W : List U.Key) (owed : ℕ) → Working U.Key.eq U.meaning job.name.version W w owed tasks.old desk.old → Working U.Key.eq U.meaning job.name.version W w owed tasks.new desk.new) }
 {
     laws_of::<U>();
-    let Some(task) = tasks.task_mut(job.name().key()) else {
+    let Some(index) = desk.index_of(job.name().version(), job.name().key()) else {
         return Some(job);
     };
-    if let Some(job) = task.back(job) {
+    let Some(key) = desk.key_at(index) else {
         return Some(job);
+    };
+    let Some(task) = tasks.task_mut(key) else {
+        return Some(job);
+    };
+    return_to::<U>(desk, task, job)
+}
+
+/// Takes back a job, undone, where this task's is out. It takes no memory.
+fn return_to<U: Universe>(desk: &mut Desk<U>, task: &mut Task<U>, job: Job<U>) -> Option<Job<U>>
+    requires known { task.old ≡ held_of job IsOut → Has desk.old.out (job.name.version, job.name.key) }
+    ensures some { IfSome result (λ j. (j ≡ job) × (task.new ≡ task.old) × (desk.new ≡ desk.old) × (task.old ≡ held_of job IsOut → ⊥)) }
+    ensures none { IfNone result ((task.old ≡ held_of job IsOut) × (task.new ≡ held_of job IsReady) × Returns (job.name.version, job.name.key) desk.old desk.new) }
+{
+    match task.back(job) {
+        Some(job) => Some(job),
+        None => {
+            let name = task.name();
+            desk.returned(name.version(), name.key());
+            None
+        }
     }
-    desk.returned(task.name().version(), task.name().key());
-    None
 }
 
 /// The job of a key, which was out, has asked a batch that is answered already: its task is ready again, with this to go on. It

@@ -1,13 +1,16 @@
 //! Tasks that go on, since the last key that they waited for has a value.
-ghost use Rattle.std.specs.Prelude.{◌≡◌, ◌<◌, ◌≤◌, ◌∷◌, ℕ, List, length, reverse, Some, IfOk};
+ghost use Rattle.std.specs.Prelude.{◌≡◌, ◌<◌, ◌≤◌, ◌∷◌, ℕ, List, length, reverse, false, Some, IfOk};
 ghost use Rattle.std.specs.Arc.{arc_value};
 ghost use Rattle.dice_model.specs.Log.{Has};
-ghost use Rattle.task_share.specs.Seen.{task_at};
+ghost use Rattle.task_share.specs.Asked.{Tasked};
+ghost use Rattle.task_share.specs.Seen.{task_at, asks};
 ghost use Rattle.core_laws.specs.Tasks.{IsReady};
 ghost use Rattle.core_laws.specs.Desk.{World};
 ghost use Rattle.dice_core.specs.Helds.{Held, FollowsOn, held_of};
+ghost use Rattle.dice_core.specs.Endings.{AreTasked};
 ghost use Rattle.dice_core.specs.Hands.{Working};
 ghost use Rattle.dice_core.specs.Waitings.{IsTurned, WakesOne, MayWake};
+ghost use Rattle.dice_core.specs.Wokens.{WakesSo};
 
 use crate::Tasks;
 use crate::desk::Desk;
@@ -67,6 +70,9 @@ pub(crate) fn wake<U: Universe>(
     requires may { (v : ℕ) × (W : List U.Key) × (w : World U.Key U.Value) × (owed : ℕ) × Working U.Key.eq U.meaning v (arc_value key.now ∷ W) w owed tasks.old desk.old × MayWake U.Key.eq U.meaning (reverse desk.old.events) v (arc_value key.now) woken.items tasks.old }
     requires room { length woken.items ≤ desk.old.ready_room }
     ensures events { desk.new.events ≡ desk.old.events }
+    ensures woken { WakesSo U.Key.eq (arc_value key.now) woken.items tasks.old tasks.new desk.old desk.new }
+    ensures told { (j : U.Key) → asks U.Key.eq tasks.new (arc_value key.now) (Tasked j) ≡ false }
+    ensures tasked { AreTasked U.Key.eq tasks.old → AreTasked U.Key.eq tasks.new }
     ensures kept { (v : ℕ) (W : List U.Key) (w : World U.Key U.Value) (owed : ℕ) → Working U.Key.eq U.meaning v (arc_value key.now ∷ W) w owed tasks.old desk.old → MayWake U.Key.eq U.meaning (reverse desk.old.events) v (arc_value key.now) woken.items tasks.old → Working U.Key.eq U.meaning v W w owed tasks.new desk.new }
 {
     laws_of::<U>();

@@ -1,0 +1,116 @@
+-- A job that is taken or comes back, over all versions.
+use Rattle.std.proofs.Common.{◌≡◌, ◌<◌, ◌+◌, ℕ, Bool, true, false, cond, nat_eq, eqb, List, [], ◌∷◌, ◌++◌, reverse, Option, Some, None, is_some, unwrap_or, refl, sym, ap, ◌∙◌, subst, arith, ◌≤◌}
+use Rattle.std.proofs.lemmas.Bool.{eqb-true}
+use Rattle.std.specs.Map.{lookup}
+use Rattle.std.specs.Option.{option_map}
+use Rattle.dice_key.specs.Meaning.{Meaning}
+use Rattle.dice_key.specs.Lawful.{IsEquality, IsLawful}
+use Rattle.dice_model.specs.Log.{Has}
+use Rattle.task_share.specs.Asked.{By}
+use Rattle.task_share.specs.Seen.{Share, task_at, is_live, asks}
+use Rattle.injected.specs.Seen.{Seen}
+use Rattle.journal.specs.declared.event.Told.{Told}
+use Rattle.journal.specs.Events.{open_count}
+use Rattle.versioned_graph.specs.Entries.{Stored}
+use Rattle.core_laws.specs.Tasks.{IsOut, IsReady}
+use Rattle.core_laws.specs.Desk.{World, is_ready}
+use Rattle.core_laws.proofs.Counts.{has_last}
+use Rattle.dice_jobs.specs.Jobs.{Assigned}
+use Rattle.dice_core.specs.AtHand.{AtHand}
+use Rattle.dice_core.specs.Commits.{CellsStand}
+use Rattle.dice_core.specs.Endings.{Knows}
+use Rattle.dice_core.specs.Entries.{EntriesStand}
+use Rattle.dice_core.specs.Hands.{DeskSeen, tasks_of, Working}
+use Rattle.dice_core.specs.Helds.{Held, held_of, task_of}
+use Rattle.dice_core.specs.Sessions.{SessionsSeen, owed, SessionsStand}
+use Rattle.dice_core.specs.Waitings.{IsTurned, KeepsTable, TakesJob, ReturnsJob}
+use Rattle.dice_core.specs.Cores.{CoreSeen, past_of, table_at, has_table, held_in, world_of, core_of, PutsTable, IsAsBefore, CoreStands}
+use Rattle.dice_core.proofs.CoreLemmas.{working_in, in_hand, open_by_task, put_back_so, stands_same, table_put, has_put}
+use Rattle.dice_core.proofs.EndsLemmas.{working_knows}
+use Rattle.dice_core.proofs.OpeningLemmas.{same_sessions}
+
+module _ {K V : Type 0} where
+  -- the table that is found is that of the version
+  pub table_found : (ts : List (ℕ × List (K × Share K (Held K V)))) (v : ℕ) (ps : List (K × Share K (Held K V))) → lookup (nat_eq v) ts ≡ Some ps → table_at ts v ≡ ps
+  table_found ts v ps e = ap (λ (o : Option (List (K × Share K (Held K V)))). unwrap_or o []) e
+
+  pub none_found : (ts : List (ℕ × List (K × Share K (Held K V)))) (v : ℕ) → lookup (nat_eq v) ts ≡ None → has_table ts v ≡ true → ⊥
+  none_found ts v e h = let x : false ≡ true = ap is_some (sym e) ∙ h in cc
+
+  -- no task is there without a table
+  pub none_held : (eq : K → K → Bool) (ts : List (ℕ × List (K × Share K (Held K V)))) (v : ℕ) (k : K) (h : Held K V) → lookup (nat_eq v) ts ≡ None → task_at eq (table_at ts v) k ≡ Some h → ⊥
+  none_held eq ts v k h e t = let x : None ≡ Some h = sym (ap (λ (o : Option (List (K × Share K (Held K V)))). task_at eq (unwrap_or o []) k) e) ∙ t in cc
+
+module _ {K V : Type 0} (eq : K → K → Bool) (equality : IsEquality eq) (m : Meaning K V) (law : IsLawful m) where
+  -- one task changed, and nothing was told
+  pub turned_hand : (v : ℕ) (k : K) (h g : Held K V) (ps qs : List (K × Share K (Held K V))) (d e : DeskSeen K V) (es : List (K × Stored K V)) (s : Seen K V) (w : World K V) (n : ℕ) → IsTurned eq k h g ps qs → e.events ≡ d.events → e.ended ≡ d.ended
+      → Working eq m v [] w n qs e → AtHand eq m v w n ps d es s → AtHand eq m v w n qs e es s
+  turned_hand v k h g ps qs d e es s w n turned events ended work hand = record {
+    working = work;
+    told = ended ∙ hand.told;
+    tasked = λ q a i. (let r = hand.tasked q a (sym (turned.asks q a) ∙ i) in by_test q r.0 r.1 (eq k q) (turned.tasks q));
+    done = λ q l. (let r = hand.done q (sym (turned.live q) ∙ l) in (r.0, turned.asks q r.0 ∙ r.1));
+    opened = subst (λ X. 0 < open_count (reverse X) v) (sym events) hand.opened;
+    entries = subst (λ X. EntriesStand eq m (reverse X) es) (sym events) hand.entries;
+    cells = subst (λ X. CellsStand eq (reverse X) s) (sym events) hand.cells;
+  }
+    where
+      by_test : (q : K) (r : Held K V) → task_at eq ps q ≡ Some r → (b : Bool) → task_at eq qs q ≡ cond b (Some g) (task_at eq ps q) → (t : Held K V) × (task_at eq qs q ≡ Some t)
+      by_test q r e true t = (g, t)
+      by_test q r e false t = (r, t ∙ e)
+
+  module _ (d : DeskSeen K V) (ts : List (ℕ × List (K × Share K (Held K V)))) (es : List (K × Stored K V)) (s : Seen K V) (x : SessionsSeen K) (st : CoreStands eq m (core_of d ts es s x)) (v : ℕ) where
+    -- at the version of a ready task a transaction is open
+    pub next_open : (k : K) (ps : List (ℕ × K)) → d.ready ≡ ps ++ (v, k) ∷ [] → 0 < open_count (reverse d.events) v
+    next_open k ps e = by_held (task_at eq (table_at ts v) k) refl
+      where
+        passes : is_ready (tasks_of eq (table_at ts v) k) ≡ true
+        passes = st.rests.ready.passes (v, k) (subst (λ xs. Has xs (v, k)) (sym e) (has_last ps (v, k)))
+
+        by_held : (o : Option (Held K V)) → task_at eq (table_at ts v) k ≡ o → 0 < open_count (reverse d.events) v
+        by_held None i = absurd (let y : false ≡ true = sym (ap (λ (z : Option (Held K V)). is_ready (option_map task_of z)) i) ∙ passes in (let z : ⊥ = cc in z))
+        by_held (Some h) i = open_by_task eq equality m law (core_of d ts es s x) st v k h i
+
+    -- the desk knows the tasks of v
+    pub knows_at : Knows eq v (table_at ts v) d
+    knows_at = working_knows eq equality m v [] (world_of eq ts) (owed x) (table_at ts v) d (working_in eq equality m law (core_of d ts es s x) st v)
+
+    -- one task of v changed
+    pub turned_stands : (k : K) (h g : Held K V) (us : List (ℕ × List (K × Share K (Held K V)))) (qs : List (K × Share K (Held K V))) (e : DeskSeen K V) → PutsTable v qs ts us → IsTurned eq k h g (table_at ts v) qs → e.events ≡ d.events → e.ended ≡ d.ended
+        → ((w : World K V) (W : List K) (n : ℕ) → Working eq m v W w n (table_at ts v) d → Working eq m v W w n qs e) → CoreStands eq m (core_of e us es s x)
+    turned_stands k h g us qs e put turned events ended kept =
+        let hand = in_hand eq equality m law (core_of d ts es s x) st v (open_by_task eq equality m law (core_of d ts es s x) st v k h turned.was) in
+        put_back_so eq equality m law (core_of d ts es s x) st v us qs e es s x put
+        (turned_hand v k h g (table_at ts v) qs d e es s (world_of eq ts) (owed x) turned events ended (kept (world_of eq ts) [] (owed x) hand.working) hand)
+        (subst (λ X. SessionsStand (reverse X) x) (sym events) st.sessions)
+        (λ u l. st.tabled u (subst (λ X. 0 < open_count (reverse X) u) events l))
+
+    -- the table of v is as it was
+    pub kept_stands : (us : List (ℕ × List (K × Share K (Held K V)))) (qs : List (K × Share K (Held K V))) → PutsTable v qs ts us → KeepsTable eq (table_at ts v) qs → IsAsBefore eq (core_of d ts es s x) (core_of d us es s x)
+    kept_stands us qs put keeps = record {
+      hands = record { events = refl; ready = refl; out = refl; live = refl; ended = refl };
+      room = record { spare = below d.spare; ready = below d.ready_room; live = below d.live_room };
+      tasks = λ u q. ap (λ ps. task_at eq ps q) (table_put ts us v qs put u) ∙ by_task u q (eqb u v) refl;
+      live = λ u q. ap (λ ps. is_live eq ps q) (table_put ts us v qs put u) ∙ by_live u q (eqb u v) refl;
+      asks = λ u q a. ap (λ ps. asks eq ps q a) (table_put ts us v qs put u) ∙ by_asks u q a (eqb u v) refl;
+      tabled = λ u h. has_put ts us v qs put u h;
+      entries = refl;
+      cells = λ k. refl;
+      newest = refl;
+      sessions = same_sessions x;
+    }
+      where
+        below : (n : ℕ) → n ≤ n
+        below n = omega arith
+
+        by_task : (u : ℕ) (q : K) (b : Bool) → eqb u v ≡ b → task_at eq (cond b qs (table_at ts u)) q ≡ task_at eq (table_at ts u) q
+        by_task u q true i = keeps.tasks q ∙ ap (λ z. task_at eq (table_at ts z) q) (sym (eqb-true u v i))
+        by_task u q false i = refl
+
+        by_live : (u : ℕ) (q : K) (b : Bool) → eqb u v ≡ b → is_live eq (cond b qs (table_at ts u)) q ≡ is_live eq (table_at ts u) q
+        by_live u q true i = keeps.live q ∙ ap (λ z. is_live eq (table_at ts z) q) (sym (eqb-true u v i))
+        by_live u q false i = refl
+
+        by_asks : (u : ℕ) (q : K) (a : By K) (b : Bool) → eqb u v ≡ b → asks eq (cond b qs (table_at ts u)) q a ≡ asks eq (table_at ts u) q a
+        by_asks u q a true i = keeps.asks q a ∙ ap (λ z. asks eq (table_at ts z) q a) (sym (eqb-true u v i))
+        by_asks u q a false i = refl
