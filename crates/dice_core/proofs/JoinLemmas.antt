@@ -4,6 +4,8 @@ use Rattle.std.specs.List.{AllByRecursion}
 use Rattle.std.specs.Map.{lookup}
 use Rattle.std.proofs.lemmas.Bool.{and_from, and_right, or_left, or_right, or_cases}
 use Rattle.std.proofs.lemmas.List.{length-reverse}
+use Rattle.std.proofs.lemmas.Option.{same_Some}
+use Rattle.dice_jobs.specs.Jobs.{Assigned}
 use Rattle.dice_key.specs.Meaning.{Meaning}
 use Rattle.dice_key.specs.Lawful.{IsEquality, IsLawful}
 use Rattle.dice_key.specs.declared.universe.Kind.TheVariants.{Injected}
@@ -18,9 +20,9 @@ use Rattle.journal.specs.Law.{IsWanted, IsLawfulBack}
 use Rattle.journal.specs.Tell.{reason_of}
 use Rattle.versioned_graph.specs.Entries.{Stored}
 use Rattle.core_laws.specs.Changes.{SameAsks, Joins}
-use Rattle.core_laws.specs.Tasks.{Standing, Works, Ended, IsReady, WithValue, WithNothing, Task}
+use Rattle.core_laws.specs.Tasks.{Standing, Works, Ended, IsReady, IsOut, WithValue, WithNothing, Task, is_going}
 use Rattle.core_laws.specs.Stands.{VersionStands, IsAtRest}
-use Rattle.core_laws.specs.Desk.{World, Stand, AreAll, IsCount, with_version, is_out, ready_in}
+use Rattle.core_laws.specs.Desk.{World, Stand, AreAll, IsCount, with_version, is_ready, is_out, ready_in}
 use Rattle.core_laws.proofs.Held.{wanted_asked}
 use Rattle.core_laws.proofs.Opens.{there_open, open_within}
 use Rattle.core_laws.proofs.Shapes.{both_parts, not_both, same_or_other}
@@ -33,7 +35,7 @@ use Rattle.dice_core.specs.Cores.{IsWorkAt, WorksOn}
 use Rattle.dice_core.specs.Endings.{AreTasked, Knows}
 use Rattle.dice_core.specs.Entries.{EntriesStand}
 use Rattle.dice_core.specs.Hands.{DeskSeen, desk_of, tasks_of, seen_world, with_event, with_made, Stays, Readies, KeepsHands, KeepsDeskRoom, HasDeskRoom, Working}
-use Rattle.dice_core.specs.Helds.{Held, held_ended}
+use Rattle.dice_core.specs.Helds.{Held, held_of, held_ended, works as work_of}
 use Rattle.dice_core.specs.Joinings.{KeepsAtHand, IsToldOfMake, IsNewTask, AsksForKey, IsOpenAt, MayBeWith, OwesOneMore}
 use Rattle.dice_core.specs.Makings.{IsFree, HasTask, IsOfMake, MayMake, IsMaking, IsMakingFor, CanMake, IsMade, Makes, MakesEnded, MakesAlone}
 use Rattle.dice_core.specs.declared.make.Making.{Making}
@@ -78,9 +80,9 @@ module _ {K V : Type 0} (eq : K → K → Bool) (equality : IsEquality eq) (m : 
       lawful = subst (λ R. IsLawfulBack eq m R) (sym past) st.lawful;
       here = subst (λ R. VersionStands eq m R v [] ((seen_world eq v ps w).asked v) ((seen_world eq v ps w).tasks v)) (sym past) st.here;
       there = λ n f. subst (λ R. IsAtRest eq m R n ((seen_world eq v ps w).asked n) ((seen_world eq v ps w).tasks n)) (sym past) (st.there n f);
-      ready = subst (λ xs. AreAll _ xs) (sym h.ready) st.ready;
-      out = subst (λ n. IsCount _ n) (sym (ap length h.out)) st.out;
-      live = subst (λ n. IsCount _ n) (sym h.live) st.live;
+      ready = subst (λ xs. AreAll (λ (p : ℕ × K). is_ready ((seen_world eq v ps w).tasks p.0 p.1)) xs) (sym h.ready) st.ready;
+      out = subst (λ n. IsCount (λ (p : ℕ × K). is_out ((seen_world eq v ps w).tasks p.0 p.1)) n) (sym (ap length h.out)) st.out;
+      live = subst (λ n. IsCount (λ (p : ℕ × K). is_going ((seen_world eq v ps w).tasks p.0 p.1)) n) (sym h.live) st.live;
       room = room;
     };
     outs = subst (λ xs. AreAll (λ (p : ℕ × K). is_out ((seen_world eq v ps w).tasks p.0 p.1)) xs) (sym h.out) work.outs;
@@ -236,7 +238,7 @@ module _ {U K V A : Type 0} (eq : K → K → Bool) (equality : IsEquality eq) (
 module _ {U K V A : Type 0} (eq : K → K → Bool) (equality : IsEquality eq) (m : Meaning K V) (law : IsLawful m) (v by t : ℕ) (k : K) (index : ℕ) (ps os qs rs : List (K × Share K (Held K V))) (c d e : DeskSeen K V) (es fs : List (K × Stored K V)) (p : Making U K V A)
     (at : index ≡ length c.events) (kept : KeepsAtHand eq ps os c d) (keeps : KeepsTasks eq ps qs) (room : UsesRoomOf eq (λ q. cond (eq k q) 1 0) (λ q. 0) (λ q. 0) os qs)
     (joins : (q : K) (a : By K) → asks eq qs q a ≡ (asks eq os q a || (eq k q && is_by eq (Promised index) a)))
-    (place : 0 < promise_room eq os k) (is_open : IsOpenAt (reverse c.events) v t) (computed : m.kind k ≢ Injected) (making : IsMaking eq m v k (index + 1) ps es p) where
+    (place : 0 < promise_room eq os k) (is_open : IsOpenAt (reverse c.events) v t) (computed : m.kind k ≢ Injected) (making : IsMaking eq m v k (index + 1) os es p) where
   joined : Joins eq k (Promised (length c.events)) (asked_of eq ps) (asked_of eq qs)
   joined = subst (λ i. Joins eq k (Promised i) (asked_of eq ps) (asked_of eq qs)) at (λ q a. joins q a ∙ ap (λ b. b || (eq k q && is_by eq (Promised index) a)) (kept.asks q a))
 
@@ -244,7 +246,10 @@ module _ {U K V A : Type 0} (eq : K → K → Bool) (equality : IsEquality eq) (
   asked_now w owed desk work = asked_first eq equality m law v by t k ps qs c d kept.hands keeps.tasks keeps.live w owed (owed + 1 + 3) keeps is_open (λ i. absurd (computed i)) (λ n. joined) (let r = desk.spare in omega arith) work
 
   making_now : IsMaking eq m v k (index + 1) qs es p
-  making_now = making_same eq m v k (index + 1) es ps qs (keeps.tasks k) p making
+  making_now = making_same eq m v k (index + 1) es os qs (keeps.tasks k ∙ sym (kept.tasks k)) p making
+
+  making_first : IsMaking eq m v k (index + 1) ps es p
+  making_first = making_same eq m v k (index + 1) es os ps (sym (kept.tasks k)) p making
 
   -- there is room to make it
   pub can_make_now : (w : World K V) (owed : ℕ) → HasDeskRoom owed 3 1 d → Working eq m v [] w owed ps c → CanMake eq v k qs (with_event d (Ask by t k)) p
@@ -307,7 +312,7 @@ module _ {U K V A : Type 0} (eq : K → K → Bool) (equality : IsEquality eq) (
 
     -- what was told and made
     pub asks_joined : (w : World K V) (owed : ℕ) → Working eq m v [] w owed ps c → AsksForKey eq v by t k ps rs c e
-    asks_joined w owed h = by_making p making made
+    asks_joined w owed h = by_making p making_first made
       where
         x : Told K V
         x = Ask by t k
@@ -363,3 +368,42 @@ module _ {U K V A : Type 0} (eq : K → K → Bool) (equality : IsEquality eq) (
           own = inr (i.0, task, put task r.0.tasks, record { name = ap (λ (z : Held K V). z.name) i.1.4 ∙ ap (λ b. record { version = v; key = k; born = b }) (named (index + 1) refl); stands = inl (ap (λ (z : Held K V). ready_in z.standing) i.1.4) });
           outs = stays e r.1.out;
         }
+
+  -- the same, with the desk f after the Ask
+  abbrev pub MakesFrom : DeskSeen K V → Type 0
+  MakesFrom f = (w : World K V) (W : List K) (owed born : ℕ) → Working eq m v W w (owed + 3) qs f → EntriesStand eq m (reverse f.events) es → MayMake eq m (reverse f.events) v k born → IsMaking eq m v k born qs es p → Working eq m v W w owed rs e × EntriesStand eq m (reverse e.events) fs
+
+  module _ (f : DeskSeen K V) (told : f ≡ with_event d (Ask by t k)) where
+    pub can_make_there : (w : World K V) (owed : ℕ) → HasDeskRoom owed 3 1 d → Working eq m v [] w owed ps c → CanMake eq v k qs f p
+    can_make_there w owed desk work = subst (λ z. CanMake eq v k qs z p) (sym told) (can_make_now w owed desk work)
+
+    module _ (made : IsMade eq v k qs f es p rs e fs) (alone : MakesAlone eq v k qs f es rs e fs) where
+      pub hand_made : (w : World K V) (owed : ℕ) (s : Seen K V) → HasDeskRoom owed 3 1 d → MakesFrom f → AtHand eq m v w owed ps c es s → AtHand eq m v w (owed + 1) rs e fs s
+      hand_made w owed s desk makes h = hand_joined (subst (λ z. IsMade eq v k qs z es p rs e fs) told made) (subst (λ z. MakesAlone eq v k qs z es rs e fs) told alone) w owed s desk (subst MakesFrom told makes) h
+
+      pub asks_made : (w : World K V) (owed : ℕ) → Working eq m v [] w owed ps c → AsksForKey eq v by t k ps rs c e
+      asks_made w owed work = asks_joined (subst (λ z. IsMade eq v k qs z es p rs e fs) told made) (subst (λ z. MakesAlone eq v k qs z es rs e fs) told alone) w owed work
+
+-- no job that is out is another then
+module _ {K V : Type 0} (eq : K → K → Bool) (equality : IsEquality eq) (v by t : ℕ) (k : K) (ps qs : List (K × Share K (Held K V))) (d e : DeskSeen K V) (asked : AsksForKey eq v by t k ps qs d e) (a : Assigned K V) where
+  new_home : (born : ℕ) (h : Held K V) → IsNewTask v k born h → h ≡ held_of a IsOut → ⊥
+  new_home born h new i = elim new.stands as (λ _. ⊥) [
+    | inl r ↦ (let z : false ≡ true = ap (λ (x : Held K V). ready_in x.standing) (sym i) ∙ r in cc)
+    | inr r ↦ (let z : work_of a IsOut ≡ Ended (WithValue r.0) = ap (λ (x : Held K V). x.standing) (sym i) ∙ r.1 in cc)
+  ]
+
+  free_home : (o : Option (Held K V)) → IsFree o → o ≡ Some (held_of a IsOut) → ⊥
+  free_home None f i = let z : None ≡ Some (held_of a IsOut) = i in cc
+  free_home (Some h) f i = let z : work_of a IsOut ≡ Ended WithNothing = ap (λ (x : Held K V). x.standing) (sym (same_Some h (held_of a IsOut) i)) ∙ f in cc
+
+  own_out : (task_at eq qs k ≡ Some (held_of a IsOut) → task_at eq ps k ≡ Some (held_of a IsOut)) × (task_at eq ps k ≡ Some (held_of a IsOut) → task_at eq qs k ≡ Some (held_of a IsOut))
+  own_out = elim asked.own as (λ _. (task_at eq qs k ≡ Some (held_of a IsOut) → task_at eq ps k ≡ Some (held_of a IsOut)) × (task_at eq ps k ≡ Some (held_of a IsOut) → task_at eq qs k ≡ Some (held_of a IsOut))) [
+    | inl s ↦ ((λ i. sym s ∙ i), (λ i. s ∙ i))
+    | inr n ↦ ((λ i. absurd (new_home _ n.1 n.3 (same_Some n.1 (held_of a IsOut) (sym n.2 ∙ i)))), (λ i. absurd (free_home (task_at eq ps k) n.0 i)))
+  ]
+
+  pub out_stays : (q : K) → (task_at eq qs q ≡ Some (held_of a IsOut) → task_at eq ps q ≡ Some (held_of a IsOut)) × (task_at eq ps q ≡ Some (held_of a IsOut) → task_at eq qs q ≡ Some (held_of a IsOut))
+  out_stays q = elim (same_or_other eq equality k q) as (λ _. (task_at eq qs q ≡ Some (held_of a IsOut) → task_at eq ps q ≡ Some (held_of a IsOut)) × (task_at eq ps q ≡ Some (held_of a IsOut) → task_at eq qs q ≡ Some (held_of a IsOut))) [
+    | inl i ↦ subst (λ z. (task_at eq qs z ≡ Some (held_of a IsOut) → task_at eq ps z ≡ Some (held_of a IsOut)) × (task_at eq ps z ≡ Some (held_of a IsOut) → task_at eq qs z ≡ Some (held_of a IsOut))) i own_out
+    | inr n ↦ (let s = asked.others q n in ((λ i. sym s ∙ i), (λ i. s ∙ i)))
+  ]

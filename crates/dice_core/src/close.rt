@@ -20,7 +20,7 @@ use dice_key::{Universe, laws_of};
 use journal::Event;
 use task_share::Asker;
 
-/// Takes one ask of a transaction that was closed out, with its promise; `false` where none is left. It takes no memory.
+/// Takes out one ask of a transaction that is closed, and its promise; `false` where none is left. It takes no memory.
 fn take_promise<U: Universe>(
     tasks: &mut Tasks<U>,
     sessions: &mut Sessions<U>,
@@ -42,7 +42,7 @@ fn take_promise<U: Universe>(
     true
 }
 
-/// Takes all asks of a transaction that was closed out, with their promises. It takes no memory.
+/// Takes out all asks of a transaction that is closed, and their promises. It takes no memory.
 fn take_promises<U: Universe>(
     tasks: &mut Tasks<U>,
     sessions: &mut Sessions<U>,
@@ -55,8 +55,8 @@ fn take_promises<U: Universe>(
     'promises: while take_promise(tasks, sessions, session) {}
 }
 
-/// Closes a transaction at a version, which was taken out of the sessions: its asks and their promises go, the Close is told, and then
-/// the tasks at work that nobody asks for any more are dropped. It takes no memory.
+/// Closes a transaction at a version, which was taken out of the sessions: its asks and their promises go, its Close is written, and
+/// then the tasks at work that nobody asks for any more are dropped. It takes no memory.
 ///
 /// It costs the number of the asks, and of the tasks that are dropped and of the keys that they waited for.
 pub(crate) fn close_asks<U: Universe>(
