@@ -1,5 +1,5 @@
 -- The core between calls: its first state; one version taken in hand and put back; and calls that leave all as before.
-use Rattle.std.proofs.Common.{◌≡◌, ◌<◌, ◌≤◌, ◌+◌, ◌*◌, ℕ, Bool, true, false, cond, nat_eq, eqb, List, [], ◌∷◌, suc, tt, length, reverse, Option, Some, None, unwrap_or, is_some, refl, sym, ap, ◌∙◌, subst, arith}
+use Rattle.std.proofs.Common.{◌≡◌, ◌<◌, ◌≤◌, ◌+◌, ◌*◌, ℕ, Bool, true, false, cond, nat_eq, eqb, List, [], ◌∷◌, suc, length, reverse, Option, Some, None, unwrap_or, is_some, refl, sym, ap, ◌∙◌, subst, arith}
 use Rattle.std.specs.Map.{lookup}
 use Rattle.std.specs.Option.{option_map}
 use Rattle.std.proofs.lemmas.Bool.{eqb-true, eq-eqb}
@@ -36,7 +36,7 @@ module _ {K V : Type 0} where
   held_there None t e = let x : None ≡ Some t = e in cc
   held_there (Some h) t e = (h, refl)
 
-  task_there : (o : Option (Held K V)) (h : Held K V) → o ≡ Some h → option_map task_of o ≡ Some (task_of h)
+  pub task_there : (o : Option (Held K V)) (h : Held K V) → o ≡ Some h → option_map task_of o ≡ Some (task_of h)
   task_there o h e = ap (option_map task_of) e
 
   -- the table of v is qs, and all others are as they were
@@ -127,7 +127,7 @@ module _ {K V : Type 0} (eq : K → K → Bool) (equality : IsEquality eq) (m : 
     open_by_task k h e = by_number (open_count (past_of c) v) refl
       where
         by_number : (n : ℕ) → open_count (past_of c) v ≡ n → 0 < n
-        by_number 0 z = absurd (let x : None ≡ Some (task_of h) = sym ((st.rests.each v).closed z k) ∙ task_there (task_at eq (table_at c.tables v) k) h e in (let y : ⊥ = cc in y))
+        by_number zero z = absurd (let x : None ≡ Some (task_of h) = sym ((st.rests.each v).closed z k) ∙ task_there (task_at eq (table_at c.tables v) k) h e in (let y : ⊥ = cc in y))
         by_number (suc n) z = omega arith
 
     -- and is put back, with other tasks

@@ -21,11 +21,10 @@ use Rattle.dice_core.specs.Helds.{Held}
 use Rattle.dice_core.specs.Cores.{IsWorkAt, WorksOn}
 use Rattle.dice_core.proofs.EventLemmas.{GivesUp, all_tell, all_given_up, all_drops, all_both, all_works, ended_after, entries_given_up, cells_works, count_works}
 
-module _ {K : Type 0} where
-  has_told : {X Y : Type 0} (f : X → Y) (xs : List X) (x : X) → Has xs x → Has (map f xs) (f x)
-  has_told f [] x h = h
-  has_told f (y ∷ xs) x (inl e) = inl (ap f e)
-  has_told f (y ∷ xs) x (inr h) = inr (has_told f xs x h)
+has_told : {X Y : Type 0} (f : X → Y) (xs : List X) (x : X) → Has xs x → Has (map f xs) (f x)
+has_told f [] x h = h
+has_told f (y ∷ xs) x (inl e) = inl (ap f e)
+has_told f (y ∷ xs) x (inr h) = inr (has_told f xs x h)
 
 module _ {K V : Type 0} (eq : K → K → Bool) (m : Meaning K V) (v : ℕ) (path : Option (List K)) (k : K) where
   -- after the ends the cascade may follow
@@ -37,14 +36,14 @@ module _ {K V : Type 0} (eq : K → K → Bool) (m : Meaning K V) (v : ℕ) (pat
       tell p = told_end v p.0 p.1
 
   module _ (ps qs : List (K × Share K (Held K V))) (d e : DeskSeen K V) (g : GivesUpAll eq v path k ps qs d e) where
-    events : List (Told K V)
+    abbrev events : List (Told K V)
     events = map (λ (p : K × Outcome K V). told_end v p.0 p.1) g.ends ++ map (Drop v) g.drops
 
     told : e.events ≡ d.events ++ events
     told = g.dropped.events ∙ (ap (λ X. X ++ map (Drop v) g.drops) g.ended.events ∙ append_assoc d.events (map (λ (p : K × Outcome K V). told_end v p.0 p.1) g.ends) (map (Drop v) g.drops))
 
     all : AllByRecursion (GivesUp v) events
-    all = all_both v (map (λ (p : K × Outcome K V). told_end v p.0 p.1) g.ends) (map (Drop v) g.drops) (all_given_up v (map (λ (p : K × Outcome K V). told_end v p.0 p.1) g.ends) (all_tell v path g.ends g.ended.comes)) (all_drops v g.drops)
+    all = all_both v (GivesUp v) (map (λ (p : K × Outcome K V). told_end v p.0 p.1) g.ends) (map (Drop v) g.drops) (all_given_up v (map (λ (p : K × Outcome K V). told_end v p.0 p.1) g.ends) (all_tell v path g.ends g.ended.comes)) (all_drops V v g.drops)
 
     -- what is added are events of tasks
     pub given_up_works : WorksOn v d.events e.events

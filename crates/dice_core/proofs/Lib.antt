@@ -25,6 +25,7 @@ pub mod OpeningLemmas
 pub mod ParkLemmas
 pub mod Parts
 pub mod PollLemmas
+pub mod ResultLemmas
 pub mod SeenLemmas
 pub mod SessionLemmas
 pub mod TakeLemmas

@@ -6,7 +6,7 @@ use Rattle.std.proofs.lemmas.Bool.{eqb-true}
 use Rattle.dice_key.specs.Meaning.{Meaning}
 use Rattle.dice_key.specs.Lawful.{IsEquality, IsLawful}
 use Rattle.task_share.specs.Asked.{By}
-use Rattle.task_share.specs.Seen.{Share, task_at, is_live, asks}
+use Rattle.task_share.specs.Seen.{Share, task_at, is_live, asks, asked_of}
 use Rattle.injected.specs.Seen.{Seen}
 use Rattle.journal.specs.declared.event.Told.{Told}
 use Rattle.journal.specs.declared.event.Told.TheVariants.{Open, Leave, Drop}
@@ -19,7 +19,7 @@ use Rattle.dice_core.specs.Askings.{IsAskAt, DropsAfter, StaysAtHand}
 use Rattle.dice_core.specs.AtHand.{AtHand}
 use Rattle.dice_core.specs.Commits.{SameSets, CellsStand}
 use Rattle.dice_core.specs.Entries.{EntriesStand}
-use Rattle.dice_core.specs.Hands.{DeskSeen, desk_of, with_event, KeepsHands, KeepsDeskRoom, HasDeskRoom}
+use Rattle.dice_core.specs.Hands.{DeskSeen, desk_of, tasks_of, with_event, KeepsHands, KeepsDeskRoom, HasDeskRoom}
 use Rattle.dice_core.specs.Helds.{Held}
 use Rattle.dice_core.specs.Sessions.{SessionsSeen, owed, IsSame, Opens, Leaves, SessionsStand}
 use Rattle.dice_core.specs.Cores.{CoreSeen, past_of, table_at, has_table, held_in, world_of, core_of, PutsTable, IsAsBefore, KeepsTasksOf, CoreStands, WorksOn}
@@ -60,11 +60,8 @@ module _ {K V : Type 0} (eq : K → K → Bool) where
   }
 
 module _ {K V : Type 0} (eq : K → K → Bool) (equality : IsEquality eq) (m : Meaning K V) (law : IsLawful m) where
-  same_tables : (ts us : List (ℕ × List (K × Share K (Held K V)))) → ((v : ℕ) → table_at us v ≡ table_at ts v) → world_of eq us ≡ world_of eq ts
-  same_tables ts us same = λ i. record { asked = λ v. (world_at v i).0; tasks = λ v. (world_at v i).1 }
-    where
-      world_at : (v : ℕ) → ((world_of eq us).asked v, (world_of eq us).tasks v) ≡ ((world_of eq ts).asked v, (world_of eq ts).tasks v)
-      world_at v = ap (λ ps. ((world_of eq ((v, ps) ∷ [])).asked v, (world_of eq ((v, ps) ∷ [])).tasks v)) (same v)
+  pub same_tables : (ts us : List (ℕ × List (K × Share K (Held K V)))) → ((v : ℕ) → table_at us v ≡ table_at ts v) → world_of eq us ≡ world_of eq ts
+  same_tables ts us same = λ i. record { asked = λ v. asked_of eq (same v i); tasks = λ v. tasks_of eq (same v i) }
 
   -- a transaction is opened at the newest version
   pub opened_stands : (by n index : ℕ) (d f : DeskSeen K V) (ts us : List (ℕ × List (K × Share K (Held K V)))) (es : List (K × Stored K V)) (s : Seen K V) (x y : SessionsSeen K) → CoreStands eq m (core_of d ts es s x) → KeepsHands d f → HasDeskRoom (owed x) 2 0 f
@@ -113,4 +110,4 @@ module _ {K V : Type 0} (eq : K → K → Bool) (equality : IsEquality eq) (m : 
         (λ u l. st.tabled u (subst (λ n. 0 < n) (count_works v (d.events ++ Leave by i ∷ []) e.events u works ∙ ap (λ S. open_count S u) (back_more d.events (Leave by i))) l))
       where
         works : WorksOn v (d.events ++ Leave by i ∷ []) e.events
-        works = (map (Drop v) ks, drops.events ∙ sym (append_assoc d.events (Leave by i ∷ []) (map (Drop v) ks)), all_works v (map (Drop v) ks) (all_drops v ks))
+        works = (map (Drop v) ks, drops.events ∙ sym (append_assoc d.events (Leave by i ∷ []) (map (Drop v) ks)), all_works v (map (Drop v) ks) (all_drops V v ks))

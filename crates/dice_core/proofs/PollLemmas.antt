@@ -33,14 +33,14 @@ module _ {K V : Type 0} where
   by_task Projection n x o h = refl
 
   -- else it is either its value or what its task has come to
-  by_kind : {P : Came K V → Type 0} (i : Kind) (n : ℕ) (x : V) (o : Came K V) → (i ≡ Injected → P (ToValue x)) → P o → P (injected_to i n x o)
-  by_kind {P} Injected n x o h p = by_test (nat_eq n 0)
+  by_kind : (P : Came K V → Type 0) (i : Kind) (n : ℕ) (x : V) (o : Came K V) → (i ≡ Injected → P (ToValue x)) → P o → P (injected_to i n x o)
+  by_kind P Injected n x o h p = by_test (nat_eq n 0)
     where
       by_test : (b : Bool) → P (cond b o (ToValue x))
       by_test true = p
       by_test false = h refl
-  by_kind Computed n x o h p = p
-  by_kind Projection n x o h p = p
+  by_kind P Computed n x o h p = p
+  by_kind P Projection n x o h p = p
 
   -- and where a transaction is open, an injected key has its value
   not_absent : (i : Kind) (n : ℕ) (x : V) (o : Came K V) → 0 < n → (i ≢ Injected → o ≢ Absent) → injected_to i n x o ≢ Absent
@@ -58,13 +58,13 @@ module _ {K V : Type 0} (eq : K → K → Bool) (equality : IsEquality eq) (m : 
   stood h e = (st.rests.each v).stands.each k (task_of h) (task_there (task_at eq (table_at c.tables v) k) h e)
 
   -- a task that has come to this tells so
-  TellsValue : Came K V → Type 0
+  abbrev TellsValue : Came K V → Type 0
   TellsValue o = (x : V) → o ≡ ToValue x → HasValue eq m (commits_of (past_of c)) v k x
 
-  TellsCycle : Came K V → Type 0
+  abbrev TellsCycle : Came K V → Type 0
   TellsCycle o = (p : List K) → o ≡ ToCycle p → CycleStands eq m (commits_of (past_of c)) v k p
 
-  TellsLost : Came K V → Type 0
+  abbrev TellsLost : Came K V → Type 0
   TellsLost o = o ≡ ToNothing → lost_in_epoch eq (past_of c) v k ≡ true
 
   tells_value : TellsValue (held_to (held_in eq c v k))
@@ -163,19 +163,19 @@ module _ {K V : Type 0} (eq : K → K → Bool) (equality : IsEquality eq) (m : 
     set_value i x e = subst (λ y. HasValue eq m (commits_of (past_of c)) v k y) (sym (inputs v k) ∙ (let y : ToValue (cell_at eq m c.cells v k) ≡ ToValue x = e in cc)) (injected_value eq m (commits_of (past_of c)) v k i)
 
     pub poll_value : TellsValue (poll_of eq m c v k)
-    poll_value = by_kind {P = TellsValue} (m.kind k) (open_count_of c.sessions.epochs v) (cell_at eq m c.cells v k) (held_to (held_in eq c v k)) set_value tells_value
+    poll_value = by_kind TellsValue (m.kind k) (open_count_of c.sessions.epochs v) (cell_at eq m c.cells v k) (held_to (held_in eq c v k)) set_value tells_value
 
   pub poll_cycle : TellsCycle (poll_of eq m c v k)
-  poll_cycle = by_kind {P = TellsCycle} (m.kind k) (open_count_of c.sessions.epochs v) (cell_at eq m c.cells v k) (held_to (held_in eq c v k)) (λ i p e. (let y : ToValue (cell_at eq m c.cells v k) ≡ ToCycle p = e in cc)) tells_cycle
+  poll_cycle = by_kind TellsCycle (m.kind k) (open_count_of c.sessions.epochs v) (cell_at eq m c.cells v k) (held_to (held_in eq c v k)) (λ i p e. (let y : ToValue (cell_at eq m c.cells v k) ≡ ToCycle p = e in cc)) tells_cycle
 
   pub poll_lost : TellsLost (poll_of eq m c v k)
-  poll_lost = by_kind {P = TellsLost} (m.kind k) (open_count_of c.sessions.epochs v) (cell_at eq m c.cells v k) (held_to (held_in eq c v k)) (λ i e. (let y : ToValue (cell_at eq m c.cells v k) ≡ ToNothing = e in cc)) tells_lost
+  poll_lost = by_kind TellsLost (m.kind k) (open_count_of c.sessions.epochs v) (cell_at eq m c.cells v k) (held_to (held_in eq c v k)) (λ i e. (let y : ToValue (cell_at eq m c.cells v k) ≡ ToNothing = e in cc)) tells_lost
 
   pub poll_decided : 0 < open_count (past_of c) v → m.kind k ≢ Injected → decided eq (past_of c) v k ≡ decision_of (poll_of eq m c v k)
   poll_decided some computed = decides some ∙ ap decision_of (sym (by_task (m.kind k) (open_count_of c.sessions.epochs v) (cell_at eq m c.cells v k) (held_to (held_in eq c v k)) computed))
 
   pub poll_quiet : c.desk.ready ≡ [] → c.desk.out ≡ [] → poll_of eq m c v k ≢ Pending
-  poll_quiet ready out = by_kind {P = λ o. o ≢ Pending} (m.kind k) (open_count_of c.sessions.epochs v) (cell_at eq m c.cells v k) (held_to (held_in eq c v k)) (λ i e. (let y : ToValue (cell_at eq m c.cells v k) ≡ Pending = e in cc)) (settles ready out)
+  poll_quiet ready out = by_kind (λ o. o ≢ Pending) (m.kind k) (open_count_of c.sessions.epochs v) (cell_at eq m c.cells v k) (held_to (held_in eq c v k)) (λ i e. (let y : ToValue (cell_at eq m c.cells v k) ≡ Pending = e in cc)) (settles ready out)
 
   pub poll_asked : (i : ℕ) (a : Asking K) → live_at (past_of c) i ≡ Some a → opened_at (past_of c) v a.opened ≡ true → a.key ≡ k → poll_of eq m c v k ≢ Absent
   poll_asked i a live at same = not_absent (m.kind k) (open_count_of c.sessions.epochs v) (cell_at eq m c.cells v k) (held_to (held_in eq c v k))

@@ -77,14 +77,17 @@ impl<U: Universe> Core<U> {
         laws_of::<U>();
         let graph = Graph::new(alloc, Arc::try_clone(&universe)?);
         let cells = Cells::new(alloc, Arc::try_clone(&universe)?);
+        let desk = Desk::new(alloc);
+        let versions = HashMap::new(alloc);
+        let sessions = Sessions::new(alloc);
         Ok(Core {
             alloc,
             universe,
-            desk: Desk::new(alloc),
-            versions: HashMap::new(alloc),
+            desk,
+            versions,
             graph,
             cells,
-            sessions: Sessions::new(alloc),
+            sessions,
         })
     }
 

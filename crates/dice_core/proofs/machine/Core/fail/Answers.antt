@@ -1,0 +1,4 @@
+use Rattle.dice_core.proofs.machine.Core.fail.Goals as goal
+
+pub invariant_of-self : goal.invariant_of-self
+invariant_of-self g c = c.fail_named.ensures.kept c.self.inside.graph c.self.inside.cells c.self.inside.sessions c.self.invariant
