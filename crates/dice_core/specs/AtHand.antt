@@ -21,6 +21,6 @@ module _ {K V : Type 0} (eq : K → K → Bool) (m : Meaning K V) where
     pub told : d.ended ≡ []
     pub tasked : AreTasked eq ps
     pub done : IsDone (asked_of eq ps)
-    pub open : 0 < open_count (reverse d.events) v
+    pub opened : 0 < open_count (reverse d.events) v
     pub entries : EntriesStand eq m (reverse d.events) es
     pub cells : CellsStand eq (reverse d.events) s

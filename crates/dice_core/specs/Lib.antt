@@ -1,4 +1,6 @@
 pub mod AtHand
+pub mod Batches
+pub mod Circles
 pub mod Commits
 pub mod Endings
 pub mod Entries
@@ -6,6 +8,7 @@ pub mod Hands
 pub mod Helds
 pub mod Loads
 pub mod Makings
+pub mod Plans
 pub mod Sessions
 pub mod Shelves
 pub mod Waitings

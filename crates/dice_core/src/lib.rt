@@ -2,10 +2,12 @@
 #![tactic(auto)]
 
 mod anew;
+mod batch;
 mod commit;
 mod desk;
 mod end;
 mod make;
+mod plan;
 mod sessions;
 mod shelf;
 mod task;
