@@ -1,5 +1,6 @@
 -- What holds between calls holds again where the batch of a task was taken up.
-use Rattle.std.proofs.Common.{◌≡◌, ◌≢◌, ◌⊎◌, inl, inr, ◌<◌, ◌≤◌, ◌+◌, ◌*◌, ℕ, suc, Bool, true, false, cond, ◌&&◌, ◌||◌, List, [], ◌∷◌, ◌++◌, length, map, reverse, Option, Some, None, refl, sym, ap, ◌∙◌, subst, arith, length-reverse}
+use Rattle.std.proofs.Common.{◌≡◌, ◌≢◌, ◌⊎◌, inl, inr, ◌<◌, ◌≤◌, ◌+◌, ◌*◌, ℕ, suc, Bool, true, false, cond, ◌&&◌, ◌||◌, List, [], ◌∷◌, ◌++◌, length, map, reverse, Option, Some, None, refl, sym, ap, ◌∙◌, subst, arith}
+use Rattle.std.proofs.lemmas.List.{length-reverse}
 use Rattle.std.specs.List.{AllByRecursion, AllZip}
 use Rattle.std.specs.Option.{option_map}
 use Rattle.std.proofs.lemmas.Option.{none-some, same_Some}
@@ -7,7 +8,7 @@ use Rattle.dice_key.specs.Meaning.{Meaning}
 use Rattle.dice_key.specs.Lawful.{IsLawful, IsEquality}
 use Rattle.dice_key.specs.declared.universe.Kind.TheVariants.{Injected}
 use Rattle.dice_model.specs.Log.{Has, AreDistinct, input}
-use Rattle.dice_model.specs.Eval.{HasValue, by_kind, eval}
+use Rattle.dice_model.specs.Eval.{HasValue, by_kind, reached, eval}
 use Rattle.dice_model.specs.Asks.{AsksFor}
 use Rattle.dice_jobs.specs.Jobs.{Assigned, Waits, answered_more}
 use Rattle.task_share.specs.Asked.{By, Tasked, Asked, WaitOf, Leads, stays, IsDone}
@@ -113,7 +114,7 @@ module _ {K V : Type 0} (eq : K → K → Bool) (equality : IsEquality eq) (m : 
   pub at_hand_true : (es : List (K × Stored K V)) (s : Seen K V) → v ≤ length (commits_of (reverse d.events)) → EntriesStand eq m (reverse d.events) es → ((u : ℕ) (q : K) → cell_at eq m s u q ≡ input eq m (commits_of (reverse d.events)) u q)
       → (q : K) (x : V) → IsAtHand eq m v ps es s q x → HasValue eq m (commits_of (reverse d.events)) v q x
   at_hand_true es s within entries inputs q x (inl h) =
-      record { depth = suc 0; gives = ap (λ k. by_kind k (Some (input eq m (commits_of (reverse d.events)) v q)) _) h.0 ∙ ap Some (sym (h.1 ∙ inputs v q)) }
+      record { depth = suc 0; gives = ap (λ k. by_kind k (Some (input eq m (commits_of (reverse d.events)) v q)) (reached (eval eq m 0 (commits_of (reverse d.events)) v) (λ A. m.next q A v) (m.most q) [])) h.0 ∙ ap Some (sym (h.1 ∙ inputs v q)) }
   at_hand_true es s within entries inputs q x (inr (inl h)) =
       let e = ended_so (task_at eq ps q) x h in
       let t : IsStanding eq m (reverse d.events) v q (Ended (WithValue x)) = subst (IsStanding eq m (reverse d.events) v q) e.2 (here.each q (task_of e.0) (ap (option_map task_of) e.1)).standing in
@@ -213,7 +214,7 @@ module _ {U K V R : Type 0} (eq : K → K → Bool) (equality : IsEquality eq) (
       by_test : (q : K) (b : Assigned K V) (c : Bool) → eq a.name.key q ≡ c → task_at eq rs q ≡ Some (held_of b IsOut) → task_at eq ps q ≡ Some (held_of b IsOut)
       by_test q b true i is =
           let same : g ≡ held_of b IsOut = same_Some g (held_of b IsOut) (sym (turned q ∙ ap (λ c. cond c (Some g) (task_at eq qs q)) i) ∙ is) in
-          absurd (not_both (ap (λ (h : Held K V). out_in h.standing) (sym same)) home)
+          absurd (not_both (ap (λ (h : Held K V). out_in h.standing) same) home)
       by_test q b false i is = makes.only q b (sym (turned q ∙ ap (λ c. cond c (Some g) (task_at eq qs q)) i) ∙ is)
 
   there_so : (g : Held K V) → ((q : K) → task_at eq rs q ≡ cond (eq a.name.key q) (Some g) (task_at eq qs q)) → (q : K) (h : Held K V) → task_at eq qs q ≡ Some h → (r : Held K V) × (task_at eq rs q ≡ Some r)
@@ -253,7 +254,7 @@ module _ {U K V R : Type 0} (eq : K → K → Bool) (equality : IsEquality eq) (
   -- ---- or the task waits
 
   module _ (ws : List (WaitOf K)) (p : Waits K V) (waits : ws ≡ waits_of a.name.key xs) (job : p.job ≡ a) (keys : p.keys ≡ ks) (to : ParksJob eq v a.name.key p ws qs rs e f) where
-    waiting : Held K V
+    abbrev waiting : Held K V
     waiting = held_of p.job (IsWaiting p.keys)
 
     own_wait : (x : WaitOf K) → Has ws x → x.asker ≡ a.name.key
@@ -350,12 +351,12 @@ module _ {K V : Type 0} (eq : K → K → Bool) (m : Meaning K V) (v : ℕ) (a :
 
 -- ---- the whole
 
-module _ {U K V R : Type 0} (eq : K → K → Bool) (equality : IsEquality eq) (m : Meaning K V) (law : IsLawful m) (v : ℕ) (k : K) (a : Assigned K V) (own : a.name.key ≡ k) (ks : List K) (xs : List (Part U K V R)) (w : World K V) (owed : ℕ) (ps : List (K × Share K (Held K V))) (d : DeskSeen K V) (es : List (K × Stored K V)) (s : Seen K V)
+module _ {K V : Type 0} (eq : K → K → Bool) (equality : IsEquality eq) (m : Meaning K V) (law : IsLawful m) (v : ℕ) (k : K) (a : Assigned K V) (own : a.name.key ≡ k) (ks : List K) (w : World K V) (owed : ℕ) (ps : List (K × Share K (Held K V))) (d : DeskSeen K V) (es : List (K × Stored K V)) (s : Seen K V)
     (hand : AtHand eq m v w owed ps d es s) (out : task_at eq ps k ≡ Some (held_of a IsOut)) (next : AsksNext eq m v k (doing a.work) a.answered (IsWaiting ks)) where
-  own_out : task_at eq ps a.name.key ≡ Some (held_of a IsOut)
+  pub own_out : task_at eq ps a.name.key ≡ Some (held_of a IsOut)
   own_out = subst (λ z. task_at eq ps z ≡ Some (held_of a IsOut)) (sym own) out
 
-  own_next : AsksNext eq m v a.name.key (doing a.work) a.answered (IsWaiting ks)
+  pub own_next : AsksNext eq m v a.name.key (doing a.work) a.answered (IsWaiting ks)
   own_next = subst (λ z. AsksNext eq m v z (doing a.work) a.answered (IsWaiting ks)) (sym own) next
 
   pub own_live : is_live eq ps k ≡ true
@@ -364,12 +365,14 @@ module _ {U K V R : Type 0} (eq : K → K → Bool) (equality : IsEquality eq) (
   pub own_path : (path : List K) → IsPathOf eq ps a.name.key ks path → CycleStands eq m (commits_of (reverse d.events)) v k path
   own_path path h = subst (λ z. CycleStands eq m (commits_of (reverse d.events)) v z path) own (path_stands eq equality m law v w owed ps d hand.working a ks own_out own_next path h)
 
+module _ {U K V R : Type 0} (eq : K → K → Bool) (equality : IsEquality eq) (m : Meaning K V) (law : IsLawful m) (v : ℕ) (k : K) (a : Assigned K V) (own : a.name.key ≡ k) (ks : List K) (xs : List (Part U K V R)) (w : World K V) (owed : ℕ) (ps : List (K × Share K (Held K V))) (d : DeskSeen K V) (es : List (K × Stored K V)) (s : Seen K V)
+    (hand : AtHand eq m v w owed ps d es s) (out : task_at eq ps k ≡ Some (held_of a IsOut)) (next : AsksNext eq m v k (doing a.work) a.answered (IsWaiting ks)) where
   module _ (roomy : IsRoomy eq m v owed a ks ps d es s xs) where
     pub own_makes : MakesOn eq m v [] w owed xs ps d es
-    own_makes = makes_on eq equality m law v w owed a ks xs ps d es s hand own_out own_next roomy
+    own_makes = makes_on eq equality m law v w owed a ks xs ps d es s hand (own_out eq equality m law v k a own ks w owed ps d es s hand out next) (own_next eq equality m law v k a own ks w owed ps d es s hand out next) roomy
 
     pub own_room : HasRoomToMake eq xs ps d
-    own_room = room_to_make eq equality m law v w owed a ks xs ps d es s hand own_out own_next roomy
+    own_room = room_to_make eq equality m law v w owed a ks xs ps d es s hand (own_out eq equality m law v k a own ks w owed ps d es s hand out next) (own_next eq equality m law v k a own ks w owed ps d es s hand out next) roomy
 
     module _ (qs rs : List (K × Share K (Held K V))) (e f : DeskSeen K V) (fs : List (K × Stored K V)) (makes : MakesParts eq xs v ps d qs e) (made : Working eq m v [] w owed qs e × EntriesStand eq m (reverse e.events) fs) where
       pub own_knows : Knows eq v qs e
@@ -379,7 +382,7 @@ module _ {U K V R : Type 0} (eq : K → K → Bool) (equality : IsEquality eq) (
       module _ (n : Ahead K V) (plan : GoesOnSo eq m v owed a ks ps d es s xs n) (inputs : (C : List (List (K × V))) (t : Seen K V) → AreOf eq C t → (u : ℕ) (q : K) → cell_at eq m t u q ≡ input eq m C u q) where
         pub own_answers : AllZip (HasValue eq m (commits_of (reverse e.events)) v) ks n.values
         own_answers =
-            let within = (stood eq equality m law v w owed ps d hand.working a ks own_out).within in
+            let within = (stood eq equality m law v w owed ps d hand.working a ks (own_out eq equality m law v k a own ks w owed ps d es s hand out next)).within in
             subst (λ C. AllZip (HasValue eq m C v) ks n.values) (sym (same_commits eq equality m law v w owed a ks xs ps qs rs d e f es fs s hand roomy.parts.among makes made.1))
             (zip_on (IsAtHand eq m v ps es s) (HasValue eq m (commits_of (reverse d.events)) v)
             (at_hand_true eq equality m law v w owed ps d hand.working es s within hand.entries (inputs (commits_of (reverse d.events)) s hand.cells.are)) ks n.values plan.answers)
@@ -394,10 +397,10 @@ module _ {U K V R : Type 0} (eq : K → K → Bool) (equality : IsEquality eq) (
       -- it waits
       module _ (ws : List (WaitOf K)) (plan : WaitsSo eq m v owed a ks ps d es s xs ws) where
         pub own_fits : HasRoomFor eq ws qs
-        own_fits = room_for eq equality m law v w owed a ks xs ps qs rs d e f es fs s hand roomy.parts.among makes made.1 roomy.parts ws plan.waits roomy.placed plan.room (own_beside eq equality m law v w owed a ks xs ps d es s hand own_out own_next roomy)
+        own_fits = room_for eq equality m law v w owed a ks xs ps qs rs d e f es fs s hand roomy.parts.among makes made.1 roomy.parts ws plan.waits roomy.placed plan.room (own_beside eq equality m law v w owed a ks xs ps d es s hand (own_out eq equality m law v k a own ks w owed ps d es s hand out next) (own_next eq equality m law v k a own ks w owed ps d es s hand out next) roomy)
 
         pub own_may : (p : Waits K V) → p.job ≡ a → p.keys ≡ ks → MayPark eq m v k p ws qs
-        own_may p i j = subst (λ z. MayPark eq m v z p ws qs) own (may_park eq equality m law v w owed a ks xs ps qs rs d e f es fs s hand roomy.parts.among makes made.1 roomy.parts ws plan.waits p i j own_next plan.some)
+        own_may p i j = subst (λ z. MayPark eq m v z p ws qs) own (may_park eq equality m law v w owed a ks xs ps qs rs d e f es fs s hand roomy.parts.among makes made.1 roomy.parts ws plan.waits p i j (own_next eq equality m law v k a own ks w owed ps d es s hand out next) plan.some)
 
         pub own_waits : (p : Waits K V) → p.job ≡ a → p.keys ≡ ks → ParksJob eq v k p ws qs rs e f → Working eq m v [] w owed rs f → AtHand eq m v w owed rs f fs s × TakesUp eq m v a ks ps d rs f
         own_waits p i j to work =

@@ -39,7 +39,7 @@ use Rattle.dice_core.proofs.QuietLemmas.{all_both}
 
 module _ {K V : Type 0} where
   -- what is seen of a task that may not be there
-  out_of : Option (Held K V) → Bool
+  abbrev out_of : Option (Held K V) → Bool
   out_of None = false
   out_of (Some h) = out_in h.standing
 
@@ -51,7 +51,7 @@ module _ {K V : Type 0} where
   free_home (Some h) f = ap out_in f
 
   -- a task that is there, was not given up, is not at work and has not ended with a circle has ended with a value
-  value_there : (o : Option (Held K V)) → HasTask o → is_going (option_map task_of o) ≡ false → path_with o ≡ None → (x : V) × (value_of (option_map task_of o) ≡ Some x)
+  pub value_there : (o : Option (Held K V)) → HasTask o → is_going (option_map task_of o) ≡ false → path_with o ≡ None → (x : V) × (value_of (option_map task_of o) ≡ Some x)
   value_there None t off whole = absurd t
   value_there (Some h) t off whole = by_standing h.standing refl
     where
@@ -63,7 +63,7 @@ module _ {K V : Type 0} where
 
 module _ {U K V R : Type 0} (eq : K → K → Bool) (equality : IsEquality eq) (m : Meaning K V) (law : IsLawful m) (v : ℕ) (p : Part U K V R) (ps qs : List (K × Share K (Held K V))) (d e : DeskSeen K V) (es fs : List (K × Stored K V)) (born : ℕ)
     (part : IsPart eq m v born ps es p) (made : IsMade eq v (key_in p) ps d es p.making qs e fs) (alone : MakesAlone eq v (key_in p) ps d es qs e fs) where
-  k : K
+  abbrev k : K
   k = key_in p
 
   -- the task that is put there

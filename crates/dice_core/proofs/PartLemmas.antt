@@ -192,9 +192,10 @@ module _ {U K V R : Type 0} (k : K) where
 
   pub there_waits : (xs : List (Part U K V R)) (w : WaitOf K) → Has (waits_of k xs) w → (p : Part U K V R) × Has xs p × (p.awaited ≡ true) × (w ≡ wait_for k p)
   there_waits [] w h = absurd h
-  there_waits (x ∷ xs) w h = by_test x.awaited refl h
+  there_waits (x ∷ xs) w h = by_test (λ g. there_waits xs w g) x.awaited refl h
     where
-      by_test : (b : Bool) → x.awaited ≡ b → Has (map (wait_for k) (cond b (x ∷ filter (λ (p : Part U K V R). p.awaited) xs) (filter (λ (p : Part U K V R). p.awaited) xs))) w → (p : Part U K V R) × Has (x ∷ xs) p × (p.awaited ≡ true) × (w ≡ wait_for k p)
-      by_test true i (inl e) = (x, inl refl, i, sym e)
-      by_test true i (inr g) = let r = there_waits xs w g in (r.0, inr r.1, r.2, r.3)
-      by_test false i g = let r = there_waits xs w g in (r.0, inr r.1, r.2, r.3)
+      by_test : (Has (waits_of k xs) w → (p : Part U K V R) × Has xs p × (p.awaited ≡ true) × (w ≡ wait_for k p)) → (b : Bool) → x.awaited ≡ b → Has (map (wait_for k) (cond b (x ∷ filter (λ (p : Part U K V R). p.awaited) xs) (filter (λ (p : Part U K V R). p.awaited) xs))) w
+          → (p : Part U K V R) × Has (x ∷ xs) p × (p.awaited ≡ true) × (w ≡ wait_for k p)
+      by_test again true i (inl e) = (x, inl refl, i, sym e)
+      by_test again true i (inr g) = let r = again g in (r.0, inr r.1, r.2, r.3)
+      by_test again false i g = let r = again g in (r.0, inr r.1, r.2, r.3)

@@ -2,6 +2,8 @@
 use Rattle.std.proofs.Common.{◌≡◌, ◌≢◌, ◌⊎◌, inl, inr, ◌<◌, ◌≤◌, ◌+◌, ◌*◌, ℕ, Bool, true, false, List, [], ◌∷◌, ◌++◌, length, reverse, Option, Some, None, refl, sym, ap, ◌∙◌, subst, arith}
 use Rattle.std.specs.List.{AllZip}
 use Rattle.std.specs.Option.{option_map}
+use Rattle.std.specs.Prelude.{◌==◌}
+use Rattle.std.proofs.lemmas.Bool.{eqb-true}
 use Rattle.std.proofs.lemmas.Option.{none-some, same_Some}
 use Rattle.dice_key.specs.Meaning.{Meaning}
 use Rattle.dice_key.specs.Lawful.{IsEquality}
@@ -28,17 +30,21 @@ use Rattle.dice_core.specs.Helds.{Held, Ahead, task_of, held_of}
 use Rattle.dice_core.specs.Hands.{DeskSeen, KeepsHands, KeepsDeskRoom, HasDeskRoom, desk_of, Working, tasks_of, seen_world}
 use Rattle.dice_core.specs.Entries.{EntriesStand}
 use Rattle.dice_core.specs.Makings.{IsMaking}
-use Rattle.dice_core.specs.Plans.{key_in, wait_for, waits_of, is_awaited, HasNone, IsPart, AreParts, IsSurvey, ArePlaced, IsAtHand, IsRoomy, GoesOnSo, WaitsSo}
+use Rattle.dice_core.specs.Plans.{key_in, wait_for, waits_of, is_awaited, HasNone, IsPart, AreParts, ArePlaced, IsAtHand, IsRoomy, GoesOnSo, WaitsSo, IsPlan}
 use Rattle.dice_core.specs.Batches.{LeavesOut, TakesUp}
 use Rattle.dice_core.specs.declared.make.Making.{Making}
 use Rattle.dice_core.specs.declared.make.Making.TheVariants.{Join, Match, Run, Check}
 use Rattle.dice_core.specs.declared.plan.Part.{Part}
-use Rattle.dice_core.specs.declared.plan.Survey.{Survey}
+use Rattle.dice_core.specs.declared.plan.Plan.{Plan}
 use Rattle.dice_core.proofs.CascadeLemmas.{done_same}
 use Rattle.dice_core.proofs.EndsLemmas.{same_table}
 use Rattle.dice_core.proofs.MakesLemmas.{value_there}
 use Rattle.dice_core.proofs.PartLemmas.{parts_same, wait_there, zip_count}
 use Rattle.dice_core.proofs.TaskedLemmas.{tasked_same}
+
+-- nothing is there
+pub none_there : (b : Bool) (n : ℕ) → b ≡ (n == 0) → b ≡ true → n ≡ 0
+none_there b n e f = eqb-true n 0 (sym e ∙ f)
 
 -- ---- nothing that is seen has changed
 
@@ -166,10 +172,6 @@ module _ {U K V R : Type 0} (eq : K → K → Bool) (equality : IsEquality eq) (
 
 -- ---- by the names in the code
 
-module _ {U K V R : Type 0} (eq : K → K → Bool) (m : Meaning K V) (ps : List (K × Share K (Held K V))) (es : List (K × Stored K V)) (ks : List K) (z : Survey U K V R) where
-  pub survey_as : (v v2 b b2 : ℕ) (k k2 : K) → v ≡ v2 → b ≡ b2 → k ≡ k2 → IsSurvey eq m v b ps es k ks z → IsSurvey eq m v2 b2 ps es k2 ks z
-  survey_as v v2 b b2 k k2 i j l h = subst (λ x. IsSurvey eq m x b2 ps es k2 ks z) i (subst (λ x. IsSurvey eq m v x ps es k2 ks z) j (subst (λ x. IsSurvey eq m v b ps es x ks z) l h))
-
 module _ {K V : Type 0} where
   -- the job that waits is that of the step, for its batch
   pub parked_so : (a : Assigned K V) (o : Outcome K V) (ks : List K) (p : Waits K V) → o ≡ Wanting ks → Some p ≡ waiting_after a o → (p.job ≡ a) × (p.keys ≡ ks)
@@ -183,3 +185,17 @@ module _ {K V : Type 0} where
 
   pub wanting_same : (ks ls : List K) (o : Outcome K V) → o ≡ Wanting ks → o ≡ Wanting ls → ks ≡ ls
   wanting_same ks ls o a b = let e : Wanting ks ≡ Wanting ls = sym a ∙ b in cc
+
+module _ {U K V R : Type 0} (eq : K → K → Bool) (m : Meaning K V) (v v2 : ℕ) (same : v ≡ v2) where
+  pub parts_as : (b b2 : ℕ) (k k2 : K) (ks : List K) (xs : List (Part U K V R)) (ps : List (K × Share K (Held K V))) (es : List (K × Stored K V)) → b ≡ b2 → k ≡ k2 → AreParts eq m v b ps es k ks xs → AreParts eq m v2 b2 ps es k2 ks xs
+  parts_as b b2 k k2 ks xs ps es j l h = subst (λ x. AreParts eq m x b2 ps es k2 ks xs) same (subst (λ x. AreParts eq m v x ps es k2 ks xs) j (subst (λ x. AreParts eq m v b ps es x ks xs) l h))
+
+  pub plan_as : (owed : ℕ) (a a2 : Assigned K V) (ks ls : List K) (ps : List (K × Share K (Held K V))) (d : DeskSeen K V) (es : List (K × Stored K V)) (s : Seen K V) (z : Plan U K V R) → a ≡ a2 → ks ≡ ls → IsPlan eq m v owed a ks ps d es s z → IsPlan eq m v2 owed a2 ls ps d es s z
+  plan_as owed a a2 ks ls ps d es s z i j h = subst (λ x. IsPlan eq m x owed a2 ls ps d es s z) same (subst (λ x. IsPlan eq m v owed x ls ps d es s z) i (subst (λ x. IsPlan eq m v owed a x ps d es s z) j h))
+
+module _ {K V : Type 0} (eq : K → K → Bool) (m : Meaning K V) (v v2 : ℕ) (same : v ≡ v2) where
+  pub takes_as : (a a2 : Assigned K V) (ks ls : List K) (ps qs : List (K × Share K (Held K V))) (d e : DeskSeen K V) → a ≡ a2 → ks ≡ ls → TakesUp eq m v a ks ps d qs e → TakesUp eq m v2 a2 ls ps d qs e
+  takes_as a a2 ks ls ps qs d e i j h = subst (λ x. TakesUp eq m x a2 ls ps d qs e) same (subst (λ x. TakesUp eq m v x ls ps d qs e) i (subst (λ x. TakesUp eq m v a x ps d qs e) j h))
+
+  pub hand_as : (w : World K V) (owed : ℕ) (ps : List (K × Share K (Held K V))) (d : DeskSeen K V) (es : List (K × Stored K V)) (s : Seen K V) → AtHand eq m v w owed ps d es s → AtHand eq m v2 w owed ps d es s
+  hand_as w owed ps d es s h = subst (λ x. AtHand eq m x w owed ps d es s) same h
