@@ -175,7 +175,7 @@ module _ {K V : Type 0} (eq : K → K → Bool) (equality : IsEquality eq) (m : 
       (all_wanted_made eq equality m law R v (asked_of eq ps) (asked_of eq qs) h.wanted k made.live may.wanted)
 
   -- the asks are the same where the task of k, which asks for nothing, withdraws its own
-  same_asks : (W : List K) (R : List (Told K V)) → VersionStands eq m R v W (asked_of eq ps) (tasks_of eq ps) → is_going (tasks_of eq ps k) ≡ false → ((q : K) (a : By K) → asks eq qs q a ≡ (asks eq ps q a && not (is_by eq (Tasked k) a))) → SameAsks eq (asked_of eq ps) (asked_of eq qs)
+  pub same_asks : (W : List K) (R : List (Told K V)) → VersionStands eq m R v W (asked_of eq ps) (tasks_of eq ps) → is_going (tasks_of eq ps k) ≡ false → ((q : K) (a : By K) → asks eq qs q a ≡ (asks eq ps q a && not (is_by eq (Tasked k) a))) → SameAsks eq (asked_of eq ps) (asked_of eq qs)
   same_asks W R h still off q a = off q a ∙ by_asker a
     where
       kept : (b : Bool) → (b && true) ≡ b

@@ -192,18 +192,18 @@ either_part false b e = inr e
 
 
 module _ {K : Type 0} where
-  key_there : (xs : List (WaitOf K)) (x : WaitOf K) → Has xs x → Has (map (λ y. y.key) xs) x.key
+  pub key_there : (xs : List (WaitOf K)) (x : WaitOf K) → Has xs x → Has (map (λ y. y.key) xs) x.key
   key_there [] x h = h
   key_there (y ∷ xs) x (inl e) = inl (ap (λ (z : WaitOf K). z.key) e)
   key_there (y ∷ xs) x (inr h) = inr (key_there xs x h)
 
-  wait_of : (xs : List (WaitOf K)) (q : K) → Has (map (λ y. y.key) xs) q → (x : WaitOf K) × Has xs x × (x.key ≡ q)
+  pub wait_of : (xs : List (WaitOf K)) (q : K) → Has (map (λ y. y.key) xs) q → (x : WaitOf K) × Has xs x × (x.key ≡ q)
   wait_of [] q h = absurd h
   wait_of (y ∷ xs) q (inl e) = (y, inl refl, e)
   wait_of (y ∷ xs) q (inr h) = let r = wait_of xs q h in (r.0, inr r.1, r.2)
 
 module _ {K : Type 0} (eq : K → K → Bool) (equality : IsEquality eq) (k : K) where
-  waits_there : (xs : List (WaitOf K)) → ((x : WaitOf K) → Has xs x → x.asker ≡ k) → (q : K) → Has (map (λ y. y.key) xs) q → waits_so eq xs q (Tasked k) ≡ true
+  pub waits_there : (xs : List (WaitOf K)) → ((x : WaitOf K) → Has xs x → x.asker ≡ k) → (q : K) → Has (map (λ y. y.key) xs) q → waits_so eq xs q (Tasked k) ≡ true
   waits_there [] own q h = absurd h
   waits_there (y ∷ xs) own q (inl e) =
       let a : eq y.key q ≡ true = subst (λ z. eq y.key z ≡ true) e (equality.itself y.key) in
@@ -215,7 +215,7 @@ module _ {K : Type 0} (eq : K → K → Bool) (equality : IsEquality eq) (k : K)
   by_only j own (Promised n) e = let c : false ≡ true = e in cc
   by_only j own (Tasked i) e = ap Tasked (sym (equality.same j i e) ∙ own)
 
-  waits_only : (xs : List (WaitOf K)) → ((x : WaitOf K) → Has xs x → x.asker ≡ k) → (q : K) (a : By K) → waits_so eq xs q a ≡ true → Has (map (λ y. y.key) xs) q × (a ≡ Tasked k)
+  pub waits_only : (xs : List (WaitOf K)) → ((x : WaitOf K) → Has xs x → x.asker ≡ k) → (q : K) (a : By K) → waits_so eq xs q a ≡ true → Has (map (λ y. y.key) xs) q × (a ≡ Tasked k)
   waits_only [] own q a e = let c : false ≡ true = e in cc
   waits_only (y ∷ xs) own q a e = elim (either_part (eq y.key q && is_by eq (Tasked y.asker) a) (waits_so eq xs q a) e) as (λ _. Has (map (λ z. z.key) (y ∷ xs)) q × (a ≡ Tasked k)) [
     | inl i ↦ let b = both_parts (eq y.key q) (is_by eq (Tasked y.asker) a) i in (inl (equality.same y.key q b.0), by_only y.asker (own y (inl refl)) a b.1)

@@ -1,7 +1,7 @@
 pub mod Askings
 pub mod AtHand
 pub mod Batches
-pub mod Closings
+pub mod Circles
 pub mod Commits
 pub mod Cores
 pub mod Endings

@@ -13,7 +13,8 @@ use Rattle.cycle_guard.specs.Circle.{IsCircle}
 use Rattle.injected.specs.Seen.{Seen, cell_at}
 use Rattle.versioned_graph.specs.Entries.{Stored, entry_at}
 use Rattle.versioned_graph.specs.Looks.{Matches, look}
-use Rattle.core_laws.specs.Tasks.{Standing, Works, Ended, WithValue, WithCycle, WithNothing, value_of}
+use Rattle.core_laws.specs.Tasks.{value_of}
+use Rattle.dice_core.specs.Circles.{path_with}
 use Rattle.dice_core.specs.Helds.{Held, Ahead}
 use Rattle.dice_core.specs.Hands.{DeskSeen, HasDeskRoom, tasks_of}
 use Rattle.dice_core.specs.Makings.{IsMaking, IsOfKey}
@@ -36,19 +37,6 @@ module _ {U K V R : Type 0} where
 
   abbrev pub waits_of : K → List (Part U K V R) → List (WaitOf K)
   waits_of k xs = map (wait_for k) (filter (λ (p : Part U K V R). p.awaited) xs)
-
-module _ {K V : Type 0} where
-  -- the circle with which a task has ended
-  abbrev pub path_in : Standing K V → Option (List K)
-  path_in (Works w p A) = None
-  path_in (Ended (WithValue x)) = None
-  path_in (Ended (WithCycle p)) = Some p
-  path_in (Ended WithNothing) = None
-
-  -- the same of a task that may not be there
-  abbrev pub path_with : Option (Held K V) → Option (List K)
-  path_with None = None
-  path_with (Some h) = path_in h.standing
 
 module _ {U K V R : Type 0} (eq : K → K → Bool) (ps : List (K × Share K (Held K V))) (q : K) where
   -- whether the key is waited for, where this is made of it: a task that is at work, or comes to be

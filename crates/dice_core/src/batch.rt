@@ -157,8 +157,7 @@ pub(crate) fn ask_batch<U: Universe>(
 {
     laws_of::<U>();
     let version = step.assignment().name().version();
-    let planned = plan_step::<U>(alloc, universe, cells, graph, desk, tasks, owed, &step);
-    let (key, plan) = match planned {
+    let (key, plan) = match plan_step::<U>(alloc, universe, cells, graph, desk, tasks, owed, &step) {
         Ok(planned) => planned,
         Err(refused) => return Err((refused, step)),
     };

@@ -2,10 +2,7 @@
 #![tactic(auto)]
 
 mod anew;
-mod ask;
-mod asking;
 mod batch;
-mod close;
 mod commit;
 mod desk;
 mod end;
@@ -14,9 +11,7 @@ mod giving;
 mod jobs_out;
 mod machine;
 mod make;
-mod opening;
 mod plan;
-mod polled;
 mod sessions;
 mod shelf;
 mod task;

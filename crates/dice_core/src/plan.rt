@@ -12,8 +12,9 @@ ghost use Rattle.versioned_graph.specs.Looks.{Matches, look};
 ghost use Rattle.core_laws.specs.Tasks.{value_of};
 ghost use Rattle.core_laws.specs.Desk.{World};
 ghost use Rattle.dice_core.specs.AtHand.{AtHand};
+ghost use Rattle.dice_core.specs.Circles.{path_with};
 ghost use Rattle.dice_core.specs.Hands.{KeepsHands, KeepsDeskRoom, tasks_of};
-ghost use Rattle.dice_core.specs.Plans.{key_in, path_with, waits_of, is_awaited, HasNoPath, IsPathAt, IsAtHand, HasNone, IsPart, IsSurvey, ArePlaced, IsPlan};
+ghost use Rattle.dice_core.specs.Plans.{key_in, waits_of, is_awaited, HasNoPath, IsPathAt, IsAtHand, HasNone, IsPart, IsSurvey, ArePlaced, IsPlan};
 
 use crate::Tasks;
 use crate::commit::note;
@@ -83,24 +84,32 @@ pub(crate) fn plan_batch<U: Universe>(
     ensures plan { IfOk result (IsPlan U.Key.eq U.meaning assignment.now.name.version owed assignment.now batch.now tasks.new desk.new graph.now cells.now) }
 {
     laws_of::<U>();
-    let version = assignment.name().version();
-    let own = assignment.name().key();
-    let born = desk.journal().len() as u64;
-    let looked_over = look_over::<U>(alloc, universe, graph, tasks, version, own, batch, born)?;
-    let parts = match looked_over {
+    let name = assignment.name();
+    let version = name.version();
+    let own = name.key();
+    let born = told_so_far::<U>(desk);
+    let parts = match look_over::<U>(alloc, universe, graph, tasks, version, own, batch, born)? {
         Survey::Circle(path) => return Ok(Plan::Ends(path)),
         Survey::Parts(parts) => parts,
     };
     let waits = reserve_parts::<U>(alloc, tasks, own, &parts)?;
-    desk.reserve(owed, parts.len(), parts.len())?;
-    if waits.is_empty() {
-        let answers = answers_of::<U>(alloc, universe, cells, graph, tasks, version, batch)?;
-        if let Some(answers) = answers {
-            let next = Next::of_batch(assignment, batch, answers)?;
-            return Ok(Plan::GoesOn(parts, next));
-        }
+    let count = parts.len();
+    desk.reserve(owed, count, count)?;
+    if !waits.is_empty() {
+        return Ok(Plan::Waits(parts, waits));
     }
-    Ok(Plan::Waits(parts, waits))
+    let Some(answers) = answers_of::<U>(alloc, universe, cells, graph, tasks, version, batch)? else {
+        return Ok(Plan::Waits(parts, waits));
+    };
+    let next = Next::of_batch(assignment, batch, answers)?;
+    Ok(Plan::GoesOn(parts, next))
+}
+
+/// How many events the journal has.
+fn told_so_far<U: Universe>(desk: &Desk<U>) -> u64
+    ensures { result ≡ length desk.now.events }
+{
+    desk.journal().len() as u64
 }
 
 /// What the keys of a batch come to, in their order: where one comes to a circle the others are not looked at. It changes nothing.

@@ -9,10 +9,11 @@ ghost use Rattle.dice_jobs.specs.Shapes.{work_of};
 ghost use Rattle.core_laws.specs.Tasks.{Phase, IsReady, IsOut, IsWaiting, Ended, WithValue, WithNothing, goes_on, waits_for, value_in};
 ghost use Rattle.core_laws.specs.Desk.{ready_in, out_in};
 ghost use Rattle.dice_core.specs.Helds.{came, held_of, held_ended, FollowsOn};
+ghost use Rattle.dice_core.specs.Circles.{path_in};
 ghost use Rattle.dice_core.specs.Loads.{AreCopies};
 
 use dice_jobs::{Assignment, Earlier, Job, JobName, Parked, Step};
-use dice_key::{Answers, Batch, KeyRef, NoMemory, Universe, ValueRef};
+use dice_key::{Answers, Batch, KeyRef, NoMemory, Path, Universe, ValueRef};
 use std::alloc::Global;
 use std::marker::Model;
 use std::mem;
@@ -65,6 +66,20 @@ impl<U: Universe> Next<U> {
         ensures { IfOk result (λ n. n ≡ record { job = answered_more parked.now.job parked.now.keys answers; values = answers }) }
     {
         let job = parked.answered(&answers)?;
+        let own = job.try_clone()?;
+        Ok(Next { own, job, answers })
+    }
+
+    /// What a job goes on with when the batch that it asks has these answers, a value for each key.
+    pub(crate) fn of_batch(
+        assignment: &Assignment<U>,
+        batch: &Batch<U::Key>,
+        answers: Answers<U::Value>,
+    ) -> Result<Next<U>, NoMemory>
+        requires { length answers ≡ length batch.now }
+        ensures { IfOk result (λ n. n ≡ record { job = answered_more assignment.now batch.now answers; values = answers }) }
+    {
+        let job = assignment.extended(batch, &answers)?;
         let own = job.try_clone()?;
         Ok(Next { own, job, answers })
     }
@@ -327,6 +342,16 @@ impl<U: Universe> Task<U> {
     {
         match self.outcome() {
             Some(Outcome::Value(value)) => Some(value),
+            _ => None,
+        }
+    }
+
+    /// The circle that the task ended with, where it has.
+    pub(crate) fn circle(&self) -> Option<&Arc<Path<U::Key>>>
+        ensures { option_map (λ p. arc_value p.now) result ≡ path_in self.now.standing }
+    {
+        match self.outcome() {
+            Some(Outcome::Cycle(path)) => Some(path),
             _ => None,
         }
     }
