@@ -2,6 +2,7 @@ pub mod Askings
 pub mod AtHand
 pub mod Batches
 pub mod Circles
+pub mod Closings
 pub mod Commits
 pub mod Cores
 pub mod Endings
