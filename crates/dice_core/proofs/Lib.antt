@@ -5,6 +5,7 @@ pub mod BackLemmas
 pub mod BatchLemmas
 pub mod CascadeLemmas
 pub mod CloseLemmas
+pub mod ClosedLemmas
 pub mod CommitLaws
 pub mod CommitLemmas
 pub mod CoreLemmas
@@ -32,6 +33,7 @@ pub mod Parts
 pub mod PlacedLemmas
 pub mod PlanLemmas
 pub mod PollLemmas
+pub mod PublicLemmas
 pub mod QuietLemmas
 pub mod ResultLemmas
 pub mod SeenLemmas

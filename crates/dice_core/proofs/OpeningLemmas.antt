@@ -1,5 +1,5 @@
 -- A transaction that is opened, and an ask that is left, over all versions.
-use Rattle.std.proofs.Common.{◌≡◌, ◌<◌, ◌≤◌, ◌+◌, ◌*◌, ◌++◌, ℕ, Bool, true, false, cond, nat_eq, eqb, List, [], ◌∷◌, length, map, reverse, Option, Some, None, is_some, refl, sym, ap, ◌∙◌, subst, arith, append_assoc}
+use Rattle.std.proofs.Common.{◌≡◌, ◌<◌, ◌≤◌, ◌+◌, ◌*◌, ◌++◌, ℕ, Bool, true, false, cond, nat_eq, eqb, List, [], ◌∷◌, length, map, reverse, Option, Some, None, is_some, unwrap_or, refl, sym, ap, ◌∙◌, subst, arith, append_assoc}
 use Rattle.std.specs.Map.{lookup}
 use Rattle.std.specs.Option.{option_map}
 use Rattle.std.proofs.lemmas.Bool.{eqb-true}
@@ -14,6 +14,7 @@ use Rattle.journal.specs.Events.{Opened, Asking, one_if, commits_of, open_at, op
 use Rattle.versioned_graph.specs.Entries.{Stored}
 use Rattle.core_laws.specs.Desk.{World, Desk, Rests, AreAll, is_out}
 use Rattle.core_laws.proofs.Indices.{opened_counts}
+use Rattle.core_laws.proofs.Opens.{there_open}
 use Rattle.core_laws.proofs.StepsRests.{rests_open}
 use Rattle.dice_core.specs.Askings.{IsAskAt, DropsAfter, StaysAtHand}
 use Rattle.dice_core.specs.AtHand.{AtHand}
@@ -21,13 +22,13 @@ use Rattle.dice_core.specs.Commits.{SameSets, CellsStand}
 use Rattle.dice_core.specs.Entries.{EntriesStand}
 use Rattle.dice_core.specs.Hands.{DeskSeen, desk_of, tasks_of, with_event, KeepsHands, KeepsDeskRoom, HasDeskRoom}
 use Rattle.dice_core.specs.Helds.{Held}
-use Rattle.dice_core.specs.Sessions.{SessionsSeen, owed, IsSame, Opens, Leaves, SessionsStand}
-use Rattle.dice_core.specs.Cores.{CoreSeen, past_of, table_at, has_table, held_in, world_of, core_of, PutsTable, IsAsBefore, KeepsTasksOf, CoreStands, WorksOn}
+use Rattle.dice_core.specs.Sessions.{SessionSeen, SessionsSeen, opened_of, session_at, transaction_at, ask_at, owed, IsSame, Opens, Leaves, SessionsStand}
+use Rattle.dice_core.specs.Cores.{CoreSeen, past_of, table_at, has_table, held_in, world_of, core_of, PutsTable, Turned, IsAsBefore, KeepsTasksOf, CoreStands, WorksOn}
 use Rattle.dice_core.proofs.CoreLemmas.{in_hand, put_back_so}
 use Rattle.dice_core.proofs.EndsLemmas.{back_more}
 use Rattle.dice_core.proofs.EntriesLemmas.{stand_open}
 use Rattle.dice_core.proofs.EventLemmas.{all_drops, all_works, sessions_works, count_works}
-use Rattle.dice_core.proofs.SessionLemmas.{leaves_stand}
+use Rattle.dice_core.proofs.SessionLemmas.{leaves_stand, asking_opened}
 
 -- other asks and transactions of the sessions are as they were
 pub same_sessions : {K : Type 0} (x : SessionsSeen K) → IsSame x x
@@ -111,3 +112,60 @@ module _ {K V : Type 0} (eq : K → K → Bool) (equality : IsEquality eq) (m : 
       where
         works : WorksOn v (d.events ++ Leave by i ∷ []) e.events
         works = (map (Drop v) ks, drops.events ∙ sym (append_assoc d.events (Leave by i ∷ []) (map (Drop v) ks)), all_works v (map (Drop v) ks) (all_drops V v ks))
+
+-- an empty table was put where there was none
+module _ {K V : Type 0} (ts us : List (ℕ × List (K × Share K (Held K V)))) (n : ℕ) (t : List (K × Share K (Held K V))) (empty : t ≡ []) (none : is_some (lookup (nat_eq n) ts) ≡ false) (put : (q : ℕ) → lookup (nat_eq q) us ≡ cond (nat_eq n q) (Some t) (lookup (nat_eq q) ts)) where
+  none_is : (o : Option (List (K × Share K (Held K V)))) → is_some o ≡ false → unwrap_or o [] ≡ []
+  none_is None e = refl
+  none_is (Some x) e = let c : true ≡ false = e in cc
+
+  pub placed_same : (v : ℕ) → table_at us v ≡ table_at ts v
+  placed_same v = ap (λ (o : Option (List (K × Share K (Held K V)))). unwrap_or o []) (put v) ∙ by_test (nat_eq n v) refl
+    where
+      by_test : (b : Bool) → nat_eq n v ≡ b → unwrap_or (cond b (Some t) (lookup (nat_eq v) ts)) [] ≡ table_at ts v
+      by_test true e = empty ∙ sym (subst (λ z. table_at ts z ≡ []) (eqb-true n v e) (none_is (lookup (nat_eq n) ts) none))
+      by_test false e = refl
+
+  pub placed_stays : (v : ℕ) → has_table ts v ≡ true → has_table us v ≡ true
+  placed_stays v h = ap is_some (put v) ∙ by_test (nat_eq n v)
+    where
+      by_test : (b : Bool) → is_some (cond b (Some t) (lookup (nat_eq v) ts)) ≡ true
+      by_test true = refl
+      by_test false = h
+
+module _ {K V : Type 0} where
+  -- an ask that is left was in an open transaction, which stays
+  pub left_session : (R : List (Told K V)) (i : ℕ) (a : Asking K) (x y : SessionsSeen K) → SessionsStand R x → ask_at x i ≡ Some a → Leaves i a x y → (o : Opened) × (transaction_at y a.opened ≡ Some o) × (open_at R a.opened ≡ Some o) × (live_at R i ≡ Some a)
+  left_session R i a x y st e l = let w = asking_opened R x i a st e in (w.0, l.transactions a.opened ∙ w.1, sym (st.transactions a.opened) ∙ w.1, sym (st.asks i) ∙ e)
+
+  -- the session that is found has the version of its transaction
+  pub session_version : (y : SessionsSeen K) (t : ℕ) (o : Opened) (z : SessionSeen) → transaction_at y t ≡ Some o → session_at y t ≡ Some z → o.version ≡ z.version
+  session_version y t o z e f = let g : Some (opened_of z) ≡ Some o = sym (ap (option_map opened_of) f) ∙ e in let h : opened_of z ≡ o = cc in ap (λ (p : Opened). p.version) (sym h)
+
+  pub no_session : (y : SessionsSeen K) (t : ℕ) (o : Opened) → transaction_at y t ≡ Some o → session_at y t ≡ None → ⊥
+  no_session y t o e f = let g : None ≡ Some o = sym (ap (option_map opened_of) f) ∙ e in cc
+
+  -- at the version of its session
+  pub leave_at : (R : List (Told K V)) (i : ℕ) (a : Asking K) (x y : SessionsSeen K) (z : SessionSeen) (t v : ℕ) → SessionsStand R x → ask_at x i ≡ Some a → Leaves i a x y → t ≡ a.opened → session_at y t ≡ Some z → v ≡ z.version
+      → (o : Opened) × (live_at R i ≡ Some a) × (open_at R a.opened ≡ Some o) × (o.version ≡ v) × (opened_at R v a.opened ≡ true)
+  leave_at R i a x y z t v st e l same found at =
+      let w = left_session R i a x y st e l in
+      let version : w.0.version ≡ v = session_version y a.opened w.0 z w.1 (subst (λ n. session_at y n ≡ Some z) same found) ∙ sym at in
+      (w.0, w.3, w.2, version, there_open R v a.opened w.0 w.2 version)
+
+  -- where no session is found nothing was asked
+  pub leave_none : (R : List (Told K V)) (i : ℕ) (a : Asking K) (x y : SessionsSeen K) (t : ℕ) → SessionsStand R x → ask_at x i ≡ Some a → Leaves i a x y → t ≡ a.opened → session_at y t ≡ None → ⊥
+  leave_none R i a x y t st e l same none = let w = left_session R i a x y st e l in no_session y a.opened w.0 w.1 (subst (λ n. session_at y n ≡ None) same none)
+
+-- what is told where an ask is left
+pub left_log : {K V : Type 0} (eq : K → K → Bool) (m : Meaning K V) (R : List (Told K V)) (v by i : ℕ) (a : Asking K) (o : Opened) (ks : List K) (d e : DeskSeen K V) (ts us : List (ℕ × List (K × Share K (Held K V)))) (ps qs : List (K × Share K (Held K V)))
+    → live_at R i ≡ Some a → open_at R a.opened ≡ Some o → o.version ≡ v → by ≡ a.by → table_at ts v ≡ ps → PutsTable v qs ts us → DropsAfter eq v (Leave by i ∷ []) ks ps qs d e
+    → (b : Asking K) × (p : Opened) × (ls : List K) × (live_at R i ≡ Some b) × (open_at R b.opened ≡ Some p) × Turned eq m p.version ts us (λ x y. DropsAfter eq p.version (Leave b.by i ∷ []) ls x y d e)
+left_log eq m R v by i a o ks d e ts us ps qs live op at his found put drops = (
+  a, o, ks, live, op,
+  subst (λ z. Turned eq m z ts us (λ x y. DropsAfter eq z (Leave a.by i ∷ []) ks x y d e)) (sym at) (record {
+    tasks = qs;
+    put = put;
+    turned = subst (λ n. DropsAfter eq v (Leave n i ∷ []) ks (table_at ts v) qs d e) his (subst (λ x. DropsAfter eq v (Leave by i ∷ []) ks x qs d e) (sym found) drops);
+  }),
+)

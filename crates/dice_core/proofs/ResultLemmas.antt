@@ -43,6 +43,10 @@ pub on_ok : {X E : Type 0} (r : Result X E) {A B : Type 0} → OnOk r A → (A �
 on_ok (Ok x) a f = f a
 on_ok (Err e) a f = tt
 
+pub both_ok : {X E : Type 0} (r : Result X E) {A B : Type 0} → OnOk r A → OnOk r B → OnOk r (A × B)
+both_ok (Ok x) a b = (a, b)
+both_ok (Err e) a b = tt
+
 -- there are no more commits than events
 pub commits_within : {K V : Type 0} (R : List (Told K V)) → length (commits_of R) ≤ length R
 commits_within [] = omega arith

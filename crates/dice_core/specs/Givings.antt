@@ -7,10 +7,10 @@ use Rattle.task_share.specs.Seen.{Share, task_at}
 use Rattle.journal.specs.declared.event.Told.{Told}
 use Rattle.journal.specs.declared.event.Told.TheVariants.{Start, Keep, End}
 use Rattle.journal.specs.declared.event.Reason.TheVariants.{Differs}
-use Rattle.core_laws.specs.Tasks.{IsOut}
+use Rattle.core_laws.specs.Tasks.{IsOut, Outcome as Ended}
 use Rattle.dice_core.specs.Helds.{Held, held_of}
 use Rattle.dice_core.specs.Hands.{DeskSeen}
-use Rattle.dice_core.specs.Batches.{LeavesOut, IsToldOf}
+use Rattle.dice_core.specs.Batches.{LeavesOut, IsOfMakes, ending_events}
 use Rattle.dice_core.specs.Cores.{WorksOn, IsWorkAt}
 use Rattle.dice_core.specs.declared.giving.Gave.{Gave}
 use Rattle.dice_core.specs.declared.giving.Gave.TheVariants.{Taken, Stale}
@@ -27,7 +27,7 @@ module _ {K V : Type 0} (v : ℕ) (k : K) where
   IsToldBy w (Valued x) es = es ≡ End v k ∷ []
   IsToldBy w Unchanged es = (x : V) × (T : List (Answered K V)) × (b : ℕ) × (w ≡ Checks x T b) × (es ≡ Keep v k b ∷ [])
   IsToldBy w (Changed d) es = (x : V) × (T : List (Answered K V)) × (b : ℕ) × (w ≡ Checks x T b) × (es ≡ Start v k (Differs b d) ∷ [])
-  IsToldBy w (Wanting ks) es = IsToldOf v ks es
+  IsToldBy w (Wanting ks) es = AllByRecursion (IsOfMakes v ks) es ⊎ ((os : List (K × Ended K V)) × (ds : List K) × (es ≡ ending_events v os ds))
 
 module _ {K V : Type 0} (eq : K → K → Bool) (v : ℕ) (s : Stepped K V) where
   -- the step is taken up: its job is out no more; no other job comes to be out, and all others that are out stay so or their tasks go; and all

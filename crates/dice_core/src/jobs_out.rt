@@ -7,9 +7,14 @@ ghost use Rattle.dice_jobs.specs.Jobs.{Assigned};
 ghost use Rattle.core_laws.specs.Tasks.{IsOut};
 ghost use Rattle.dice_core.specs.Helds.{held_of};
 ghost use Rattle.dice_core.specs.Waitings.{TakesJob, ReturnsJob};
-ghost use Rattle.dice_core.specs.Askings.{MayBeAtHand, StaysAtHand};
+ghost use Rattle.injected.specs.Seen.{Seen};
+ghost use Rattle.versioned_graph.specs.Entries.{Stored};
+ghost use Rattle.core_laws.specs.Desk.{World};
+ghost use Rattle.dice_core.specs.AtHand.{AtHand};
+ghost use Rattle.dice_core.specs.Askings.{MayBeAtHand};
 ghost use Rattle.dice_core.specs.Endings.{path_of, ReachesPath, GivesUpAll, IsJobNamed};
-ghost use Rattle.dice_core.specs.Cores.{table_at, PutsTable, Turned, MayStand, StandsOn};
+ghost use Rattle.dice_core.specs.Cores.{table_at, core_of, Turned, IsAsBefore, MayStand, StandsOn};
+ghost use Rattle.dice_core.specs.Sessions.{SessionsSeen};
 
 use crate::Tasks;
 use crate::desk::Desk;
@@ -47,12 +52,13 @@ pub(crate) fn bring_back<U: Universe>(
     job: Job<U>,
 ) -> Option<Job<U>>
     requires stands { MayStand U.Key.eq U.meaning desk.old versions.old.entries }
-    ensures other { IfSome result (λ j. (j ≡ job) × (desk.new ≡ desk.old) × (task_at U.Key.eq (table_at versions.old.entries job.name.version) job.name.key ≡ Some (held_of job IsOut) → ⊥)) }
+    ensures other { IfSome result (λ j. (j ≡ job) × ((es : List (U.Key × Stored U.Key U.Value)) (s : Seen U.Key U.Value) (x : SessionsSeen U.Key) → IsAsBefore U.Key.eq (core_of desk.old versions.old.entries es s x) (core_of desk.new versions.new.entries es s x)) × (task_at U.Key.eq (table_at versions.old.entries job.name.version) job.name.key ≡ Some (held_of job IsOut) → ⊥)) }
     ensures back { IfNone result (Turned U.Key.eq U.meaning job.name.version versions.old.entries versions.new.entries (λ ps qs. ReturnsJob U.Key.eq job.name.version job.name.key job job ps qs desk.old desk.new)) }
     ensures kept { StandsOn U.Key.eq U.meaning desk.old versions.old.entries desk.new versions.new.entries }
 {
     laws_of::<U>();
-    let Some(tasks) = versions.get_mut(&job.name().version()) else {
+    let version = job.name().version();
+    let Some(tasks) = versions.get_mut(&version) else {
         return Some(job);
     };
     put_back::<U>(desk, tasks, job)
@@ -119,7 +125,7 @@ pub(crate) fn give_up<U: Universe>(
     requires live { is_live U.Key.eq tasks.old (arc_value key.now) ≡ true }
     requires reached { ReachesPath U.Key.eq U.meaning (path_of how.now) (commits_of (reverse desk.old.events)) version (arc_value key.now) }
     ensures ends { GivesUpAll U.Key.eq version (path_of how.now) (arc_value key.now) tasks.old tasks.new desk.old desk.new }
-    ensures kept { StaysAtHand U.Key.eq U.meaning version 0 tasks.old desk.old tasks.new desk.new }
+    ensures kept { (w : World U.Key U.Value) (owed : ℕ) (es : List (U.Key × Stored U.Key U.Value)) (s : Seen U.Key U.Value) → AtHand U.Key.eq U.meaning version w owed tasks.old desk.old es s → AtHand U.Key.eq U.meaning version w owed tasks.new desk.new es s }
 {
     laws_of::<U>();
     end_all::<U>(desk, tasks, version, key, how);

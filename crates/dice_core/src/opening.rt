@@ -35,9 +35,10 @@ fn place_table<U: Universe>(
     ensures ok { OnOk result (has_table versions.new.entries version ≡ true) }
 {
     laws_of::<U>();
-    if !versions.contains_key(&version) {
-        let _ = versions.insert(version, Table::new(alloc))?;
+    if versions.contains_key(&version) {
+        return Ok(());
     }
+    let _ = versions.insert(version, Table::new(alloc))?;
     Ok(())
 }
 
@@ -167,7 +168,8 @@ pub(crate) fn close_in<U: Universe>(
         return;
     };
     close_asks::<U>(desk, tasks, sessions, session, version, tx);
-    if sessions.open_count(version) == 0 {
-        versions.remove(&version);
+    if sessions.open_count(version) != 0 {
+        return;
     }
+    versions.remove(&version);
 }
