@@ -32,7 +32,7 @@ use Rattle.dice_core.specs.Endings.{TellsEnd, BeginsAnew, AreTasked}
 use Rattle.dice_core.specs.Entries.{EntriesStand}
 use Rattle.dice_core.specs.Commits.{CellsStand}
 use Rattle.dice_core.specs.AtHand.{AtHand}
-use Rattle.dice_core.specs.Waitings.{Wakes, MayWake, IsTurned}
+use Rattle.dice_core.specs.Waitings.{Wakes, MayWake}
 use Rattle.dice_core.specs.Wokens.{AsksAlone, IsAnswered, AreWoken, WakesSo}
 use Rattle.dice_core.specs.Finishings.{EndsWith, EndsAndWakes}
 use Rattle.dice_core.proofs.EndsLemmas.{back_more}
@@ -282,15 +282,6 @@ module _ {K V : Type 0} (eq : K → K → Bool) (equality : IsEquality eq) (m : 
   module _ (ps qs : List (K × Share K (Held K V))) (d e : DeskSeen K V) (g h : Held K V) (c : Reason K) (begins : BeginsAnew eq v k h g (Start v k c) ps qs d e) where
     pub begun_events : e.events ≡ d.events ++ Start v k c ∷ []
     begun_events = ap (λ (y : DeskSeen K V). y.events) begins.desk ∙ ap (λ (J : List (Told K V)). J ++ Start v k c ∷ []) begins.returns.rest.events
-
-    pub is_turned : (a : Assigned K V) → task_at eq ps k ≡ Some (held_of a IsOut) → (b : Held K V) → g ≡ b → IsTurned eq k (held_of a IsOut) b ps qs
-    is_turned a out b i = record {
-      was = out;
-      tasks = λ q. begins.tasks q ∙ ap (λ (z : Held K V). cond (eq k q) (Some z) (task_at eq ps q)) i;
-      live = begins.live;
-      asks = begins.asks;
-      room = begins.room;
-    }
 
     pub at_begun : (w : World K V) (owed : ℕ) (es : List (K × Stored K V)) (s : Seen K V) → AtHand eq m v w owed ps d es s → Working eq m v [] w owed qs e → AreTasked eq qs → AtHand eq m v w owed qs e es s
     at_begun w owed es s at work tasked = record {
