@@ -1,4 +1,4 @@
-use Rattle.std.proofs.Common.{◌≡◌, ◌≢◌, ◌+◌, ◌∙◌, [], refl, sym, ap, subst, arith, reverse, Some}
+use Rattle.std.proofs.Common.{◌≡◌, ◌≢◌, ◌+◌, ◌∙◌, [], sym, ap, subst, arith, reverse, Some}
 use Rattle.std.specs.Arc.{arc_value}
 use Rattle.dice_key.specs.declared.universe.Kind.TheVariants.{Injected}
 use Rattle.dice_jobs.specs.Jobs.{Name, Assigned, Checks}
@@ -57,7 +57,7 @@ returns-clause-kept g c w es s at0 =
     let at = at_room eq m v w c.args.owed ps c.args.desk.now d es s c.reserve.ensures.same c.reserve.ensures.room at0 in
     let more = (let h = c.in_ok-reserve.ensures.ok.spare in working_room eq m v [] w c.args.owed (c.args.owed + 1) ps c.args.desk.now d c.reserve.ensures.same (omega arith) at0.working) in
     let work = c.differ.ensures.kept w [] c.args.owed x T job.answered base dep more is (c.requires.out ∙ ap (λ (z : Assigned g.row.U-Key.Denot g.row.U-Value.Denot). Some (held_of z IsOut)) same)
-      (changed_first m g.U.Value.PartialEq.eq job step c.requires.step x T base (sym c.requires.earlier) dep c.requires.differs) in
+    (changed_first m g.U.Value.PartialEq.eq job step c.requires.step x T base (sym c.requires.earlier) dep c.requires.differs) in
     let b = c.differ.ensures.begun in
     let begins = subst (λ t. BeginsAnew eq v k (held_of (record { name = c.begin-job.result.name; answered = b.3; work = Checks b.0 b.1 b.2 }) IsOut) (held_of c.begin-job.result IsReady) t ps c.differ.new.tasks d c.differ.new.desk) is b.4 in
     at_begun eq keys m law v k ps c.differ.new.tasks d c.differ.new.desk _ _ (Differs base dep) begins w c.args.owed es s at work (c.differ.ensures.tasked at0.tasked)
