@@ -1,12 +1,11 @@
 -- Steps that ask no batch keep what holds while a call works.
-use Rattle.std.proofs.Common.{◌≡◌, ◌≢◌, ◌≤◌, ◌<◌, ◌⊎◌, inl, inr, ◌+◌, ◌*◌, ℕ, Bool, true, false, cond, not, ◌&&◌, List, [], ◌∷◌, ◌++◌, length, map, reverse, Option, Some, None, refl, sym, ap, ◌∙◌, subst, arith}
+use Rattle.std.proofs.Common.{◌≡◌, ◌≢◌, ◌≤◌, ◌<◌, ◌⊎◌, inl, inr, ◌+◌, ◌*◌, ℕ, Bool, true, false, cond, not, ◌&&◌, List, [], ◌∷◌, ◌++◌, length, map, reverse, Option, Some, refl, sym, ap, ◌∙◌, subst, arith}
 use Rattle.std.proofs.lemmas.Option.{same_Some, none-some}
 use Rattle.std.specs.Option.{option_map}
 use Rattle.dice_key.specs.Lawful.{IsEquality, IsLawful}
 use Rattle.dice_key.specs.Meaning.{Meaning, Answered, Step, Asks, Ends}
 use Rattle.dice_key.specs.declared.universe.Kind.TheVariants.{Injected}
 use Rattle.dice_model.specs.Log.{Has}
-use Rattle.dice_model.specs.Eval.{HasValue}
 use Rattle.dice_model.specs.Asks.{IsTrace}
 use Rattle.dice_model.proofs.Traces.{trace_value}
 use Rattle.dep_recorder.specs.Checks.{Finding, Wants, IsSame, HasChanged, finding, values_of}
@@ -20,19 +19,19 @@ use Rattle.journal.specs.declared.event.Told.TheVariants.{Start, Keep, End}
 use Rattle.journal.specs.declared.event.Reason.{Reason}
 use Rattle.journal.specs.Events.{commits_of, open_count}
 use Rattle.versioned_graph.specs.Entries.{Stored}
-use Rattle.core_laws.specs.Tasks.{IsReady, IsOut, IsWaiting, WithValue, Works, Task, batch_of, waits_for, goes_on}
+use Rattle.core_laws.specs.Tasks.{IsReady, IsOut, WithValue, Works, batch_of, waits_for, goes_on}
 use Rattle.core_laws.specs.Stands.{VersionStands}
 use Rattle.core_laws.specs.Changes.{ChangesFirst}
 use Rattle.core_laws.specs.Desk.{World, ready_in}
 use Rattle.core_laws.proofs.Shapes.{both_parts, same_or_other}
 use Rattle.core_laws.proofs.Turns.{stands_here}
-use Rattle.dice_core.specs.Helds.{Held, Ahead, FollowsOn, task_of, held_of, held_ended, doing}
+use Rattle.dice_core.specs.Helds.{Held, Ahead, task_of, held_of, held_ended, doing}
 use Rattle.dice_core.specs.Hands.{DeskSeen, desk_of, tasks_of, KeepsHands, KeepsDeskRoom, Working}
 use Rattle.dice_core.specs.Endings.{TellsEnd, BeginsAnew, AreTasked}
 use Rattle.dice_core.specs.Entries.{EntriesStand}
 use Rattle.dice_core.specs.Commits.{CellsStand}
 use Rattle.dice_core.specs.AtHand.{AtHand}
-use Rattle.dice_core.specs.Waitings.{Wakes, MayWake, IsTurned}
+use Rattle.dice_core.specs.Waitings.{Wakes, MayWake}
 use Rattle.dice_core.specs.Wokens.{AsksAlone, IsAnswered, AreWoken, WakesSo}
 use Rattle.dice_core.specs.Finishings.{EndsWith, EndsAndWakes}
 use Rattle.dice_core.proofs.EndsLemmas.{back_more}
@@ -167,13 +166,13 @@ module _ {K V : Type 0} (eq : K → K → Bool) (equality : IsEquality eq) (m : 
         → Working eq m v (k ∷ W) w owed qs e × IsTrace eq m (commits_of (reverse d.events)) v k a.answered x
     ends_on veq s job step ends W w owed work = elim ends as (λ _. Working eq m v (k ∷ W) w owed qs e × IsTrace eq m (commits_of (reverse d.events)) v k a.answered x) [
       | inl i ↦ (
-        let z = valued m veq a x (sym step.outcome ∙ i.0) in
-        let n = work.named k (held_of a IsOut) out in
-        value_on eq equality m law v k h ps qs d e x t tells W w owed work i.1 (held_of a IsOut) a.answered out (ap (λ o. Works (doing o) IsOut a.answered) z.0)
+          let z = valued m veq a x (sym step.outcome ∙ i.0) in
+          let n = work.named k (held_of a IsOut) out in
+          value_on eq equality m law v k h ps qs d e x t tells W w owed work i.1 (held_of a IsOut) a.answered out (ap (λ o. Works (doing o) IsOut a.answered) z.0)
           (subst (λ q. m.next q a.answered v ≡ Ends x) n.1 (subst (λ u. m.next a.name.key a.answered u ≡ Ends x) n.0 z.1)))
       | inr i ↦ (
-        let work_is : a.work ≡ Checks x i.1 i.2 = subst (λ (z : Assigned K V). z.work ≡ Checks x i.1 i.2) job i.3 in
-        kept_on eq equality m law v k h ps qs d e x t tells W w owed work i.2 i.4 (held_of a IsOut) i.1 a.answered out (ap (λ o. Works (doing o) IsOut a.answered) work_is)
+          let work_is : a.work ≡ Checks x i.1 i.2 = subst (λ (z : Assigned K V). z.work ≡ Checks x i.1 i.2) job i.3 in
+          kept_on eq equality m law v k h ps qs d e x t tells W w owed work i.2 i.4 (held_of a IsOut) i.1 a.answered out (ap (λ o. Works (doing o) IsOut a.answered) work_is)
           (unchanged m veq a s step x i.1 i.2 work_is i.0))
     ]
 
@@ -208,9 +207,9 @@ module _ {K V : Type 0} (eq : K → K → Bool) (equality : IsEquality eq) (m : 
             told = so.desk.ended ∙ (told_ended eq v k h (WithValue x) t ps qs d e tells ∙ at.told);
             tasked = tasked;
             done = λ q on. (
-              let b = both_parts (is_live eq ps q) (not (eq k q)) (sym (so.live q ∙ tells.ends.live q) ∙ on) in
-              let r = at.done q b.0 in
-              (r.0, so.elsewhere q r.0 (not_true (eq k q) b.1) ∙ (asked q r.0 ∙ r.1)));
+                let b = both_parts (is_live eq ps q) (not (eq k q)) (sym (so.live q ∙ tells.ends.live q) ∙ on) in
+                let r = at.done q b.0 in
+                (r.0, so.elsewhere q r.0 (not_true (eq k q) b.1) ∙ (asked q r.0 ∙ r.1)));
             opened = subst (λ (R : List (Told K V)). 0 < open_count R v) (sym back) (subst (λ n. 0 < n) (sym (quiet_open (reverse d.events) v)) at.opened);
             entries = subst (λ (R : List (Told K V)). EntriesStand eq m R fs) (sym back) entries;
             cells = subst (λ (R : List (Told K V)). CellsStand eq R s) (sym back) (record {
@@ -282,15 +281,6 @@ module _ {K V : Type 0} (eq : K → K → Bool) (equality : IsEquality eq) (m : 
   module _ (ps qs : List (K × Share K (Held K V))) (d e : DeskSeen K V) (g h : Held K V) (c : Reason K) (begins : BeginsAnew eq v k h g (Start v k c) ps qs d e) where
     pub begun_events : e.events ≡ d.events ++ Start v k c ∷ []
     begun_events = ap (λ (y : DeskSeen K V). y.events) begins.desk ∙ ap (λ (J : List (Told K V)). J ++ Start v k c ∷ []) begins.returns.rest.events
-
-    pub is_turned : (a : Assigned K V) → task_at eq ps k ≡ Some (held_of a IsOut) → (b : Held K V) → g ≡ b → IsTurned eq k (held_of a IsOut) b ps qs
-    is_turned a out b i = record {
-      was = out;
-      tasks = λ q. begins.tasks q ∙ ap (λ (z : Held K V). cond (eq k q) (Some z) (task_at eq ps q)) i;
-      live = begins.live;
-      asks = begins.asks;
-      room = begins.room;
-    }
 
     pub at_begun : (w : World K V) (owed : ℕ) (es : List (K × Stored K V)) (s : Seen K V) → AtHand eq m v w owed ps d es s → Working eq m v [] w owed qs e → AreTasked eq qs → AtHand eq m v w owed qs e es s
     at_begun w owed es s at work tasked = record {

@@ -1,12 +1,12 @@
 -- One task after the other is woken, and what stays.
-use Rattle.std.proofs.Common.{◌≡◌, ◌⊎◌, inl, inr, ℕ, Bool, true, false, cond, not, ◌&&◌, List, [], ◌∷◌, ◌++◌, map, Option, Some, refl, sym, ap, ◌∙◌, subst, append_assoc}
+use Rattle.std.proofs.Common.{◌≡◌, inl, inr, Bool, true, false, cond, not, ◌&&◌, List, [], ◌∷◌, ◌++◌, map, Some, refl, sym, ap, ◌∙◌, subst, append_assoc}
 use Rattle.std.proofs.lemmas.List.{map-append}
 use Rattle.dice_key.specs.Lawful.{IsEquality}
 use Rattle.dice_model.specs.Log.{Has, AreDistinct}
 use Rattle.task_share.specs.Asked.{By, Promised, Tasked, is_by}
 use Rattle.task_share.specs.Seen.{Share, task_at, asks, KeepsTasks}
 use Rattle.core_laws.specs.Tasks.{IsReady}
-use Rattle.core_laws.proofs.Shapes.{both_parts, same_or_other}
+use Rattle.core_laws.proofs.Shapes.{both_parts}
 use Rattle.dice_core.specs.Helds.{Held, held_of}
 use Rattle.dice_core.specs.Hands.{DeskSeen, KeepsDesk}
 use Rattle.dice_core.specs.Endings.{AreTasked}

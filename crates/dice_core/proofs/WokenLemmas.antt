@@ -1,25 +1,24 @@
 -- Who waits for one key alone, and that they may be woken when its task has ended with a value.
-use Rattle.std.proofs.Common.{◌≡◌, ◌<◌, ◌≤◌, ◌+◌, ◌⊎◌, inl, inr, ℕ, suc, Bool, true, false, cond, not, ◌&&◌, ◌||◌, List, [], ◌∷◌, ◌++◌, length, map, take, drop, get_or, reverse, Option, Some, None, refl, sym, ap, ◌∙◌, subst, arith, drop-cons}
+use Rattle.std.proofs.Common.{◌≡◌, ◌<◌, ◌≤◌, ◌+◌, ◌⊎◌, inl, inr, ℕ, suc, Bool, true, false, cond, not, ◌&&◌, ◌||◌, List, [], ◌∷◌, ◌++◌, length, map, take, drop, get_or, Option, Some, None, refl, sym, ap, ◌∙◌, subst, drop-cons}
 use Rattle.std.proofs.lemmas.Option.{same_Some, none-some}
 use Rattle.std.proofs.lemmas.List.{take-append-drop, map-append, take_more, take_all}
 use Rattle.std.specs.List.{list_any, AllByRecursion, AllZip}
 use Rattle.std.specs.Option.{option_map}
 use Rattle.dice_key.specs.Lawful.{IsEquality}
-use Rattle.dice_key.specs.Meaning.{Meaning, Answered}
-use Rattle.dice_key.specs.declared.universe.Kind.TheVariants.{Injected}
+use Rattle.dice_key.specs.Meaning.{Meaning}
 use Rattle.dice_model.specs.Log.{Has, AreDistinct}
 use Rattle.dice_model.specs.Eval.{HasValue}
 use Rattle.dice_model.proofs.Inputs.{injected_value}
 use Rattle.dice_model.proofs.Traces.{zip_map}
 use Rattle.dice_jobs.specs.Jobs.{Assigned, Waits, Computes, Checks}
 use Rattle.task_share.specs.Asked.{By, Tasked, is_by}
-use Rattle.task_share.specs.Seen.{Share, task_at, is_live, asks, asked_of, waits_at}
+use Rattle.task_share.specs.Seen.{Share, task_at, asks, asked_of}
 use Rattle.task_share.specs.Lists as shared
-use Rattle.injected.specs.Seen.{Seen, cell_at}
+use Rattle.injected.specs.Seen.{Seen}
 use Rattle.injected.proofs.LogLemmas.{log_inputs}
 use Rattle.journal.specs.declared.event.Told.{Told}
 use Rattle.journal.specs.Events.{commits_of}
-use Rattle.core_laws.specs.Tasks.{Computes as DoesCompute, Checks as DoesCheck, IsReady, IsOut, IsWaiting, WithValue, Standing, Works, Ended, Task, batch_of, value_of, waits_for}
+use Rattle.core_laws.specs.Tasks.{Computes as DoesCompute, Checks as DoesCheck, IsReady, IsOut, IsWaiting, WithValue, Standing, Works, Ended, batch_of, value_of, waits_for}
 use Rattle.core_laws.specs.Stands.{VersionStands}
 use Rattle.core_laws.proofs.Answered.{ended_value}
 use Rattle.core_laws.proofs.Counts.{has_append, has_front, has_last}
@@ -28,9 +27,9 @@ use Rattle.dice_core.specs.Helds.{Held, Ahead, FollowsOn, task_of, held_of, held
 use Rattle.dice_core.specs.Hands.{DeskSeen, tasks_of}
 use Rattle.dice_core.specs.Endings.{EndsTask}
 use Rattle.dice_core.specs.Commits.{CellsStand}
-use Rattle.dice_core.specs.Waitings.{Wakes, IsWoken, MayWake}
+use Rattle.dice_core.specs.Waitings.{Wakes, MayWake}
 use Rattle.dice_core.specs.Wokens.{AsksAlone, AsksMore, HasAnswer, IsAnswer, WaitsAlone, HasAnswers, IsAnswered, AreWoken}
-use Rattle.dice_core.proofs.Lists.{apart, has_left, has_right}
+use Rattle.dice_core.proofs.Lists.{apart, has_right}
 
 -- ---- lists
 
@@ -243,7 +242,7 @@ module _ {K V : Type 0} (eq : K → K → Bool) (equality : IsEquality eq) (m : 
       by_task None i e = absurd (none-some b.0 e)
       by_task (Some h) i e = let w = waits_of h b.0 e in record { waits = record { job = w.0; keys = b.0 }; held = i ∙ ap Some w.1; answers = answers }
 
--- ---- and so they may be woken
+  -- ---- and so they may be woken
 
   module _ (k : K) (h : Held K V) (x : V) (qs : List (K × Share K (Held K V))) (d e : DeskSeen K V) (ends : EndsTask eq v k h (WithValue x) ps qs d e) (idle : waits_for h.standing ≡ None) (cells : Seen K V) where
     -- the task that ends is none of those that wait
@@ -276,7 +275,7 @@ module _ {K V : Type 0} (eq : K → K → Bool) (equality : IsEquality eq) (m : 
         follows = a.follows;
         only = λ q on. woken.only y i q (before q (Tasked y.place.1) on);
         truly = subst (λ z. AllZip (HasValue eq m z y.place.0) a.follows.waits.keys y.ahead.values) (sym commits) (subst (λ z. AllZip (HasValue eq m (commits_of R) z) a.follows.waits.keys y.ahead.values) (sym (woken.version y i))
-          (zip_map (IsAnswer eq m cells v k x ps) (HasValue eq m (commits_of R) v) a.follows.waits.keys y.ahead.values (λ q z b r. answer_true stood here q z r) a.answers));
+            (zip_map (IsAnswer eq m cells v k x ps) (HasValue eq m (commits_of R) v) a.follows.waits.keys y.ahead.values (λ q z b r. answer_true stood here q z r) a.answers));
       });
       distinct = woken.distinct;
       others = λ j on. elim (woken.others j (before k (Tasked j) on)) as (λ _. ((y : Wakes K V) × Has ys y × (y.place.1 ≡ j)) ⊎ ((q : K) × (eq k q ≡ false) × (asks eq qs q (Tasked j) ≡ true))) [

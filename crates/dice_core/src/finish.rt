@@ -66,18 +66,7 @@ pub(crate) fn done<U: Universe>(
 {
     let event = Event::End(version, Arc::try_clone(key)?);
     end_step::<U>(
-        alloc,
-        universe,
-        cells,
-        graph,
-        desk,
-        tasks,
-        owed,
-        version,
-        key,
-        step,
-        event,
-        value,
+        alloc, universe, cells, graph, desk, tasks, owed, version, key, step, event, value,
     )
 }
 
@@ -232,16 +221,7 @@ fn end_step<U: Universe>(
     ensures kept { (w : World U.Key U.Value) → AtHand U.Key.eq U.meaning version w owed tasks.old desk.old graph.old cells.now → AtHand U.Key.eq U.meaning version w owed tasks.new desk.new graph.new cells.now }
 {
     laws_of::<U>();
-    let ending = prepare_end::<U>(
-        alloc,
-        universe,
-        cells,
-        tasks,
-        version,
-        key,
-        step,
-        value,
-    )?;
+    let ending = prepare_end::<U>(alloc, universe, cells, tasks, version, key, step, value)?;
     let Ending {
         key: name,
         value: finished,

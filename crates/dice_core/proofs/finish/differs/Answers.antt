@@ -1,11 +1,11 @@
-use Rattle.std.proofs.Common.{◌≡◌, ◌≢◌, ◌+◌, ◌∙◌, [], refl, sym, ap, subst, arith, reverse, Some}
+use Rattle.std.proofs.Common.{◌≡◌, ◌≢◌, ◌+◌, ◌∙◌, [], sym, ap, subst, arith, reverse, Some}
 use Rattle.std.specs.Arc.{arc_value}
 use Rattle.dice_key.specs.declared.universe.Kind.TheVariants.{Injected}
 use Rattle.dice_jobs.specs.Jobs.{Name, Assigned, Checks}
+use Rattle.journal.specs.declared.event.Told.{Told}
 use Rattle.journal.specs.declared.event.Told.TheVariants.{Start}
 use Rattle.journal.specs.declared.event.Reason.TheVariants.{Differs}
-use Rattle.journal.specs.Tell.{told}
-use Rattle.core_laws.specs.Tasks.{IsOut}
+use Rattle.core_laws.specs.Tasks.{IsReady, IsOut}
 use Rattle.dice_core.specs.Endings.{BeginsAnew}
 use Rattle.dice_core.specs.Helds.{held_of}
 use Rattle.dice_core.proofs.EndsLemmas.{working_knows}
@@ -51,11 +51,13 @@ returns-clause-kept g c w es s at0 =
     let name : c.in_ok-try_clone-3.field-0 ≡ job.name = c.in_ok-try_clone-3.ensures ∙ (c.name.ensures ∙ ap (λ (z : Assigned g.row.U-Key.Denot g.row.U-Value.Denot). z.name) c.assignment.ensures) in
     let own : c.begin-job.result.name ≡ job.name = ap (λ (z : Assigned g.row.U-Key.Denot g.row.U-Value.Denot). z.name) c.begin-job.ensures ∙ name in
     let same : job ≡ record { name = c.begin-job.result.name; answered = job.answered; work = Checks x T base } = (λ i. record { name = sym own i; answered = job.answered; work = sym c.requires.earlier i }) in
-    let is : Start v (arc_value c.in_ok-try_clone-2.field-0) (Differs base (arc_value c.in_ok-try_clone.field-0)) ≡ Start {V = g.row.U-Value.Denot} v k (Differs base dep) = (λ i. Start v (c.in_ok-try_clone-2.ensures i) (Differs base (c.in_ok-try_clone.ensures i))) in
+    let copied : Told g.row.U-Key.Denot g.row.U-Value.Denot = Start v (arc_value c.in_ok-try_clone-2.field-0) (Differs base (arc_value c.in_ok-try_clone.field-0)) in
+    let told_is : Told g.row.U-Key.Denot g.row.U-Value.Denot = Start v k (Differs base dep) in
+    let is : copied ≡ told_is = (λ i. Start v (c.in_ok-try_clone-2.ensures i) (Differs base (c.in_ok-try_clone.ensures i))) in
     let at = at_room eq m v w c.args.owed ps c.args.desk.now d es s c.reserve.ensures.same c.reserve.ensures.room at0 in
     let more = (let h = c.in_ok-reserve.ensures.ok.spare in working_room eq m v [] w c.args.owed (c.args.owed + 1) ps c.args.desk.now d c.reserve.ensures.same (omega arith) at0.working) in
     let work = c.differ.ensures.kept w [] c.args.owed x T job.answered base dep more is (c.requires.out ∙ ap (λ (z : Assigned g.row.U-Key.Denot g.row.U-Value.Denot). Some (held_of z IsOut)) same)
-      (changed_first m g.U.Value.PartialEq.eq job step c.requires.step x T base (sym c.requires.earlier) dep c.requires.differs) in
+    (changed_first m g.U.Value.PartialEq.eq job step c.requires.step x T base (sym c.requires.earlier) dep c.requires.differs) in
     let b = c.differ.ensures.begun in
-    let begins = subst (λ t. BeginsAnew eq v k (held_of (record { name = c.begin-job.result.name; answered = b.3; work = Checks b.0 b.1 b.2 }) IsOut) _ t ps c.differ.new.tasks d c.differ.new.desk) is b.4 in
+    let begins = subst (λ t. BeginsAnew eq v k (held_of (record { name = c.begin-job.result.name; answered = b.3; work = Checks b.0 b.1 b.2 }) IsOut) (held_of c.begin-job.result IsReady) t ps c.differ.new.tasks d c.differ.new.desk) is b.4 in
     at_begun eq keys m law v k ps c.differ.new.tasks d c.differ.new.desk _ _ (Differs base dep) begins w c.args.owed es s at work (c.differ.ensures.tasked at0.tasked)

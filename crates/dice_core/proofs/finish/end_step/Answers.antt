@@ -1,9 +1,9 @@
-use Rattle.std.proofs.Common.{◌≡◌, ◌⊎◌, inl, inr, ◌∙◌, ◌∷◌, [], refl, sym, ap, subst, arith, reverse, List}
+use Rattle.std.proofs.Common.{inl, inr, ◌∙◌, ◌∷◌, [], refl, ap, subst, arith, reverse}
 use Rattle.std.specs.Arc.{arc_value}
 use Rattle.std.specs.Option.{option_map}
 use Rattle.journal.specs.Tell.{told}
-use Rattle.core_laws.specs.Tasks.{IsOut, WithValue, is_going}
-use Rattle.dice_core.specs.Helds.{Held, task_of}
+use Rattle.core_laws.specs.Tasks.{WithValue, is_going}
+use Rattle.dice_core.specs.Helds.{task_of}
 use Rattle.dice_core.specs.Endings.{TellsEnd}
 use Rattle.dice_core.specs.Entries.{EntriesStand}
 use Rattle.dice_core.proofs.EndsLemmas.{working_knows}
@@ -59,9 +59,14 @@ wake-requires-clause-may g c κs bounds =
     let e = c.end_value.ensures.ended in
     let at = at_room eq m v r.0 c.args.owed c.args.tasks.now c.args.desk.now d c.args.graph.now c.args.cells.now c.reserve.ensures.same c.reserve.ensures.room r.1 in
     let tells : TellsEnd eq v k e.0 (WithValue x) t c.args.tasks.now c.end_value.new.tasks d c.end_value.new.desk = subst (λ y. TellsEnd eq v k e.0 (WithValue y) t c.args.tasks.now c.end_value.new.tasks d c.end_value.new.desk) c.in_ok-ending.ensures.outcome e.1 in
-    let o = ends_on eq keys m law v k x t c.args.tasks.now c.end_value.new.tasks d c.end_value.new.desk e.0 tells step.job c.requires.out g.U.Value.PartialEq.eq step refl c.requires.step c.requires.ends [] r.0 c.args.owed at.working in
-    (v, [], r.0, c.args.owed, o.0,
-      may_wake_now eq keys m law v k x t c.args.tasks.now c.end_value.new.tasks d c.end_value.new.desk e.0 tells step.job c.requires.out (told_of v k step x t c.requires.ends) r.0 c.args.owed c.args.graph.now c.args.cells.now at o.1 c.in_ok-ending.ending.woken.items c.in_ok-ending.ensures.woken)
+    let o = ends_on eq keys m law v k x t c.args.tasks.now c.end_value.new.tasks d c.end_value.new.desk e.0 tells step.job c.requires.out g.U.Value.PartialEq.eq step refl c.requires.step c.requires.ends [] r.0 c.args.owed at.working in (
+      v,
+      [],
+      r.0,
+      c.args.owed,
+      o.0,
+      may_wake_now eq keys m law v k x t c.args.tasks.now c.end_value.new.tasks d c.end_value.new.desk e.0 tells step.job c.requires.out (told_of v k step x t c.requires.ends) r.0 c.args.owed c.args.graph.now c.args.cells.now at o.1 c.in_ok-ending.ending.woken.items c.in_ok-ending.ensures.woken,
+    )
 
 pub returns-clause-given : goal.returns-clause-given
 returns-clause-given g c =

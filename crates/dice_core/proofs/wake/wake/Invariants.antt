@@ -12,7 +12,7 @@ use Rattle.dice_core.proofs.wake.wake.Given as goal
 abbrev pub invariant-ready : goal.invariant-ready
 invariant-ready g l = record {
   kept : (v : ℕ) (W : List g.row.U-Key.Denot) (w : World g.row.U-Key.Denot g.row.U-Value.Denot) (owed : ℕ) → Working g.U.Key.PartialEq.eq g.U.Universe.meaning v (arc_value l.key ∷ W) w owed l.fn.tasks l.fn.desk → MayWake g.U.Key.PartialEq.eq g.U.Universe.meaning (reverse l.fn.desk.events) v (arc_value l.key) l.fn.woken.items l.fn.tasks
-    → Working g.U.Key.PartialEq.eq g.U.Universe.meaning v (arc_value l.key ∷ W) w owed l.tasks l.desk × MayWake g.U.Key.PartialEq.eq g.U.Universe.meaning (reverse l.desk.events) v (arc_value l.key) l.rest.items l.tasks;
+      → Working g.U.Key.PartialEq.eq g.U.Universe.meaning v (arc_value l.key ∷ W) w owed l.tasks l.desk × MayWake g.U.Key.PartialEq.eq g.U.Universe.meaning (reverse l.desk.events) v (arc_value l.key) l.rest.items l.tasks;
   room : length l.rest.items ≤ l.desk.ready_room;
   events : l.desk.events ≡ l.fn.desk.events;
   woken : (ys : List (Wakes g.row.U-Key.Denot g.row.U-Value.Denot)) × (l.fn.woken.items ≡ l.rest.items ++ ys) × WakesSo g.U.Key.PartialEq.eq (arc_value l.key) ys l.fn.tasks l.tasks l.fn.desk l.desk;
@@ -26,7 +26,7 @@ decreases-ready g l = length l.rest.items
 abbrev pub invariant-others : goal.invariant-others
 invariant-others g l = record {
   kept : (v : ℕ) (W : List g.row.U-Key.Denot) (w : World g.row.U-Key.Denot g.row.U-Value.Denot) (owed : ℕ) → Working g.U.Key.PartialEq.eq g.U.Universe.meaning v (arc_value l.key ∷ W) w owed l.fn.tasks l.fn.desk → MayWake g.U.Key.PartialEq.eq g.U.Universe.meaning (reverse l.fn.desk.events) v (arc_value l.key) l.fn.woken.items l.fn.tasks
-    → Working g.U.Key.PartialEq.eq g.U.Universe.meaning v (arc_value l.key ∷ W) w owed l.tasks l.desk × WaitsOn g.U.Key.PartialEq.eq (arc_value l.key) l.tasks;
+      → Working g.U.Key.PartialEq.eq g.U.Universe.meaning v (arc_value l.key ∷ W) w owed l.tasks l.desk × WaitsOn g.U.Key.PartialEq.eq (arc_value l.key) l.tasks;
   woken : WakesSo g.U.Key.PartialEq.eq (arc_value l.key) l.fn.woken.items l.fn.tasks l.tasks l.fn.desk l.desk;
   tasked : AreTasked g.U.Key.PartialEq.eq l.fn.tasks → AreTasked g.U.Key.PartialEq.eq l.tasks;
 }

@@ -1,4 +1,4 @@
-use Rattle.std.proofs.Common.{rules, ◌≡◌, ◌∙◌, sym, ap, subst, arith, true, false, not, map}
+use Rattle.std.proofs.Common.{rules, ◌≡◌, ◌∙◌, subst, false}
 use Rattle.std.specs.Arc.{arc_value}
 use Rattle.std.specs.List.{AllByRecursion}
 use Rattle.dice_model.specs.Log.{Has}

@@ -1,9 +1,8 @@
-use Rattle.std.proofs.Common.{◌≡◌, ◌∙◌, sym, ap, subst, arith, length}
+use Rattle.std.proofs.Common.{◌≡◌, ◌∙◌, sym, ap, subst, length}
 use Rattle.std.specs.Arc.{arc_value}
 use Rattle.std.specs.List.{AllZip}
 use Rattle.std.proofs.lemmas.Option.{same_Some}
 use Rattle.std.proofs.lemmas.Result.{IfOk-weaker}
-use Rattle.dice_jobs.specs.Jobs.{Waits}
 use Rattle.core_laws.specs.Tasks.{IsWaiting, waits_for}
 use Rattle.dice_core.specs.Helds.{Held, FollowsOn, held_of}
 use Rattle.dice_core.specs.Wokens.{IsAnswer, IsAnswered}
@@ -14,7 +13,7 @@ pub loop-asked-preserved : goal.loop-asked-preserved
 loop-asked-preserved g c =
     let R = IsAnswer g.U.Key.PartialEq.eq g.U.Universe.meaning c.args.cells.now c.args.version (arc_value c.args.key.now) (arc_value c.args.value.now) c.args.tasks.now in
     zip_next R arc_value c.keys-keys.result.now c.loop-asked.asked-index c.asked-item.result c.loop-asked.answers c.push.new.self (arc_value c.in_ok-try_clone.field-0) c.loop-asked-test.true c.asked-item.is c.loop-asked.invariant
-      (subst (R (arc_value c.asked-item.result)) (sym c.in_ok-try_clone.ensures) c.in-Some-answer_of.ensures.answer) c.in_ok-push.ensures.ok
+    (subst (R (arc_value c.asked-item.result)) (sym c.in_ok-try_clone.ensures) c.in-Some-answer_of.ensures.answer) c.in_ok-push.ensures.ok
 
 pub next-requires-after_bounds : goal.next-requires-after_bounds
 next-requires-after_bounds g c κs within =

@@ -1,7 +1,5 @@
-use Rattle.std.proofs.Common.{◌≡◌, ◌∙◌, ◌+◌, ◌++◌, ◌∷◌, [], refl, sym, ap, subst, arith, map, take}
+use Rattle.std.proofs.Common.{◌∙◌, ◌+◌, refl, sym, ap, subst, map, take}
 use Rattle.std.specs.Arc.{arc_value}
-use Rattle.dice_model.specs.Log.{AreDistinct}
-use Rattle.task_share.specs.Asked.{Tasked}
 use Rattle.dice_core.specs.Waitings.{Wakes}
 use Rattle.dice_core.specs.Wokens.{IsAnswered}
 use Rattle.dice_core.proofs.WokenLemmas.{SoFar, none_so_far, other_more, woken_more, all_woken, distinct_askers, first_more, is_new, among, any_has, all_taken}
@@ -30,8 +28,8 @@ loop-asker-preserved g c =
     let more = first_more arc_value asking i c.asker-item.result c.loop-asker-test.true c.asker-item.is in
     elim c.if-asks_alone.branch [
       | then-asks_alone+in_ok-next+in_ok-one+in_ok-push w ↦ (
-        let one = w.in_ok-one.ensures in
-        woken_more eq m c.args.cells.now c.args.version k x c.args.tasks.now done c.loop-asker.woken.items c.loop-asker.invariant j (map arc_value (take (i + 1) asking)) w.in_ok-one.one c.if-asks_alone.woken.items more
+          let one = w.in_ok-one.ensures in
+          woken_more eq m c.args.cells.now c.args.version k x c.args.tasks.now done c.loop-asker.woken.items c.loop-asker.invariant j (map arc_value (take (i + 1) asking)) w.in_ok-one.one c.if-asks_alone.woken.items more
           (ap (λ z. z.items) w.woken-is ∙ w.in_ok-push.ensures.items)
           (is_new arc_value asking i c.asker-item.result c.loop-asker-test.true c.asker-item.is (distinct_askers (map arc_value asking) c.askers.ensures.distinct))
           (ap (λ (z : Wakes g.row.U-Key.Denot g.row.U-Value.Denot). z.place) one) (w.if-asks_alone.ensures.alone refl)
