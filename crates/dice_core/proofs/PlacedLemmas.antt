@@ -37,7 +37,7 @@ module _ {U K V R : Type 0} (k : K) where
     where
       by_test : (b : Bool) → waits_of k (xs ++ p ∷ []) ≡ waits_of k xs ++ waits_of k (p ∷ [])
           → map (wait_for k) (cond b (x ∷ filter (λ (y : Part U K V R). y.awaited) (xs ++ p ∷ [])) (filter (λ (y : Part U K V R). y.awaited) (xs ++ p ∷ [])))
-            ≡ map (wait_for k) (cond b (x ∷ filter (λ (y : Part U K V R). y.awaited) xs) (filter (λ (y : Part U K V R). y.awaited) xs)) ++ waits_of k (p ∷ [])
+          ≡ map (wait_for k) (cond b (x ∷ filter (λ (y : Part U K V R). y.awaited) xs) (filter (λ (y : Part U K V R). y.awaited) xs)) ++ waits_of k (p ∷ [])
       by_test true e = ap (λ z. wait_for k x ∷ z) e
       by_test false e = e
 

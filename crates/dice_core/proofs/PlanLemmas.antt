@@ -52,8 +52,8 @@ module _ {K V : Type 0} (eq : K → K → Bool) (m : Meaning K V) (v : ℕ) (ps 
   stand_kept : (w : World K V) (owed : ℕ) → 2 * e.live + owed ≤ e.spare → Stand eq m (reverse d.events) v [] (seen_world eq v ps w) (desk_of d) owed → Stand eq m (reverse e.events) v [] (seen_world eq v qs w) (desk_of e) owed
   stand_kept w owed room st0 =
       let st : Stand eq m (reverse e.events) v [] (seen_world eq v qs w) (desk_of d) owed =
-          subst (λ (x : List (Told K V)). Stand eq m (reverse x) v [] (seen_world eq v qs w) (desk_of d) owed) (sym hands.events)
-          (subst (λ (x : World K V). Stand eq m (reverse d.events) v [] x (desk_of d) owed) (same_table eq v w ps qs tasks asked) st0) in record {
+      subst (λ (x : List (Told K V)). Stand eq m (reverse x) v [] (seen_world eq v qs w) (desk_of d) owed) (sym hands.events)
+      (subst (λ (x : World K V). Stand eq m (reverse d.events) v [] x (desk_of d) owed) (same_table eq v w ps qs tasks asked) st0) in record {
         lawful = st.lawful;
         here = st.here;
         there = st.there;

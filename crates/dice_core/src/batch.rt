@@ -157,7 +157,9 @@ pub(crate) fn ask_batch<U: Universe>(
 {
     laws_of::<U>();
     let version = step.assignment().name().version();
-    let (key, plan) = match plan_step::<U>(alloc, universe, cells, graph, desk, tasks, owed, &step) {
+    let (key, plan) = match plan_step::<U>(
+        alloc, universe, cells, graph, desk, tasks, owed, &step,
+    ) {
         Ok(planned) => planned,
         Err(refused) => return Err((refused, step)),
     };
@@ -197,15 +199,7 @@ fn plan_step<U: Universe>(
     match step.report() {
         Report::Asks(batch) => {
             let plan = plan_batch::<U>(
-                alloc,
-                universe,
-                cells,
-                graph,
-                desk,
-                tasks,
-                owed,
-                assignment,
-                batch,
+                alloc, universe, cells, graph, desk, tasks, owed, assignment, batch,
             )?;
             Ok((key, plan))
         }

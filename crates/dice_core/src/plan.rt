@@ -98,7 +98,8 @@ pub(crate) fn plan_batch<U: Universe>(
     if !waits.is_empty() {
         return Ok(Plan::Waits(parts, waits));
     }
-    let Some(answers) = answers_of::<U>(alloc, universe, cells, graph, tasks, version, batch)? else {
+    let Some(answers) = answers_of::<U>(alloc, universe, cells, graph, tasks, version, batch)?
+    else {
         return Ok(Plan::Waits(parts, waits));
     };
     let next = Next::of_batch(assignment, batch, answers)?;

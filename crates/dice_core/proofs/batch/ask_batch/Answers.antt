@@ -17,10 +17,13 @@ take_up-requires-clause-hand g c l o =
     let r = c.requires.hand in
     let asks = c.requires.asks in
     let version = c.version-version.ensures ∙ ap (λ (n : Name g.row.U-Key.Denot). n.version) (c.name.ensures ∙ ap (λ (x : Assigned g.row.U-Key.Denot g.row.U-Value.Denot). x.name) c.assignment.ensures) in
-    let p = parked_so a c.args.step.outcome asks.0 c.in-Some.parked asks.1 c.in-Some.ensures in
-    (r.0, c.args.owed, c.args.cells.now,
+    let p = parked_so a c.args.step.outcome asks.0 c.in-Some.parked asks.1 c.in-Some.ensures in (
+      r.0,
+      c.args.owed,
+      c.args.cells.now,
       hand_as eq m a.name.version c.version-version.result (sym version) r.0 c.args.owed _ _ _ _ (at_hand_kept eq m a.name.version _ _ _ _ e.tasks e.asks e.hands r.0 c.args.owed _ _ e.desk_room.spare r.1),
-      plan_as eq m a.name.version c.version-version.result (sym version) c.args.owed a c.in-Some.parked.job asks.0 c.in-Some.parked.keys _ _ _ _ _ (sym p.0) (sym p.1) (c.in-Ok.ensures.plan asks.0 asks.1))
+      plan_as eq m a.name.version c.version-version.result (sym version) c.args.owed a c.in-Some.parked.job asks.0 c.in-Some.parked.keys _ _ _ _ _ (sym p.0) (sym p.1) (c.in-Ok.ensures.plan asks.0 asks.1),
+    )
 
 pub returns-clause-given : goal.returns-clause-given
 returns-clause-given g c ks wants =
@@ -43,5 +46,5 @@ returns-clause-kept g c w h =
     let p = parked_so a c.args.step.outcome asks.0 c.in-Some.parked asks.1 c.in-Some.ensures in
     hand_as eq m c.version-version.result a.name.version version w c.args.owed _ _ _ _
     (c.take_up.ensures.kept w c.args.owed c.args.cells.now
-      (hand_as eq m a.name.version c.version-version.result (sym version) w c.args.owed _ _ _ _ (at_hand_kept eq m a.name.version _ _ _ _ e.tasks e.asks e.hands w c.args.owed _ _ e.desk_room.spare h))
-      (plan_as eq m a.name.version c.version-version.result (sym version) c.args.owed a c.in-Some.parked.job asks.0 c.in-Some.parked.keys _ _ _ _ _ (sym p.0) (sym p.1) (c.in-Ok.ensures.plan asks.0 asks.1)))
+    (hand_as eq m a.name.version c.version-version.result (sym version) w c.args.owed _ _ _ _ (at_hand_kept eq m a.name.version _ _ _ _ e.tasks e.asks e.hands w c.args.owed _ _ e.desk_room.spare h))
+    (plan_as eq m a.name.version c.version-version.result (sym version) c.args.owed a c.in-Some.parked.job asks.0 c.in-Some.parked.keys _ _ _ _ _ (sym p.0) (sym p.1) (c.in-Ok.ensures.plan asks.0 asks.1)))

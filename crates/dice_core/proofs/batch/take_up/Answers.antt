@@ -125,7 +125,7 @@ returns-in-GoesOn-clause-given g c =
     let kept = made.ensures.kept [] r.0 r.1 (own_makes eq law.keys m law.lawful v k a c.requires.own.0 c.args.parked.keys xs r.0 r.1 _ _ _ r.2 r.3 c.requires.out c.requires.next p.roomy) in
     let answers = own_answers eq law.keys m law.lawful v k a c.requires.own.0 c.args.parked.keys xs r.0 r.1 _ _ _ r.2 r.3 c.requires.out c.requires.next p.roomy made.new.tasks c.go_on.new.tasks made.new.desk c.go_on.new.desk made.new.graph made.ensures.made kept c.in-GoesOn.next p c.cells_are_the_inputs.ensures.inputs in
     (own_goes eq law.keys m law.lawful v k a c.requires.own.0 c.args.parked.keys xs r.0 r.1 _ _ _ r.2 r.3 c.requires.out c.requires.next p.roomy made.new.tasks c.go_on.new.tasks made.new.desk c.go_on.new.desk made.new.graph made.ensures.made kept c.in-GoesOn.next p c.cells_are_the_inputs.ensures.inputs c.go_on.ensures.ready
-        (c.go_on.ensures.kept r.0 [] r.1 kept.0 c.requires.next answers)).1
+    (c.go_on.ensures.kept r.0 [] r.1 kept.0 c.requires.next answers)).1
 
 pub returns-in-GoesOn-clause-kept : goal.returns-in-GoesOn-clause-kept
 returns-in-GoesOn-clause-kept g c w owed s hand plan =
@@ -141,7 +141,7 @@ returns-in-GoesOn-clause-kept g c w owed s hand plan =
     let kept = made.ensures.kept [] w owed (own_makes eq law.keys m law.lawful v k a c.requires.own.0 c.args.parked.keys xs w owed _ _ _ s hand c.requires.out c.requires.next p.roomy) in
     let answers = own_answers eq law.keys m law.lawful v k a c.requires.own.0 c.args.parked.keys xs w owed _ _ _ s hand c.requires.out c.requires.next p.roomy made.new.tasks c.go_on.new.tasks made.new.desk c.go_on.new.desk made.new.graph made.ensures.made kept c.in-GoesOn.next p c.cells_are_the_inputs.ensures.inputs in
     (own_goes eq law.keys m law.lawful v k a c.requires.own.0 c.args.parked.keys xs w owed _ _ _ s hand c.requires.out c.requires.next p.roomy made.new.tasks c.go_on.new.tasks made.new.desk c.go_on.new.desk made.new.graph made.ensures.made kept c.in-GoesOn.next p c.cells_are_the_inputs.ensures.inputs c.go_on.ensures.ready
-        (c.go_on.ensures.kept w [] owed kept.0 c.requires.next answers)).0
+    (c.go_on.ensures.kept w [] owed kept.0 c.requires.next answers)).0
 
 pub returns-in-Waits-clause-given : goal.returns-in-Waits-clause-given
 returns-in-Waits-clause-given g c =
@@ -159,7 +159,7 @@ returns-in-Waits-clause-given g c =
     let kept = made.ensures.kept [] r.0 r.1 (own_makes eq law.keys m law.lawful v k a c.requires.own.0 c.args.parked.keys xs r.0 r.1 _ _ _ r.2 r.3 c.requires.out c.requires.next p.roomy) in
     let may = own_may eq law.keys m law.lawful v k a c.requires.own.0 c.args.parked.keys xs r.0 r.1 _ _ _ r.2 r.3 c.requires.out c.requires.next p.roomy made.new.tasks c.park.new.tasks made.new.desk c.park.new.desk made.new.graph made.ensures.made kept ws p c.args.parked refl refl in
     (own_waits eq law.keys m law.lawful v k a c.requires.own.0 c.args.parked.keys xs r.0 r.1 _ _ _ r.2 r.3 c.requires.out c.requires.next p.roomy made.new.tasks c.park.new.tasks made.new.desk c.park.new.desk made.new.graph made.ensures.made kept ws p c.args.parked refl refl c.park.ensures.parks
-        (c.park.ensures.kept r.0 [] r.1 kept.0 may)).1
+    (c.park.ensures.kept r.0 [] r.1 kept.0 may)).1
 
 pub returns-in-Waits-clause-kept : goal.returns-in-Waits-clause-kept
 returns-in-Waits-clause-kept g c w owed s hand plan =
@@ -176,4 +176,4 @@ returns-in-Waits-clause-kept g c w owed s hand plan =
     let kept = made.ensures.kept [] w owed (own_makes eq law.keys m law.lawful v k a c.requires.own.0 c.args.parked.keys xs w owed _ _ _ s hand c.requires.out c.requires.next p.roomy) in
     let may = own_may eq law.keys m law.lawful v k a c.requires.own.0 c.args.parked.keys xs w owed _ _ _ s hand c.requires.out c.requires.next p.roomy made.new.tasks c.park.new.tasks made.new.desk c.park.new.desk made.new.graph made.ensures.made kept ws p c.args.parked refl refl in
     (own_waits eq law.keys m law.lawful v k a c.requires.own.0 c.args.parked.keys xs w owed _ _ _ s hand c.requires.out c.requires.next p.roomy made.new.tasks c.park.new.tasks made.new.desk c.park.new.desk made.new.graph made.ensures.made kept ws p c.args.parked refl refl c.park.ensures.parks
-        (c.park.ensures.kept w [] owed kept.0 may)).0
+    (c.park.ensures.kept w [] owed kept.0 may)).0

@@ -3,7 +3,7 @@ use Rattle.std.specs.Arc.{arc_value}
 use Rattle.std.specs.List.{AllZip}
 use Rattle.dice_jobs.specs.Jobs.{Name}
 use Rattle.task_share.specs.Seen.{wait_room}
-use Rattle.dice_core.specs.Plans.{waits_of, IsAtHand, HasNone}
+use Rattle.dice_core.specs.Plans.{waits_of, ArePlaced, IsAtHand, HasNone}
 use Rattle.dice_core.proofs.CommitLaws.{not_empty}
 use Rattle.dice_core.proofs.PartLemmas.{zip_count}
 use Rattle.dice_core.proofs.PlanLemmas.{none_there, parts_as, goes_so, waits_some, waits_none}
@@ -26,9 +26,9 @@ returns-then-not-is_empty-clause-plan g c =
     let made = c.in_ok-waits.ensures in
     let ws = c.in_ok-waits.waits.items in
     let count : c.len-count.result ≡ length xs = omega arith in
-    waits_some eq c.laws_of.ensures.keys m a.name.version a c.args.batch.now xs _ _ _ _ _ c.args.cells.now c.reserve_parts.ensures.tasks c.reserve_parts.ensures.asks c.reserve.ensures.same parts c.args.owed c.len-count.result c.len-count.result count count made.placed c.in_ok-reserve.ensures.ok ws
-        (made.waits ∙ ap (λ k. waits_of k xs) own) (subst (λ k. length ws ≤ wait_room eq c.reserve_parts.new.tasks k) own made.fits)
-        (not_empty c.is_empty.result (length ws) (let l = c.is_empty.ensures in l) c.if-not-is_empty.true)
+    waits_some eq c.laws_of.ensures.keys m a.name.version a c.args.batch.now xs _ _ _ _ _ c.args.cells.now c.reserve_parts.ensures.tasks c.reserve_parts.ensures.asks c.reserve.ensures.same parts c.args.owed c.len-count.result c.len-count.result count count (subst (λ z. ArePlaced eq z c.reserve_parts.new.tasks) c.deref.ensures.value made.placed) c.in_ok-reserve.ensures.ok ws
+    (made.waits ∙ (ap (waits_of (arc_value c.key-own.result.now)) c.deref.ensures.value ∙ ap (λ k. waits_of k xs) own)) (subst (λ k. length ws ≤ wait_room eq c.reserve_parts.new.tasks k) own made.fits)
+    (let n : 0 < c.in_ok-waits.waits.len = not_empty c.is_empty.result c.in_ok-waits.waits.len c.is_empty.ensures c.if-not-is_empty.true in omega arith)
 
 pub returns-in_default-clause-plan : goal.returns-in_default-clause-plan
 returns-in_default-clause-plan g c =
@@ -44,9 +44,9 @@ returns-in_default-clause-plan g c =
     let ws = c.in_ok-waits.waits.items in
     let count : c.len-count.result ≡ length xs = omega arith in
     let none = rw c.in_default.is at c.in_ok-answers.ensures.none in
-    waits_none eq c.laws_of.ensures.keys m a.name.version a c.args.batch.now xs _ _ _ _ _ c.args.cells.now c.reserve_parts.ensures.tasks c.reserve_parts.ensures.asks c.reserve.ensures.same parts c.args.owed c.len-count.result c.len-count.result count count made.placed c.in_ok-reserve.ensures.ok ws
-        (made.waits ∙ ap (λ k. waits_of k xs) own) (subst (λ k. length ws ≤ wait_room eq c.reserve_parts.new.tasks k) own made.fits)
-        c.requires.0 c.args.owed c.requires.1.working none.0 none.1 (subst (λ v. HasNone eq m v c.reserve_parts.new.tasks c.args.graph.now none.0) version none.2)
+    waits_none eq c.laws_of.ensures.keys m a.name.version a c.args.batch.now xs _ _ _ _ _ c.args.cells.now c.reserve_parts.ensures.tasks c.reserve_parts.ensures.asks c.reserve.ensures.same parts c.args.owed c.len-count.result c.len-count.result count count (subst (λ z. ArePlaced eq z c.reserve_parts.new.tasks) c.deref.ensures.value made.placed) c.in_ok-reserve.ensures.ok ws
+    (made.waits ∙ (ap (waits_of (arc_value c.key-own.result.now)) c.deref.ensures.value ∙ ap (λ k. waits_of k xs) own)) (subst (λ k. length ws ≤ wait_room eq c.reserve_parts.new.tasks k) own made.fits)
+    c.requires.0 c.args.owed c.requires.1.working none.0 none.1 (subst (λ v. HasNone eq m v c.reserve_parts.new.tasks c.args.graph.now none.0) version none.2)
 
 pub returns-clause-plan : goal.returns-clause-plan
 returns-clause-plan g c =
@@ -62,6 +62,6 @@ returns-clause-plan g c =
     let ws = c.in_ok-waits.waits.items in
     let count : c.len-count.result ≡ length xs = omega arith in
     let some = rw c.in-Some.is at c.in_ok-answers.ensures.some in
-    goes_so eq c.laws_of.ensures.keys m a.name.version a c.args.batch.now xs _ _ _ _ _ c.args.cells.now c.reserve_parts.ensures.tasks c.reserve_parts.ensures.asks c.reserve.ensures.same parts c.args.owed c.len-count.result c.len-count.result count count made.placed c.in_ok-reserve.ensures.ok ws
-        (made.waits ∙ ap (λ k. waits_of k xs) own) (subst (λ k. length ws ≤ wait_room eq c.reserve_parts.new.tasks k) own made.fits)
-        c.in_ok-next.next c.in-Some.answers c.in_ok-next.ensures (none_there c.is_empty.result (length ws) c.is_empty.ensures c.if-not-is_empty.false) (subst (λ v. AllZip (IsAtHand eq m v c.reserve_parts.new.tasks c.args.graph.now c.args.cells.now) c.args.batch.now c.in-Some.answers) version some)
+    goes_so eq c.laws_of.ensures.keys m a.name.version a c.args.batch.now xs _ _ _ _ _ c.args.cells.now c.reserve_parts.ensures.tasks c.reserve_parts.ensures.asks c.reserve.ensures.same parts c.args.owed c.len-count.result c.len-count.result count count (subst (λ z. ArePlaced eq z c.reserve_parts.new.tasks) c.deref.ensures.value made.placed) c.in_ok-reserve.ensures.ok ws
+    (made.waits ∙ (ap (waits_of (arc_value c.key-own.result.now)) c.deref.ensures.value ∙ ap (λ k. waits_of k xs) own)) (subst (λ k. length ws ≤ wait_room eq c.reserve_parts.new.tasks k) own made.fits)
+    c.in_ok-next.next c.in-Some.answers c.in_ok-next.ensures (let n : c.in_ok-waits.waits.len ≡ 0 = none_there c.is_empty.result c.in_ok-waits.waits.len c.is_empty.ensures c.if-not-is_empty.false in omega arith) (subst (λ v. AllZip (IsAtHand eq m v c.reserve_parts.new.tasks c.args.graph.now c.args.cells.now) c.args.batch.now c.in-Some.answers) version some)
