@@ -90,25 +90,25 @@ module _ {K V : Type 0} (eq : K → K → Bool) (equality : IsEquality eq) (m : 
 
 -- ---- results of steps
 
-pub given_taken : {G E S : Type 0} (r : Result G E) (f : G → Option S) {A B : Type 0} → IfOk r (λ g. IfNone (f g) A) → (A → B) → IfOk r (λ g. IfNone (f g) B)
-given_taken (Err e) f h k = tt
-given_taken {G} {E} {S} (Ok g) f {A} {B} h k = by_stale (f g) h
+pub given_taken : {G E S : Type 0} (r : Result G E) (f : G → Option S) (A B : Type 0) → IfOk r (λ g. IfNone (f g) A) → (A → B) → IfOk r (λ g. IfNone (f g) B)
+given_taken (Err e) f A B h k = tt
+given_taken {G} {E} {S} (Ok g) f A B h k = by_stale (f g) h
   where
     by_stale : (o : Option S) → IfNone o A → IfNone o B
     by_stale None i = k i
     by_stale (Some s) i = tt
 
-pub given_stale : {G E S : Type 0} (r : Result G E) (f : G → Option S) {P : S → Type 0} → IfOk r (λ g. IfSome (f g) (λ s. ⊥)) → IfOk r (λ g. IfSome (f g) P)
-given_stale (Err e) f h = tt
-given_stale {G} {E} {S} (Ok g) f {P} h = by_stale (f g) h
+pub given_stale : {G E S : Type 0} (r : Result G E) (f : G → Option S) (P : S → Type 0) → IfOk r (λ g. IfSome (f g) (λ s. ⊥)) → IfOk r (λ g. IfSome (f g) P)
+given_stale (Err e) f P h = tt
+given_stale {G} {E} {S} (Ok g) f P h = by_stale (f g) h
   where
     by_stale : (o : Option S) → IfSome o (λ s. ⊥) → IfSome o P
     by_stale None i = tt
     by_stale (Some s) i = absurd i
 
-pub given_ok : {G E S : Type 0} (r : Result G E) (f : G → Option S) {A : Type 0} → IfOk r (λ g. IfNone (f g) A) → IfOk r (λ g. IfSome (f g) (λ s. ⊥)) → OnOk r A
-given_ok (Err e) f h k = tt
-given_ok {G} {E} {S} (Ok g) f {A} h k = by_stale (f g) h k
+pub given_ok : {G E S : Type 0} (r : Result G E) (f : G → Option S) (A : Type 0) → IfOk r (λ g. IfNone (f g) A) → IfOk r (λ g. IfSome (f g) (λ s. ⊥)) → OnOk r A
+given_ok (Err e) f A h k = tt
+given_ok {G} {E} {S} (Ok g) f A h k = by_stale (f g) h k
   where
     by_stale : (o : Option S) → IfNone o A → IfSome o (λ s. ⊥) → A
     by_stale None i j = i

@@ -1,5 +1,5 @@
 -- A job that is taken or comes back, over all versions.
-use Rattle.std.proofs.Common.{◌≡◌, ◌<◌, ◌+◌, ℕ, Bool, true, false, cond, nat_eq, eqb, List, [], ◌∷◌, ◌++◌, reverse, Option, Some, None, is_some, unwrap_or, refl, sym, ap, ◌∙◌, subst, arith, ◌≤◌}
+use Rattle.std.proofs.Common.{◌≡◌, ◌↔◌, IsTrue, ◌<◌, ◌+◌, ℕ, Bool, true, false, cond, nat_eq, eqb, List, [], ◌∷◌, ◌++◌, reverse, Option, Some, None, is_some, unwrap_or, refl, sym, ap, ◌∙◌, subst, arith, ◌≤◌}
 use Rattle.std.proofs.lemmas.Bool.{eqb-true}
 use Rattle.std.specs.Map.{lookup}
 use Rattle.std.specs.Option.{option_map}
@@ -12,13 +12,13 @@ use Rattle.injected.specs.Seen.{Seen}
 use Rattle.journal.specs.declared.event.Told.{Told}
 use Rattle.journal.specs.Events.{open_count}
 use Rattle.versioned_graph.specs.Entries.{Stored}
-use Rattle.core_laws.specs.Tasks.{IsOut, IsReady}
-use Rattle.core_laws.specs.Desk.{World, is_ready}
+use Rattle.core_laws.specs.Tasks.{Phase, IsOut, IsReady, IsWaiting}
+use Rattle.core_laws.specs.Desk.{World, is_ready, out_in}
 use Rattle.core_laws.proofs.Counts.{has_last}
-use Rattle.dice_jobs.specs.Jobs.{Assigned}
+use Rattle.dice_jobs.specs.Jobs.{Name, Assigned}
 use Rattle.dice_core.specs.AtHand.{AtHand}
 use Rattle.dice_core.specs.Commits.{CellsStand}
-use Rattle.dice_core.specs.Endings.{Knows}
+use Rattle.dice_core.specs.Endings.{Knows, IsJobNamed}
 use Rattle.dice_core.specs.Entries.{EntriesStand}
 use Rattle.dice_core.specs.Hands.{DeskSeen, tasks_of, AreNamed, Working}
 use Rattle.std.specs.Prelude.{IfSome, IfNone}
@@ -145,13 +145,13 @@ take_stands eq equality m law d e ts us es s x st v ps qs (Some j) found put h k
 
 module _ {K V : Type 0} (eq : K → K → Bool) (equality : IsEquality eq) (m : Meaning K V) (law : IsLawful m) where
   -- a job that comes back, or is handed back: so the core stands after it
-  pub back_stands : (j : Assigned K V) (d e : DeskSeen K V) (ts us : List (ℕ × List (K × Share K (Held K V)))) (es : List (K × Stored K V)) (s : Seen K V) (x : SessionsSeen K) → CoreStands eq m (core_of d ts es s x) → (ps qs : List (K × Share K (Held K V))) → {Y : Type 0} (o : Option Y)
-      → table_at ts j.name.version ≡ ps → PutsTable j.name.version qs ts us → IfSome o (λ y. (e ≡ d) × KeepsTable eq ps qs) → IfNone o (ReturnsJob eq j.name.version j.name.key j j ps qs d e)
+  pub back_stands : (j : Assigned K V) (d e : DeskSeen K V) (ts us : List (ℕ × List (K × Share K (Held K V)))) (es : List (K × Stored K V)) (s : Seen K V) (x : SessionsSeen K) → CoreStands eq m (core_of d ts es s x) → (ps qs : List (K × Share K (Held K V))) → {Y : Type 0} (o : Option Y) (B : Y → Type 0)
+      → table_at ts j.name.version ≡ ps → PutsTable j.name.version qs ts us → IfSome o (λ y. B y × (e ≡ d) × KeepsTable eq ps qs) → IfNone o (ReturnsJob eq j.name.version j.name.key j j ps qs d e)
       → IfNone o ((w : World K V) (W : List K) (n : ℕ) → Working eq m j.name.version W w n ps d → Working eq m j.name.version W w n qs e) → CoreStands eq m (core_of e us es s x)
-  back_stands j d e ts us es s x st ps qs (Some y) found put same back kept =
-      subst (λ z. CoreStands eq m (core_of z us es s x)) (sym same.0)
-      (stands_same eq equality m law (core_of d ts es s x) (core_of d us es s x) (kept_stands eq d ts es s x j.name.version us qs put (subst (λ a. KeepsTable eq a qs) (sym found) same.1)) st)
-  back_stands j d e ts us es s x st ps qs None found put same back kept =
+  back_stands j d e ts us es s x st ps qs (Some y) B found put same back kept =
+      subst (λ z. CoreStands eq m (core_of z us es s x)) (sym same.1)
+      (stands_same eq equality m law (core_of d ts es s x) (core_of d us es s x) (kept_stands eq d ts es s x j.name.version us qs put (subst (λ a. KeepsTable eq a qs) (sym found) same.2)) st)
+  back_stands j d e ts us es s x st ps qs None B found put same back kept =
       turned_stands eq equality m law d ts es s x st j.name.version j.name.key (held_of j IsOut) (held_of j IsReady) us qs e put
         (subst (λ a. IsTurned eq j.name.key (held_of j IsOut) (held_of j IsReady) a qs) (sym found) back.table) back.desk.rest.events back.desk.rest.ended
         (λ w W n work. kept w W n (subst (λ a. Working eq m j.name.version W w n a d) found work))
@@ -206,7 +206,34 @@ module _ {K V : Type 0} (eq : K → K → Bool) where
   back_turned m j d e ts us ps qs (Some y) found put back = tt
   back_turned m j d e ts us ps qs None found put back = record { tasks = qs; put = put; turned = subst (λ a. ReturnsJob eq j.name.version j.name.key j j a qs d e) (sym found) back }
 
-  -- of a job that is handed back only what becomes of the tasks
-  pub same_out : {Y : Type 0} (o : Option Y) {B : Y → Type 0} {ps qs : List (K × Share K (Held K V))} {d e : DeskSeen K V} → IfSome o (λ y. B y × (e ≡ d) × KeepsTable eq ps qs) → IfSome o (λ y. (e ≡ d) × KeepsTable eq ps qs)
-  same_out None h = tt
-  same_out (Some y) h = (h.1, h.2)
+
+  -- nothing is told of a job that comes back
+  pub back_events : {Y : Type 0} (j : Assigned K V) (d e : DeskSeen K V) (ps qs : List (K × Share K (Held K V))) (o : Option Y) (B : Y → Type 0) → IfSome o (λ y. B y × (e ≡ d) × KeepsTable eq ps qs) → IfNone o (ReturnsJob eq j.name.version j.name.key j j ps qs d e) → e.events ≡ d.events
+  back_events j d e ps qs (Some y) B h back = ap (λ (z : DeskSeen K V). z.events) h.1
+  back_events j d e ps qs None B h back = back.desk.rest.events
+
+  -- the task that was found, by its version and key
+  pub held_found : (ts : List (ℕ × List (K × Share K (Held K V)))) (u v : ℕ) (k l : K) (ps : List (K × Share K (Held K V))) (o : Option (Held K V)) → u ≡ v → k ≡ l → lookup (nat_eq u) ts ≡ Some ps → task_at eq ps k ≡ o → task_at eq (table_at ts v) l ≡ o
+  held_found ts u v k l ps o at key found there = subst (λ z. task_at eq (table_at ts z) l ≡ o) at (subst (λ z. task_at eq (table_at ts u) z ≡ o) key (ap (λ a. task_at eq a k) (table_found ts u ps found) ∙ there))
+
+  pub held_missing : (ts : List (ℕ × List (K × Share K (Held K V)))) (u v : ℕ) (l : K) → u ≡ v → lookup (nat_eq u) ts ≡ None → task_at eq (table_at ts v) l ≡ None
+  held_missing ts u v l at none = subst (λ z. task_at eq (table_at ts z) l ≡ None) at (ap (λ (o : Option (List (K × Share K (Held K V)))). task_at eq (unwrap_or o []) l) none)
+
+-- a test of what was found
+pub found_iff : {H : Type 0} (b : Bool) (o : Option H) (t h : H) → o ≡ Some t → (IsTrue b ↔ (t ≡ h)) → IsTrue b ↔ (o ≡ Some h)
+found_iff b o t h e f = (λ i. e ∙ ap Some (f.0 i), λ g. f.1 (let x : Some t ≡ Some h = sym e ∙ g in cc))
+
+pub none_iff : {H : Type 0} (o : Option H) (h : H) → o ≡ None → IsTrue false ↔ (o ≡ Some h)
+none_iff o h e = (λ i. (let x : false ≡ true = i in cc), λ g. (let x : None ≡ Some h = sym e ∙ g in cc))
+
+-- a phase that is out
+pub phase_out : {K V : Type 0} (a : Assigned K V) (p : Phase K) → out_in (held_of a p).standing ≡ true → p ≡ IsOut
+phase_out a IsReady e = let x : false ≡ true = e in cc
+phase_out a IsOut e = refl
+phase_out a (IsWaiting ks) e = let x : false ≡ true = e in cc
+
+pub job_named : {K V : Type 0} (eq : K → K → Bool) (n : Name K) (ps : List (K × Share K (Held K V))) (t : Held K V) (a : Assigned K V) (p : Phase K) (b : Bool) → task_at eq ps n.key ≡ Some t → t ≡ held_of a p → out_in t.standing ≡ true → (IsTrue b ↔ (a.name ≡ n)) → IsTrue b ↔ IsJobNamed eq n ps
+job_named {K} {V} eq n ps t a p b there is out same = (
+  λ i. (a, there ∙ (ap Some is ∙ ap (λ q. Some (held_of a q)) (phase_out a p (subst (λ (z : Held K V). out_in z.standing ≡ true) is out))), same.0 i),
+  λ w. same.1 (let x : Some (held_of a p) ≡ Some (held_of w.0 IsOut) = sym (there ∙ ap Some is) ∙ w.1 in let y : held_of a p ≡ held_of w.0 IsOut = cc in ap (λ (z : Held K V). z.name) y ∙ w.2),
+)

@@ -133,17 +133,17 @@ module _ {K V : Type 0} (ts us : List (ℕ × List (K × Share K (Held K V)))) (
       by_test true = refl
       by_test false = h
 
+-- the session that is found has the version of its transaction
+pub session_version : {K : Type 0} (y : SessionsSeen K) (t : ℕ) (o : Opened) (z : SessionSeen) → transaction_at y t ≡ Some o → session_at y t ≡ Some z → o.version ≡ z.version
+session_version y t o z e f = let g : Some (opened_of z) ≡ Some o = sym (ap (option_map opened_of) f) ∙ e in let h : opened_of z ≡ o = cc in ap (λ (p : Opened). p.version) (sym h)
+
+pub no_session : {K : Type 0} (y : SessionsSeen K) (t : ℕ) (o : Opened) → transaction_at y t ≡ Some o → session_at y t ≡ None → ⊥
+no_session y t o e f = let g : None ≡ Some o = sym (ap (option_map opened_of) f) ∙ e in cc
+
 module _ {K V : Type 0} where
   -- an ask that is left was in an open transaction, which stays
   pub left_session : (R : List (Told K V)) (i : ℕ) (a : Asking K) (x y : SessionsSeen K) → SessionsStand R x → ask_at x i ≡ Some a → Leaves i a x y → (o : Opened) × (transaction_at y a.opened ≡ Some o) × (open_at R a.opened ≡ Some o) × (live_at R i ≡ Some a)
   left_session R i a x y st e l = let w = asking_opened R x i a st e in (w.0, l.transactions a.opened ∙ w.1, sym (st.transactions a.opened) ∙ w.1, sym (st.asks i) ∙ e)
-
-  -- the session that is found has the version of its transaction
-  pub session_version : (y : SessionsSeen K) (t : ℕ) (o : Opened) (z : SessionSeen) → transaction_at y t ≡ Some o → session_at y t ≡ Some z → o.version ≡ z.version
-  session_version y t o z e f = let g : Some (opened_of z) ≡ Some o = sym (ap (option_map opened_of) f) ∙ e in let h : opened_of z ≡ o = cc in ap (λ (p : Opened). p.version) (sym h)
-
-  pub no_session : (y : SessionsSeen K) (t : ℕ) (o : Opened) → transaction_at y t ≡ Some o → session_at y t ≡ None → ⊥
-  no_session y t o e f = let g : None ≡ Some o = sym (ap (option_map opened_of) f) ∙ e in cc
 
   -- at the version of its session
   pub leave_at : (R : List (Told K V)) (i : ℕ) (a : Asking K) (x y : SessionsSeen K) (z : SessionSeen) (t v : ℕ) → SessionsStand R x → ask_at x i ≡ Some a → Leaves i a x y → t ≡ a.opened → session_at y t ≡ Some z → v ≡ z.version

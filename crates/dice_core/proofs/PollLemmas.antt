@@ -71,39 +71,39 @@ module _ {K V : Type 0} (eq : K → K → Bool) (equality : IsEquality eq) (m : 
   tells_value = by_held (held_in eq c v k) refl
     where
       by_standing : (s : Standing K V) → IsStanding eq m (past_of c) v k s → TellsValue (comes_to s)
-      by_standing (Works w p A) t x e = (let y : Pending ≡ ToValue x = e in cc)
-      by_standing (Ended (WithValue z)) t x e = subst (λ y. HasValue eq m (commits_of (past_of c)) v k y) (let y : ToValue z ≡ ToValue x = e in cc) t.0
-      by_standing (Ended (WithCycle p)) t x e = (let y : ToCycle p ≡ ToValue x = e in cc)
-      by_standing (Ended WithNothing) t x e = (let y : ToNothing ≡ ToValue x = e in cc)
+      by_standing (Works w p A) t = λ x e. (let y : Pending ≡ ToValue x = e in cc)
+      by_standing (Ended (WithValue z)) t = λ x e. subst (λ y. HasValue eq m (commits_of (past_of c)) v k y) (let y : ToValue z ≡ ToValue x = e in cc) t.0
+      by_standing (Ended (WithCycle p)) t = λ x e. (let y : ToCycle p ≡ ToValue x = e in cc)
+      by_standing (Ended WithNothing) t = λ x e. (let y : ToNothing ≡ ToValue x = e in cc)
 
       by_held : (o : Option (Held K V)) → held_in eq c v k ≡ o → TellsValue (held_to o)
-      by_held None e x i = (let y : Absent ≡ ToValue x = i in cc)
+      by_held None e = λ x i. (let y : Absent ≡ ToValue x = i in cc)
       by_held (Some h) e = by_standing h.standing (stood h e).standing
 
   tells_cycle : TellsCycle (held_to (held_in eq c v k))
   tells_cycle = by_held (held_in eq c v k) refl
     where
       by_standing : (s : Standing K V) → IsStanding eq m (past_of c) v k s → TellsCycle (comes_to s)
-      by_standing (Works w p A) t x e = (let y : Pending ≡ ToCycle x = e in cc)
-      by_standing (Ended (WithValue z)) t x e = (let y : ToValue z ≡ ToCycle x = e in cc)
-      by_standing (Ended (WithCycle p)) t x e = subst (λ y. CycleStands eq m (commits_of (past_of c)) v k y) (let y : ToCycle p ≡ ToCycle x = e in cc) t.0
-      by_standing (Ended WithNothing) t x e = (let y : ToNothing ≡ ToCycle x = e in cc)
+      by_standing (Works w p A) t = λ x e. (let y : Pending ≡ ToCycle x = e in cc)
+      by_standing (Ended (WithValue z)) t = λ x e. (let y : ToValue z ≡ ToCycle x = e in cc)
+      by_standing (Ended (WithCycle p)) t = λ x e. subst (λ y. CycleStands eq m (commits_of (past_of c)) v k y) (let y : ToCycle p ≡ ToCycle x = e in cc) t.0
+      by_standing (Ended WithNothing) t = λ x e. (let y : ToNothing ≡ ToCycle x = e in cc)
 
       by_held : (o : Option (Held K V)) → held_in eq c v k ≡ o → TellsCycle (held_to o)
-      by_held None e x i = (let y : Absent ≡ ToCycle x = i in cc)
+      by_held None e = λ x i. (let y : Absent ≡ ToCycle x = i in cc)
       by_held (Some h) e = by_standing h.standing (stood h e).standing
 
   tells_lost : TellsLost (held_to (held_in eq c v k))
   tells_lost = by_held (held_in eq c v k) refl
     where
       by_standing : (s : Standing K V) → IsStanding eq m (past_of c) v k s → TellsLost (comes_to s)
-      by_standing (Works w p A) t e = (let y : Pending ≡ ToNothing = e in cc)
-      by_standing (Ended (WithValue z)) t e = (let y : ToValue z ≡ ToNothing = e in cc)
-      by_standing (Ended (WithCycle p)) t e = (let y : ToCycle p ≡ ToNothing = e in cc)
-      by_standing (Ended WithNothing) t e = t.0
+      by_standing (Works w p A) t = λ e. (let y : Pending ≡ ToNothing = e in cc)
+      by_standing (Ended (WithValue z)) t = λ e. (let y : ToValue z ≡ ToNothing = e in cc)
+      by_standing (Ended (WithCycle p)) t = λ e. (let y : ToCycle p ≡ ToNothing = e in cc)
+      by_standing (Ended WithNothing) t = λ e. t.0
 
       by_held : (o : Option (Held K V)) → held_in eq c v k ≡ o → TellsLost (held_to o)
-      by_held None e i = (let y : Absent ≡ ToNothing = i in cc)
+      by_held None e = λ i. (let y : Absent ≡ ToNothing = i in cc)
       by_held (Some h) e = by_standing h.standing (stood h e).standing
 
   -- how the journal decided it
@@ -131,13 +131,13 @@ module _ {K V : Type 0} (eq : K → K → Bool) (equality : IsEquality eq) (m : 
       going h e = ap is_going (sym (task_there (task_at eq (table_at c.tables v) k) h e)) ∙ (sym ((st.rests.each v).stands.live k) ∙ idle)
 
       by_standing : (s : Standing K V) → goes_on s ≡ false → comes_to {K = K} {V = V} s ≢ Pending
-      by_standing (Works w p A) g e = (let y : true ≡ false = g in cc)
-      by_standing (Ended (WithValue z)) g e = (let y : ToValue z ≡ Pending = e in cc)
-      by_standing (Ended (WithCycle p)) g e = (let y : ToCycle p ≡ Pending = e in cc)
-      by_standing (Ended WithNothing) g e = (let y : ToNothing ≡ Pending = e in cc)
+      by_standing (Works w p A) g = λ e. (let y : true ≡ false = g in cc)
+      by_standing (Ended (WithValue z)) g = λ e. (let y : ToValue z ≡ Pending = e in cc)
+      by_standing (Ended (WithCycle p)) g = λ e. (let y : ToCycle p ≡ Pending = e in cc)
+      by_standing (Ended WithNothing) g = λ e. (let y : ToNothing ≡ Pending = e in cc)
 
       by_held : (o : Option (Held K V)) → held_in eq c v k ≡ o → held_to o ≢ Pending
-      by_held None e i = (let y : Absent ≡ Pending = i in cc)
+      by_held None e = λ i. (let y : Absent ≡ Pending = i in cc)
       by_held (Some h) e = by_standing h.standing (going h e)
 
   -- who is promised has a task

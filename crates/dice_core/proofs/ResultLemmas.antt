@@ -31,21 +31,21 @@ use Rattle.dice_core.proofs.OpeningLemmas.{same_sessions}
 use Rattle.dice_core.proofs.SessionLemmas.{quiet_stands, eqb_flips}
 
 -- a result is Ok or not
-pub either_way : {X E : Type 0} (r : Result X E) {A B P : Type 0} → OnOk r A → OnErr r B → (A → P) → (B → P) → P
-either_way (Ok x) a b f h = f a
-either_way (Err e) a b f h = h b
+pub either_way : {X E : Type 0} (r : Result X E) (A B P : Type 0) → OnOk r A → OnErr r B → (A → P) → (B → P) → P
+either_way (Ok x) A B P a b f h = f a
+either_way (Err e) A B P a b f h = h b
 
-pub on_err : {X E : Type 0} (r : Result X E) {A B : Type 0} → OnErr r A → (A → B) → OnErr r B
-on_err (Ok x) a f = tt
-on_err (Err e) a f = f a
+pub on_err : {X E : Type 0} (r : Result X E) (A B : Type 0) → OnErr r A → (A → B) → OnErr r B
+on_err (Ok x) A B a f = tt
+on_err (Err e) A B a f = f a
 
-pub on_ok : {X E : Type 0} (r : Result X E) {A B : Type 0} → OnOk r A → (A → B) → OnOk r B
-on_ok (Ok x) a f = f a
-on_ok (Err e) a f = tt
+pub on_ok : {X E : Type 0} (r : Result X E) (A B : Type 0) → OnOk r A → (A → B) → OnOk r B
+on_ok (Ok x) A B a f = f a
+on_ok (Err e) A B a f = tt
 
-pub both_ok : {X E : Type 0} (r : Result X E) {A B : Type 0} → OnOk r A → OnOk r B → OnOk r (A × B)
-both_ok (Ok x) a b = (a, b)
-both_ok (Err e) a b = tt
+pub both_ok : {X E : Type 0} (r : Result X E) (A B : Type 0) → OnOk r A → OnOk r B → OnOk r (A × B)
+both_ok (Ok x) A B a b = (a, b)
+both_ok (Err e) A B a b = tt
 
 -- there are no more commits than events
 pub commits_within : {K V : Type 0} (R : List (Told K V)) → length (commits_of R) ≤ length R

@@ -65,9 +65,6 @@ module _ {K V : Type 0} where
   pub session_open : (R : List (Told K V)) (x : SessionsSeen K) (t : ℕ) (z : SessionSeen) (v : ℕ) → SessionsStand R x → session_at x t ≡ Some z → v ≡ z.version → (open_at R t ≡ Some (opened_of z)) × ((opened_of z).version ≡ v)
   session_open R x t z v st e at = (sym (st.transactions t) ∙ ap (option_map opened_of) e, sym at)
 
-  pub session_there : (x y : SessionsSeen K) (t : ℕ) (z : SessionSeen) → IsSame x y → session_at x t ≡ Some z → is_some (transaction_at x t) ≡ true
-  session_there x y t z same e = ap (λ (o : Option SessionSeen). is_some (option_map opened_of o)) e
-
 module _ {K V : Type 0} (eq : K → K → Bool) (equality : IsEquality eq) (m : Meaning K V) (law : IsLawful m) (d : DeskSeen K V) (ts : List (ℕ × List (K × Share K (Held K V)))) (es : List (K × Stored K V)) (s : Seen K V) (x : SessionsSeen K) (st : CoreStands eq m (core_of d ts es s x)) (v t : ℕ) (o : Opened) (op : open_at (reverse d.events) t ≡ Some o) (at : o.version ≡ v) (ps : List (K × Share K (Held K V))) (found : table_at ts v ≡ ps) (n : ℕ) (owes : n ≡ owed x) where
   -- the version of an open transaction may be in hand
   pub hand_open : AtHand eq m v (world_of eq ts) n ps d es s

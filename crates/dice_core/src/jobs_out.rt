@@ -53,6 +53,7 @@ pub(crate) fn bring_back<U: Universe>(
 ) -> Option<Job<U>>
     requires stands { MayStand U.Key.eq U.meaning desk.old versions.old.entries }
     ensures other { IfSome result (λ j. (j ≡ job) × ((es : List (U.Key × Stored U.Key U.Value)) (s : Seen U.Key U.Value) (x : SessionsSeen U.Key) → IsAsBefore U.Key.eq (core_of desk.old versions.old.entries es s x) (core_of desk.new versions.new.entries es s x)) × (task_at U.Key.eq (table_at versions.old.entries job.name.version) job.name.key ≡ Some (held_of job IsOut) → ⊥)) }
+    ensures events { desk.new.events ≡ desk.old.events }
     ensures back { IfNone result (Turned U.Key.eq U.meaning job.name.version versions.old.entries versions.new.entries (λ ps qs. ReturnsJob U.Key.eq job.name.version job.name.key job job ps qs desk.old desk.new)) }
     ensures kept { StandsOn U.Key.eq U.meaning desk.old versions.old.entries desk.new versions.new.entries }
 {

@@ -5,12 +5,12 @@ use Rattle.dice_core.specs.Endings.{path_of}
 use Rattle.dice_core.proofs.jobs_out.give_up.Goals as goal
 
 pub cascade-requires-clause-cleaning : goal.cascade-requires-clause-cleaning
-cascade-requires-clause-cleaning g c =
+cascade-requires-clause-cleaning g c κs within =
     let h = c.requires.hand in
-    (h.1, h.0, cleaning_of g.U.Key.PartialEq.eq c.laws_of.ensures.keys g.U.Universe.meaning c.laws_of.ensures.lawful c.args.version h.1 h.0 _ _ (c.end_all.ensures.kept h.1 h.0 h.4.working))
+    (h.1.0, h.0, cleaning_of g.U.Key.PartialEq.eq c.laws_of.ensures.keys g.U.Universe.meaning c.laws_of.ensures.lawful c.args.version h.1.0 h.0 _ _ (c.end_all.ensures.kept h.1.0 h.0 h.1.3.working))
 
 pub cascade-requires-clause-after : goal.cascade-requires-clause-after
-cascade-requires-clause-after g c =
+cascade-requires-clause-after g c κs within =
     let e = c.end_all.ensures.ends in
     may_drop g.U.Key.PartialEq.eq g.U.Universe.meaning c.args.version (path_of c.args.how.now) (arc_value c.args.key.now) e.0 _ _ _ _ e.1
 

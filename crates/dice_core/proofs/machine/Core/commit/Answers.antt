@@ -21,7 +21,7 @@ invariant_of-self g c =
     let cells = c.commit.ensures.kept c.self.invariant.cells in
     let left = differing_of eq g.U.Value.PartialEq.eq m s.cells (pairs_of c.args.changes.now) in
     subst (λ gs. CoreStands eq m (core_of c.commit.new.desk s.versions.entries gs c.commit.new.cells s.sessions)) (sym c.commit.ensures.graph)
-    (either_way c.commit.result (both_ok c.commit.result c.commit.ensures.ok c.commit.ensures.allowed) c.commit.ensures.err
+    (either_way c.commit.result _ _ _ (both_ok c.commit.result _ _ c.commit.ensures.ok c.commit.ensures.allowed) c.commit.ensures.err
         (λ w. committed_stands eq c.laws_of.ensures.keys m c.laws_of.ensures.lawful s.desk c.commit.new.desk s.versions.entries s.graph s.cells c.commit.new.cells s.sessions c.self.invariant c.commit.ensures.hands cells c.args.by left w.0 (w.1 c.self.invariant.cells))
         (λ b. stands_same eq c.laws_of.ensures.keys m c.laws_of.ensures.lawful _ _ (uncommitted eq c.laws_of.ensures.keys m c.laws_of.ensures.lawful s.desk c.commit.new.desk s.versions.entries s.graph s.cells c.commit.new.cells s.sessions c.self.invariant c.commit.ensures.hands cells b.events b.sets b.last) c.self.invariant))
 
@@ -33,4 +33,4 @@ returns-clause-err g c =
     let cells = c.commit.ensures.kept c.self.invariant.cells in
     subst (λ (v : CoreSeen g.row.U-Key.Denot g.row.U-Value.Denot). OnErr c.commit.result (IsAsBefore eq v (core_of c.commit.new.desk s.versions.entries c.commit.new.graph c.commit.new.cells s.sessions))) c.self.view_is
     (subst (λ gs. OnErr c.commit.result (IsAsBefore eq (core_of s.desk s.versions.entries s.graph s.cells s.sessions) (core_of c.commit.new.desk s.versions.entries gs c.commit.new.cells s.sessions))) (sym c.commit.ensures.graph)
-        (on_err c.commit.result c.commit.ensures.err (λ b. uncommitted eq c.laws_of.ensures.keys m c.laws_of.ensures.lawful s.desk c.commit.new.desk s.versions.entries s.graph s.cells c.commit.new.cells s.sessions c.self.invariant c.commit.ensures.hands cells b.events b.sets b.last)))
+        (on_err c.commit.result _ _ c.commit.ensures.err (λ b. uncommitted eq c.laws_of.ensures.keys m c.laws_of.ensures.lawful s.desk c.commit.new.desk s.versions.entries s.graph s.cells c.commit.new.cells s.sessions c.self.invariant c.commit.ensures.hands cells b.events b.sets b.last)))
