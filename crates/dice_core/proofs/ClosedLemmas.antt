@@ -71,9 +71,6 @@ module _ {K V : Type 0} (eq : K → K → Bool) (equality : IsEquality eq) (m : 
       by_test true i k = omega arith
       by_test false i k = omega arith
 
-  pub close_hand : (n : ℕ) → n ≡ owed x → AtHand eq m v (world_of eq ts) n ps d es s
-  close_hand n owes = subst (λ a. AtHand eq m v (world_of eq ts) n a d es s) found (subst (λ k. AtHand eq m v (world_of eq ts) k (table_at ts v) d es s) (sym owes) (in_hand eq equality m law (core_of d ts es s x) st v (opened_some eq equality m law d ts es s x st v t o op at)))
-
   module _ (left : LeftHand eq m v (world_of eq ts) (owed y) qs e es s) where
     -- another transaction is open at the version
     pub closed_on : (n : ℕ) → n ≡ open_count_of y.epochs v → (n ≡ 0 → ⊥) → CoreStands eq m (core_of e us es s y)
@@ -87,6 +84,15 @@ module _ {K V : Type 0} (eq : K → K → Bool) (equality : IsEquality eq) (m : 
     -- none is: the table goes
     pub closed_away : (ws : List (ℕ × List (K × Share K (Held K V)))) → ((u : ℕ) → lookup (nat_eq u) ws ≡ cond (nat_eq v u) None (lookup (nat_eq u) us)) → (n : ℕ) → n ≡ open_count_of y.epochs v → n ≡ 0 → CoreStands eq m (core_of e ws es s y)
     closed_away ws gone n is none = thrown_away_so eq equality m law (core_of d ts es s x) st v ws qs e es s y (put_away ts us ws v qs put gone) left (sym (stands.counts v) ∙ (sym is ∙ none)) stands tabled
+
+-- a transaction that was found is open
+pub closing_at : {K V : Type 0} (R : List (Told K V)) (x : SessionsSeen K) (t v : ℕ) (z : SessionSeen) → SessionsStand R x → session_at x t ≡ Some z → v ≡ z.version → open_at R t ≡ Some (record { by = z.by; version = v })
+closing_at R x t v z st known at = sym (st.transactions t) ∙ (ap (option_map opened_of) known ∙ ap (λ n. Some (record { by = z.by; version = n })) (sym at))
+
+-- its version is in hand
+pub closing_hand : {K V : Type 0} (eq : K → K → Bool) → IsEquality eq → (m : Meaning K V) → IsLawful m → (d : DeskSeen K V) (ts : List (ℕ × List (K × Share K (Held K V)))) (es : List (K × Stored K V)) (s : Seen K V) (x : SessionsSeen K) → CoreStands eq m (core_of d ts es s x) → (v t : ℕ) (o : Opened) → open_at (reverse d.events) t ≡ Some o → o.version ≡ v
+    → (ps : List (K × Share K (Held K V))) → table_at ts v ≡ ps → (n : ℕ) → n ≡ owed x → AtHand eq m v (world_of eq ts) n ps d es s
+closing_hand eq equality m law d ts es s x st v t o op at ps found n owes = subst (λ a. AtHand eq m v (world_of eq ts) n a d es s) found (subst (λ k. AtHand eq m v (world_of eq ts) k (table_at ts v) d es s) (sym owes) (in_hand eq equality m law (core_of d ts es s x) st v (opened_some eq equality m law d ts es s x st v t o op at)))
 
 -- ---- results of steps
 

@@ -17,6 +17,7 @@ pub mod EntriesLemmas
 pub mod EventLemmas
 pub mod FinishLemmas
 pub mod GiveUpLemmas
+pub mod GivesLemmas
 pub mod GivingUp
 pub mod JobsLemmas
 pub mod JoinLemmas

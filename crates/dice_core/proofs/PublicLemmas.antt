@@ -90,3 +90,8 @@ module _ {K V : Type 0} (eq : K → K → Bool) (equality : IsEquality eq) (m : 
 pub named_iff : (b : Bool) (P : Type 0) → (b ≡ false → P → ⊥) → (b ≡ true → P) → IsTrue b ↔ P
 named_iff true P n y = (λ i. y refl, λ p. refl)
 named_iff false P n y = (λ i. (let c : false ≡ true = i in cc), λ p. absurd (n refl p))
+
+-- what holds of a result where there is one
+pub some_map : {Y : Type 0} (o : Option Y) (P Q : Y → Type 0) → IfSome o P → ((y : Y) → P y → Q y) → IfSome o Q
+some_map None P Q h f = tt
+some_map (Some y) P Q h f = f y h

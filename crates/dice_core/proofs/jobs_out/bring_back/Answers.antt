@@ -6,14 +6,14 @@ use Rattle.core_laws.specs.Tasks.{IsOut}
 use Rattle.dice_core.specs.Helds.{held_of}
 use Rattle.dice_core.specs.Endings.{Knows}
 use Rattle.dice_core.proofs.JobsLemmas.{table_found, none_held, knows_at, back_stands, back_same_core, back_turned, unchanged, back_events}
-use Rattle.dice_core.specs.Cores.{core_of, PutsTable}
+use Rattle.dice_core.specs.Cores.{core_of, PutsTable, IsAsBefore}
 use Rattle.dice_core.proofs.jobs_out.bring_back.Goals as goal
 
 pub returns-in_default-clause-other : goal.returns-in_default-clause-other
 returns-in_default-clause-other g c =
     let at : c.version-version.result ≡ c.args.job.name.version = c.version-version.ensures ∙ ap (λ n. n.version) c.name.ensures in
     let none : lookup (nat_eq c.args.job.name.version) c.args.versions.now.entries ≡ None = subst (λ n. lookup (nat_eq n) c.args.versions.now.entries ≡ None) at (sym c.get_mut.ensures.value ∙ ap option_copied_mut c.in_default.is) in
-    (refl, λ es s x. unchanged g.U.Key.PartialEq.eq (core_of c.args.desk.now c.args.versions.now.entries es s x), λ out. none_held g.U.Key.PartialEq.eq c.args.versions.now.entries c.args.job.name.version c.args.job.name.key (held_of c.args.job IsOut) none out)
+    (refl, λ es s x. subst (λ us. IsAsBefore g.U.Key.PartialEq.eq (core_of c.args.desk.now c.args.versions.now.entries es s x) (core_of c.args.desk.now us es s x)) (sym (ap (λ m. m.entries) c.get_mut.follows.holds-at-none)) (unchanged g.U.Key.PartialEq.eq (core_of c.args.desk.now c.args.versions.now.entries es s x)), λ out. none_held g.U.Key.PartialEq.eq c.args.versions.now.entries c.args.job.name.version c.args.job.name.key (held_of c.args.job IsOut) none out)
 
 pub put_back-requires-clause-known : goal.put_back-requires-clause-known
 put_back-requires-clause-known g c κs within =
