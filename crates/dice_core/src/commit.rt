@@ -6,11 +6,13 @@ ghost use Rattle.std.specs.Map.{keys_of};
 ghost use Rattle.dice_model.specs.Log.{AreDistinct, pairs_of};
 ghost use Rattle.injected.specs.Inputs.{AreOf};
 ghost use Rattle.journal.specs.Law.{IsAllowed, IsLawfulJournal};
+ghost use Rattle.dice_core.specs.Hands.{KeepsWork};
 ghost use Rattle.dice_core.specs.Commits.{Fault, fault_of, AreSettable, IsFirstFault, differing_of, HaveRoom, SameSets, AreSet, event_of, Commits, IsAsBefore, CellsStand};
 
+use crate::desk::Desk;
 use dice_key::{KeyRef, Kind, NoMemory, Universe, ValueRef, Version, laws_of};
 use injected::{Cells, cells_are_the_inputs, cells_in_order};
-use journal::{Changes, Event, Journal};
+use journal::{Changes, Event};
 use std::alloc::Global;
 use std::collections::HashSet;
 use std::hash::Hash;
@@ -55,7 +57,7 @@ pub(crate) fn check_changes<'a, U: Universe>(
 }
 
 /// Adds a key to those that were seen; whether it is new there.
-fn note<K: Eq + Hash + Drop>(seen: &mut HashSet<Arc<K>>, key: &Arc<K>) -> Result<bool, NoMemory>
+pub(crate) fn note<K: Eq + Hash + Drop>(seen: &mut HashSet<Arc<K>>, key: &Arc<K>) -> Result<bool, NoMemory>
     ensures added { IfOk result (λ is_new. is_new ≡ not (list_any (λ k. K.eq (arc_value key.now) (arc_value k)) seen.old.keys)) }
     ensures seen { OnOk result ((q : K) → list_any (λ k. K.eq q (arc_value k)) seen.new.keys ≡ (if K.eq (arc_value key.now) q then true else list_any (λ k. K.eq q (arc_value k)) seen.old.keys)) }
 {
@@ -152,18 +154,17 @@ fn commit_settable<U: Universe>(
     alloc: Global,
     cells: &mut Cells<U>,
     graph: &mut Graph<U>,
-    journal: &mut Journal<U>,
-    owed: usize,
+    desk: &mut Desk<U>,
     by: u64,
     changes: &[(KeyRef<U>, ValueRef<U>)],
 ) -> Result<Version, NoMemory>
     requires settable { AreSettable U.meaning (keys_of (pairs_of changes.now)) }
     requires newest { cells.old.last < u64.MAX }
     ensures version { IfOk result (λ v. v ≡ cells.new.last) }
-    ensures ok { OnOk result (Commits U.Key.eq by (differing_of U.Key.eq U.Value.eq U.meaning cells.old (pairs_of changes.now)) cells.old cells.new journal.old.events journal.new.events) }
-    ensures err { OnErr result (IsAsBefore U.Key.eq cells.old cells.new journal.old.events journal.new.events) }
+    ensures ok { OnOk result (Commits U.Key.eq by (differing_of U.Key.eq U.Value.eq U.meaning cells.old (pairs_of changes.now)) cells.old cells.new desk.old.events desk.new.events) }
+    ensures err { OnErr result (IsAsBefore U.Key.eq cells.old cells.new desk.old.events desk.new.events) }
     ensures graph { graph.new ≡ graph.old }
-    ensures room { owed ≤ journal.old.spare → owed ≤ journal.new.spare }
+    ensures hands { KeepsWork desk.old desk.new }
 {
     let differing = differing(alloc, cells, changes)?;
     if differing.is_empty() {
@@ -172,26 +173,24 @@ fn commit_settable<U: Universe>(
     let version = cells.last() + 1;
     let keys = changed_keys(alloc, &differing)?;
     let sets = copied_changes(alloc, &differing)?;
-    let room = owed.checked_add(1).ok_or(NoMemory)?;
-    journal.reserve(room)?;
+    desk.reserve_event()?;
     reserve_cells(cells, &sets)?;
     graph.commit(&keys, version)?;
     set_cells(cells, version, sets);
-    journal.push_reserved(Event::Commit(by, Changes::from_pairs(differing)));
+    desk.push(Event::Commit(by, Changes::from_pairs(differing)));
     Ok(version)
 }
 
 /// Commits the changes whose value is not the key's newest one: one event, and one version more; with none there is neither. The
 /// version is the newest one after it. At a refusal all is as before.
 ///
-/// Room for `owed` more events stays, where it was there. It costs a look-up for each change.
+/// All room that was made stays. It costs a look-up for each change.
 pub(crate) fn commit<'a, U: Universe>(
     alloc: Global,
     universe: &U,
     cells: &mut Cells<U>,
     graph: &mut Graph<U>,
-    journal: &mut Journal<U>,
-    owed: usize,
+    desk: &mut Desk<U>,
     by: u64,
     changes: &'a [(KeyRef<U>, ValueRef<U>)],
 ) -> Result<Version, CommitRefusal<'a, U>>
@@ -204,20 +203,20 @@ pub(crate) fn commit<'a, U: Universe>(
 
     // What is committed.
     ensures version { IfOk result (λ v. v ≡ cells.new.last) }
-    ensures ok { OnOk result (Commits U.Key.eq by (differing_of U.Key.eq U.Value.eq U.meaning cells.old (pairs_of changes.now)) cells.old cells.new journal.old.events journal.new.events) }
-    ensures err { OnErr result (IsAsBefore U.Key.eq cells.old cells.new journal.old.events journal.new.events) }
+    ensures ok { OnOk result (Commits U.Key.eq by (differing_of U.Key.eq U.Value.eq U.meaning cells.old (pairs_of changes.now)) cells.old cells.new desk.old.events desk.new.events) }
+    ensures err { OnErr result (IsAsBefore U.Key.eq cells.old cells.new desk.old.events desk.new.events) }
     ensures graph { graph.new ≡ graph.old }
-    ensures room { owed ≤ journal.old.spare → owed ≤ journal.new.spare }
+    ensures hands { KeepsWork desk.old desk.new }
 
     // What is kept.
-    ensures kept { CellsStand U.Key.eq (reverse journal.old.events) cells.old → CellsStand U.Key.eq (reverse journal.new.events) cells.new }
-    ensures allowed { OnOk result (CellsStand U.Key.eq (reverse journal.old.events) cells.old → AllByRecursion (IsAllowed U.Key.eq U.meaning (reverse journal.old.events)) (event_of by (differing_of U.Key.eq U.Value.eq U.meaning cells.old (pairs_of changes.now)))) }
-    ensures lawful { CellsStand U.Key.eq (reverse journal.old.events) cells.old → IsLawfulJournal U.Key.eq U.meaning journal.old.events → IsLawfulJournal U.Key.eq U.meaning journal.new.events }
+    ensures kept { CellsStand U.Key.eq (reverse desk.old.events) cells.old → CellsStand U.Key.eq (reverse desk.new.events) cells.new }
+    ensures allowed { OnOk result (CellsStand U.Key.eq (reverse desk.old.events) cells.old → AllByRecursion (IsAllowed U.Key.eq U.meaning (reverse desk.old.events)) (event_of by (differing_of U.Key.eq U.Value.eq U.meaning cells.old (pairs_of changes.now)))) }
+    ensures lawful { CellsStand U.Key.eq (reverse desk.old.events) cells.old → IsLawfulJournal U.Key.eq U.meaning desk.old.events → IsLawfulJournal U.Key.eq U.meaning desk.new.events }
 {
     laws_of::<U>();
     cells_are_the_inputs::<U>();
     check_changes(alloc, universe, changes)?;
-    match commit_settable(alloc, cells, graph, journal, owed, by, changes) {
+    match commit_settable(alloc, cells, graph, desk, by, changes) {
         Ok(version) => Ok(version),
         Err(NoMemory) => Err(CommitRefusal::NoMemory),
     }

@@ -108,7 +108,7 @@ impl<U: Universe> Assignment<U> {
 
     /// The same assignment with one more batch answered, with a value for each of its keys. Keys and values are shared; it costs
     /// their number, over all batches.
-    pub(crate) fn extended(
+    pub fn extended(
         &self,
         batch: &Batch<U::Key>,
         answers: &Answers<U::Value>,

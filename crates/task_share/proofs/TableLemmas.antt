@@ -1,13 +1,17 @@
 -- What each call makes of a table, from what it makes of its places.
-use Rattle.std.proofs.Common.{◌≡◌, ◌≤◌, ◌<◌, ◌+◌, inl, inr, ◌⊎◌, ℕ, Bool, true, false, not, cond, ◌&&◌, ◌||◌, List, [], ◌∷◌, length, Option, Some, None, is_some, nat_eq, eq-eqb, refl, sym, ap, ◌∙◌, subst, arith}
+use Rattle.std.proofs.Common.{◌≡◌, ◌≤◌, ◌<◌, ◌+◌, inl, inr, ◌⊎◌, ℕ, Bool, true, false, not, cond, map, ◌&&◌, ◌||◌, List, [], ◌∷◌, length, Option, Some, None, is_some, nat_eq, eq-eqb, refl, sym, ap, ◌∙◌, subst, arith}
 use Rattle.std.specs.Prelude.{option_and_then, IsSome, OnSome}
 use Rattle.std.specs.Option.{option_map}
 use Rattle.std.specs.Map.{lookup}
-use Rattle.std.specs.List.{list_any}
+use Rattle.std.specs.Arc.{arc_value}
+use Rattle.std.specs.declared.sync.Arc.{Arc}
+use Rattle.std.specs.List.{list_any, IsDistinct, AllByRecursion}
+use Rattle.std.proofs.lemmas.Map.Keys.{IsDistinct-head, IsDistinct-tail}
 use Rattle.dice_key.specs.Lawful.{IsEquality}
 use Rattle.task_share.specs.Asked.{By, Promised, Tasked, is_by, Takes, IsDone}
 use Rattle.task_share.specs.Seen.{Share, is_for, list_for, number_for, has_by, has_live, task_at, is_live, asks, waits_at, asked_of, has_place, promise_room, asker_room, wait_room, ask_count, one_if, live_count, KeepsTasks, KeepsAsks, KeepsRoom, KeepsOtherRoom, UsesRoomOf}
 use Rattle.task_share.specs.Lent.{WritesTask}
+use Rattle.task_share.specs.Lists.{Has, AreDistinct}
 use Rattle.task_share.specs.Listed.{is_idle, IsListed, AreIn, IsChanged, Turns, Joined, Left, UsesRoom, IsKept, IsMirrored, Withdraws, IsPopped, NoneIdle}
 use Rattle.task_share.proofs.PlaceLemmas.{and_both, idle_unasked}
 use Rattle.task_share.proofs.TurnLemmas.{same_cond, asks_turned, waits_turned, task_turned, test_turned, tasks_kept, count_kept, room_kept, place_kept, number_kept, by_key, tasks_on, room_on}
@@ -402,3 +406,13 @@ module _ {K T : Type 0} (eq : K → K → Bool) (law : IsEquality eq) where
 pub on_some : {X : Type 0} {P : Type 0} (o : Option X) → (is_some o ≡ true → P) → OnSome o P
 on_some None f = tt
 on_some (Some x) f = f refl
+
+-- pointers that are apart by what they point to point to distinct things
+pub distinct_values : {K A : Type 0} (eq : K → K → Bool) → IsEquality eq → (xs : List (Arc K A)) → IsDistinct (λ x y. eq (arc_value x) (arc_value y)) xs → AreDistinct (map arc_value xs)
+distinct_values eq law [] d = tt
+distinct_values {K} {A} eq law (x ∷ xs) d = (λ h. clash xs (IsDistinct-head (λ (a b : Arc K A). eq (arc_value a) (arc_value b)) x xs d) h, distinct_values eq law xs (IsDistinct-tail (λ (a b : Arc K A). eq (arc_value a) (arc_value b)) x xs d))
+  where
+    clash : (ys : List (Arc K A)) → AllByRecursion (λ y. eq (arc_value x) (arc_value y) ≡ false) ys → Has (map arc_value ys) (arc_value x) → ⊥
+    clash [] a h = h
+    clash (y ∷ ys) a (inl q) = let e : eq (arc_value x) (arc_value y) ≡ true = subst (λ z. eq (arc_value x) z ≡ true) (sym q) (law.itself (arc_value x)) in let c : false ≡ true = sym a.0 ∙ e in cc
+    clash (y ∷ ys) a (inr h) = clash ys a.1 h

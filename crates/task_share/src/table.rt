@@ -8,6 +8,7 @@ ghost use Rattle.dice_key.specs.Lawful.{IsEquality};
 ghost use Rattle.task_share.specs.Asked.{By, Promised, Tasked, is_by, IsDone, Takes};
 ghost use Rattle.task_share.specs.Askers.{by_of};
 ghost use Rattle.task_share.specs.Lent.{LendsTask};
+ghost use Rattle.task_share.specs.Lists.{AreDistinct};
 ghost use Rattle.task_share.specs.Seen.{task_at, is_live, asks, waits_at, asked_of, ask_count, live_count, IsMirrored, has_place, promise_room, asker_room, wait_room, KeepsTasks, KeepsAsks, KeepsRoom, KeepsOtherRoom, UsesRoomOf};
 
 use crate::asker::{Asker, Askers, Wait};
@@ -305,10 +306,11 @@ impl<K: Eq + Hash + Drop, T: Drop> Table<K, T> {
         }
     }
 
-    /// The askers of the key, which may be none.
+    /// The askers of the key, which may be none. No task stands there twice.
     pub fn askers(&self, key: &Arc<K>) -> Askers<'_, K>
         ensures promises { (n : ℕ) → list_any (nat_eq n) result.promises.now ≡ asks K.eq self.now (arc_value key.now) (Promised n) }
         ensures tasks { (j : K) → list_any (K.eq j) (map arc_value result.tasks.now) ≡ asks K.eq self.now (arc_value key.now) (Tasked j) }
+        ensures distinct { AreDistinct (map arc_value result.tasks.now) }
     {
         match self.places.get(key) {
             Some(place) => Askers {

@@ -5,6 +5,7 @@ use Rattle.std.proofs.lemmas.List.{length-map}
 use Rattle.dice_model.specs.Log.{AreDistinct, pair_of, pairs_of}
 use Rattle.journal.specs.declared.event.Told.TheVariants.{Commit}
 use Rattle.dice_core.specs.Commits.{differs, differing_of}
+use Rattle.dice_core.specs.Hands.{DeskSeen}
 use Rattle.dice_core.proofs.CommitLaws.{distinct_left, not_empty, committed}
 use Rattle.dice_core.proofs.commit.commit_settable.Goals as goal
 
@@ -22,7 +23,7 @@ returns-clause-ok g c =
     let more : 0 < ps.len = not_empty c.is_empty.result ps.len c.is_empty.ensures c.if-is_empty.false in
     let many : length (pairs_of ps.items) ≡ length left = ap length c.in_ok-differing.ensures in
     let some : 0 < length left = omega (arith, ps.ok.0, length-map ps.items pair_of, many, more) in
-    let H = c.reserve.new.self.events in
-    committed g.U.Key.PartialEq.eq c.args.by left (pairs_of c.in_ok-sets.sets.items) c.args.cells.now c.reserve_cells.new.cells c.set_cells.new.cells c.args.journal.now.events H c.push_reserved.new.self.events
-    (c.last-version.result + 1) some same (ap (λ n. n + 1) c.last-version.ensures.last) c.reserve_cells.ensures.sets c.set_cells.ensures.sets c.set_cells.ensures.last c.reserve.ensures.same
-    (c.push_reserved.ensures.events ∙ ap (λ q. H ++ Commit c.args.by q ∷ []) (c.from_pairs.ensures ∙ c.in_ok-differing.ensures))
+    let H = c.reserve_event.new.self.events in
+    committed g.U.Key.PartialEq.eq c.args.by left (pairs_of c.in_ok-sets.sets.items) c.args.cells.now c.reserve_cells.new.cells c.set_cells.new.cells c.args.desk.now.events H c.push.new.self.events
+    (c.last-version.result + 1) some same (ap (λ n. n + 1) c.last-version.ensures.last) c.reserve_cells.ensures.sets c.set_cells.ensures.sets c.set_cells.ensures.last c.reserve_event.ensures.same.events
+    (ap (λ (d : DeskSeen g.row.U-Key.Denot g.row.U-Value.Denot). d.events) c.push.ensures ∙ ap (λ q. H ++ Commit c.args.by q ∷ []) (c.from_pairs.ensures ∙ c.in_ok-differing.ensures))

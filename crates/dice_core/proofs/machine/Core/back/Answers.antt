@@ -1,0 +1,14 @@
+use Rattle.std.proofs.Common.{◌≡◌, subst}
+use Rattle.std.specs.Prelude.{IfSome}
+use Rattle.dice_core.specs.Cores.{CoreSeen, IsJobOut, IsAsBefore, core_of}
+use Rattle.dice_core.proofs.PublicLemmas.{some_map}
+use Rattle.dice_core.proofs.machine.Core.back.Goals as goal
+
+pub invariant_of-self : goal.invariant_of-self
+invariant_of-self g c = c.bring_back.ensures.kept c.self.inside.graph c.self.inside.cells c.self.inside.sessions c.self.invariant
+
+pub returns-clause-other : goal.returns-clause-other
+returns-clause-other g c =
+    let s = c.self.inside in
+    subst (λ (v : CoreSeen g.row.U-Key.Denot g.row.U-Value.Denot). IfSome c.bring_back.result (λ j. (j ≡ c.args.job) × IsAsBefore g.U.Key.PartialEq.eq v (core_of c.bring_back.new.desk c.bring_back.new.versions.entries s.graph s.cells s.sessions) × (IsJobOut g.U.Key.PartialEq.eq v c.args.job → ⊥))) c.self.view_is
+        (some_map c.bring_back.result _ _ c.bring_back.ensures.other (λ j h. (h.0, h.1 s.graph s.cells s.sessions, h.2)))

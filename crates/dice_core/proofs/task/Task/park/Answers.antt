@@ -1,0 +1,16 @@
+use Rattle.std.proofs.Common.{sym, subst, ◌∙◌}
+use Rattle.core_laws.specs.Tasks.{IsWaiting}
+use Rattle.dice_core.specs.Loads.{IsLoaded}
+use Rattle.dice_core.specs.declared.task.Load.TheVariants.{Parked}
+use Rattle.dice_core.proofs.Tasks.{away_is, held_is, loaded_parked}
+use Rattle.dice_core.proofs.task.Task.park.Goals as goal
+
+pub given-requires : goal.given-requires
+given-requires g c =
+    let a = away_is c.self.inside.name c.self.inside.load c.self.inside.state c.args.parked.job c.self.invariant.0 (c.self.view_is ∙ c.requires) in
+    a.1
+
+pub returns : goal.returns
+returns g c =
+    let a = away_is c.self.inside.name c.self.inside.load c.self.inside.state c.args.parked.job c.self.invariant.0 (c.self.view_is ∙ c.requires) in
+    held_is c.args.parked.job c.self.inside.name (IsWaiting c.args.parked.keys) a.0

@@ -1,0 +1,42 @@
+-- What is made of a step that is given.
+use Rattle.std.specs.Prelude.{◌≡◌, ◌⊎◌, ℕ, Bool, List, [], ◌∷◌, ◌++◌, Option, Some, None}
+use Rattle.std.specs.List.{AllByRecursion}
+use Rattle.dice_key.specs.Meaning.{Answered}
+use Rattle.dice_jobs.specs.Jobs.{Work, Computes, Checks, Assigned, Outcome, Stepped, Wanting, Valued, Unchanged, Changed}
+use Rattle.task_share.specs.Seen.{Share, task_at}
+use Rattle.journal.specs.declared.event.Told.{Told}
+use Rattle.journal.specs.declared.event.Told.TheVariants.{Start, Keep, End}
+use Rattle.journal.specs.declared.event.Reason.TheVariants.{Differs}
+use Rattle.core_laws.specs.Tasks.{IsOut, Outcome as Ended}
+use Rattle.dice_core.specs.Helds.{Held, held_of}
+use Rattle.dice_core.specs.Hands.{DeskSeen}
+use Rattle.dice_core.specs.Batches.{LeavesOut, IsOfMakes, ending_events}
+use Rattle.dice_core.specs.Cores.{WorksOn, IsWorkAt}
+use Rattle.dice_core.specs.declared.giving.Gave.{Gave}
+use Rattle.dice_core.specs.declared.giving.Gave.TheVariants.{Taken, Stale}
+
+-- the step that is handed back, where it is stale
+abbrev pub stale_of : {U K V R : Type 0} → Gave U K V R → Option (Stepped K V)
+stale_of Taken = None
+stale_of (Stale s) = Some s
+
+module _ {K V : Type 0} (v : ℕ) (k : K) where
+  -- what is told of a step of k at v: its end by a value; that an earlier value is kept, from its base; that it is started, since an answer has
+  -- changed; or what becomes of the batch that it asks
+  abbrev pub IsToldBy : Work K V → Outcome K V → List (Told K V) → Type 0
+  IsToldBy w (Valued x) es = es ≡ End v k ∷ []
+  IsToldBy w Unchanged es = (x : V) × (T : List (Answered K V)) × (b : ℕ) × (w ≡ Checks x T b) × (es ≡ Keep v k b ∷ [])
+  IsToldBy w (Changed d) es = (x : V) × (T : List (Answered K V)) × (b : ℕ) × (w ≡ Checks x T b) × (es ≡ Start v k (Differs b d) ∷ [])
+  IsToldBy w (Wanting ks) es = AllByRecursion (IsOfMakes v ks) es ⊎ ((os : List (K × Ended K V)) × (ds : List K) × (es ≡ ending_events v os ds))
+
+module _ {K V : Type 0} (eq : K → K → Bool) (v : ℕ) (s : Stepped K V) where
+  -- the step is taken up: its job is out no more; no other job comes to be out, and all others that are out stay so or their tasks go; and all
+  -- that is told is of tasks at v
+  pub record Gives (ps qs : List (K × Share K (Held K V))) (d e : DeskSeen K V) : Type 0 where
+    pub was : task_at eq ps s.job.name.key ≡ Some (held_of s.job IsOut)
+    pub out : LeavesOut eq s.job.name.key ps qs
+    pub home : (a : Assigned K V) → task_at eq qs s.job.name.key ≡ Some (held_of a IsOut) → ⊥
+    pub events : List (Told K V)
+    pub told : e.events ≡ d.events ++ events
+    pub works : AllByRecursion (IsWorkAt v) events
+    pub by : IsToldBy v s.job.name.key s.job.work s.outcome events

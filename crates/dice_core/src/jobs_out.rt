@@ -1,0 +1,134 @@
+//! Jobs that are taken, brought back and given up, over the tasks of all versions.
+ghost use Rattle.std.specs.Prelude.{◌≡◌, ◌↔◌, ◌++◌, [], ◌∷◌, ℕ, IfSome, IfNone, IsTrue, List, map, reverse, true, false, Some, None};
+ghost use Rattle.std.specs.Arc.{arc_value};
+ghost use Rattle.task_share.specs.Seen.{task_at, is_live};
+ghost use Rattle.journal.specs.Events.{commits_of};
+ghost use Rattle.dice_jobs.specs.Jobs.{Assigned};
+ghost use Rattle.core_laws.specs.Tasks.{IsOut};
+ghost use Rattle.dice_core.specs.Helds.{held_of};
+ghost use Rattle.dice_core.specs.Waitings.{TakesJob, ReturnsJob};
+ghost use Rattle.injected.specs.Seen.{Seen};
+ghost use Rattle.versioned_graph.specs.Entries.{Stored};
+ghost use Rattle.core_laws.specs.Desk.{World};
+ghost use Rattle.dice_core.specs.AtHand.{AtHand};
+ghost use Rattle.dice_core.specs.Askings.{MayBeAtHand};
+ghost use Rattle.dice_core.specs.Endings.{path_of, ReachesPath, GivesUpAll, IsJobNamed};
+ghost use Rattle.dice_core.specs.Cores.{table_at, core_of, Turned, IsAsBefore, MayStand, StandsOn};
+ghost use Rattle.dice_core.specs.Sessions.{SessionsSeen};
+
+use crate::Tasks;
+use crate::desk::Desk;
+use crate::end::{How, cascade, end_all};
+use crate::wait::{put_back, take};
+use dice_jobs::{Job, JobName};
+use dice_key::{KeyRef, Universe, laws_of};
+use std::collections::HashMap;
+
+/// Takes the job of the ready task that is to be taken next; `None` exactly where no task is ready. It takes no memory.
+pub(crate) fn take_next<U: Universe>(
+    desk: &mut Desk<U>,
+    versions: &mut HashMap<u64, Tasks<U>>,
+) -> Option<Job<U>>
+    requires stands { MayStand U.Key.eq U.meaning desk.old versions.old.entries }
+    ensures none { IfNone result ((desk.old.ready ≡ []) × (desk.new ≡ desk.old) × (versions.new.entries ≡ versions.old.entries)) }
+    ensures some { IfSome result (λ j. Turned U.Key.eq U.meaning j.name.version versions.old.entries versions.new.entries (λ ps qs. TakesJob U.Key.eq j.name.version j.name.key j ps qs desk.old desk.new)) }
+    ensures kept { StandsOn U.Key.eq U.meaning desk.old versions.old.entries desk.new versions.new.entries }
+{
+    laws_of::<U>();
+    let Some(ready) = desk.next_ready() else {
+        return None;
+    };
+    let version = ready.version;
+    let Some(tasks) = versions.get_mut(&version) else {
+        return None;
+    };
+    take::<U>(desk, tasks)
+}
+
+/// Takes a job back, undone; another one than that which is out is handed back. It takes no memory.
+pub(crate) fn bring_back<U: Universe>(
+    desk: &mut Desk<U>,
+    versions: &mut HashMap<u64, Tasks<U>>,
+    job: Job<U>,
+) -> Option<Job<U>>
+    requires stands { MayStand U.Key.eq U.meaning desk.old versions.old.entries }
+    ensures other { IfSome result (λ j. (j ≡ job) × ((es : List (U.Key × Stored U.Key U.Value)) (s : Seen U.Key U.Value) (x : SessionsSeen U.Key) → IsAsBefore U.Key.eq (core_of desk.old versions.old.entries es s x) (core_of desk.new versions.new.entries es s x)) × (task_at U.Key.eq (table_at versions.old.entries job.name.version) job.name.key ≡ Some (held_of job IsOut) → ⊥)) }
+    ensures events { desk.new.events ≡ desk.old.events }
+    ensures back { IfNone result (Turned U.Key.eq U.meaning job.name.version versions.old.entries versions.new.entries (λ ps qs. ReturnsJob U.Key.eq job.name.version job.name.key job job ps qs desk.old desk.new)) }
+    ensures kept { StandsOn U.Key.eq U.meaning desk.old versions.old.entries desk.new versions.new.entries }
+{
+    laws_of::<U>();
+    let version = job.name().version();
+    let Some(tasks) = versions.get_mut(&version) else {
+        return Some(job);
+    };
+    put_back::<U>(desk, tasks, job)
+}
+
+/// Gives up the job of this name: its task and all that wait for it end as lost, and then the tasks at work that nobody asks for any
+/// more are dropped; `false` exactly where no job of the name is out. It takes no memory.
+pub(crate) fn fail_named<U: Universe>(
+    desk: &mut Desk<U>,
+    versions: &mut HashMap<u64, Tasks<U>>,
+    name: &JobName<U>,
+) -> bool
+    requires stands { MayStand U.Key.eq U.meaning desk.old versions.old.entries }
+    ensures other { result ≡ false → (IsJobNamed U.Key.eq name.now (table_at versions.old.entries name.now.version) → ⊥) × (desk.new ≡ desk.old) × (versions.new.entries ≡ versions.old.entries) }
+    ensures failed { result ≡ true → IsJobNamed U.Key.eq name.now (table_at versions.old.entries name.now.version) × Turned U.Key.eq U.meaning name.now.version versions.old.entries versions.new.entries (λ ps qs. GivesUpAll U.Key.eq name.now.version None name.now.key ps qs desk.old desk.new) }
+    ensures kept { StandsOn U.Key.eq U.meaning desk.old versions.old.entries desk.new versions.new.entries }
+{
+    laws_of::<U>();
+    let version = name.version();
+    if !is_out_among::<U>(versions, name) {
+        return false;
+    }
+    let Some(tasks) = versions.get_mut(&version) else {
+        return false;
+    };
+    give_up::<U>(desk, tasks, version, name.key(), &How::Lost);
+    true
+}
+
+/// Whether the job of this name is out, among the tasks of all versions.
+fn is_out_among<U: Universe>(versions: &HashMap<u64, Tasks<U>>, name: &JobName<U>) -> bool
+    ensures { IsTrue result ↔ IsJobNamed U.Key.eq name.now (table_at versions.now.entries name.now.version) }
+{
+    match versions.get(&name.version()) {
+        Some(tasks) => is_name_out::<U>(tasks, name),
+        None => false,
+    }
+}
+
+/// Whether the job of this name is out, among the tasks of its version.
+fn is_name_out<U: Universe>(tasks: &Tasks<U>, name: &JobName<U>) -> bool
+    ensures { IsTrue result ↔ IsJobNamed U.Key.eq name.now tasks.now }
+{
+    laws_of::<U>();
+    let Some(task) = tasks.task(name.key()) else {
+        return false;
+    };
+    match task.assignment() {
+        Some(own) => task.is_out() && own.name().is_same(name),
+        None => false,
+    }
+}
+
+/// Ends the task at work of a key and all that wait for it, as lost or with a circle that the key reaches; then the tasks at work that
+/// nobody asks for any more are dropped. It takes no memory.
+pub(crate) fn give_up<U: Universe>(
+    desk: &mut Desk<U>,
+    tasks: &mut Tasks<U>,
+    version: u64,
+    key: &KeyRef<U>,
+    how: &How<'_, U::Key>,
+)
+    requires hand { (owed : ℕ) × MayBeAtHand U.Key.eq U.meaning version owed tasks.old desk.old }
+    requires live { is_live U.Key.eq tasks.old (arc_value key.now) ≡ true }
+    requires reached { ReachesPath U.Key.eq U.meaning (path_of how.now) (commits_of (reverse desk.old.events)) version (arc_value key.now) }
+    ensures ends { GivesUpAll U.Key.eq version (path_of how.now) (arc_value key.now) tasks.old tasks.new desk.old desk.new }
+    ensures kept { (w : World U.Key U.Value) (owed : ℕ) (es : List (U.Key × Stored U.Key U.Value)) (s : Seen U.Key U.Value) → AtHand U.Key.eq U.meaning version w owed tasks.old desk.old es s → AtHand U.Key.eq U.meaning version w owed tasks.new desk.new es s }
+{
+    laws_of::<U>();
+    end_all::<U>(desk, tasks, version, key, how);
+    cascade::<U>(desk, tasks, version);
+}
