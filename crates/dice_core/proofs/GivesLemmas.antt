@@ -42,31 +42,11 @@ module _ {K V : Type 0} (v : ℕ) (ks : List K) where
 
 module _ {K V : Type 0} (eq : K → K → Bool) (equality : IsEquality eq) (s : Stepped K V) (v : ℕ) (ps qs : List (K × Share K (Held K V))) (d e : DeskSeen K V) (was : task_at eq ps s.job.name.key ≡ Some (held_of s.job IsOut)) where
   home_by : (g : Held K V) → out_in g.standing ≡ false → task_at eq qs s.job.name.key ≡ Some g → (a : Assigned K V) → task_at eq qs s.job.name.key ≡ Some (held_of a IsOut) → ⊥
-  home_by g no is a out =
+  home_by g idle is a out =
       let x : Some g ≡ Some (held_of a IsOut) = sym is ∙ out in
       let y : g ≡ held_of a IsOut = cc in
-      let z : false ≡ true = sym no ∙ ap (λ (h : Held K V). out_in h.standing) y in
+      let z : false ≡ true = sym idle ∙ ap (λ (h : Held K V). out_in h.standing) y in
       let w : ⊥ = cc in w
-
-  -- its task ended with a value
-  pub ends_gives : (m : Meaning K V) (cells : Seen K V) (x : V) (t : Told K V) → EndsAndWakes eq m cells v s.job.name.key x s.job.name ps qs → e.events ≡ d.events ++ t ∷ [] → EndsWith v s.job.name.key s x t → Gives eq v s ps qs d e
-  ends_gives m cells x t w told how = record {
-    was = was;
-    out = record { stay = λ q a other is. inl (w.still_out q a other is); only = w.was_out };
-    home = home_by (held_ended s.job.name (WithValue x)) refl w.ended;
-    events = t ∷ [];
-    told = told;
-    works = (work how, tt);
-    by = by how;
-  }
-    where
-      work : EndsWith v s.job.name.key s x t → IsWorkAt v t
-      work (inl h) = subst (λ z. IsWorkAt v z) (sym h.1) refl
-      work (inr h) = subst (λ z. IsWorkAt v z) (sym h.4) refl
-
-      by : EndsWith v s.job.name.key s x t → IsToldBy v s.job.name.key s.job.work s.outcome (t ∷ [])
-      by (inl h) = subst (λ o. IsToldBy v s.job.name.key s.job.work o (t ∷ [])) (sym h.0) (ap (λ z. z ∷ []) h.1)
-      by (inr h) = subst (λ o. IsToldBy v s.job.name.key s.job.work o (t ∷ [])) (sym h.0) (x, h.1, h.2, h.3, ap (λ z. z ∷ []) h.4)
 
   -- its check found a change, and it computes
   pub begun_gives : (x : V) (T : List (Answered K V)) (b : ℕ) (dep : K) → s.job.work ≡ Checks x T b → s.outcome ≡ Changed dep → IsTurned eq s.job.name.key (held_of s.job IsOut) (held_run s.job.name) ps qs → e.events ≡ d.events ++ Start v s.job.name.key (Differs b dep) ∷ [] → Gives eq v s ps qs d e
