@@ -1,17 +1,17 @@
 -- Which tasks end where one is given up, and all that ask for it.
-use Rattle.std.proofs.Common.{◌≡◌, ◌⊎◌, inl, inr, ◌+◌, ◌-◌, ◌≤◌, ◌*◌, ℕ, Bool, true, false, cond, not, ◌&&◌, List, [], ◌∷◌, ◌++◌, map, Option, Some, None, refl, sym, ap, ◌∙◌, subst, arith, append_assoc}
+use Rattle.std.proofs.Common.{◌≡◌, ◌⊎◌, inl, inr, ◌+◌, ◌-◌, ℕ, Bool, true, false, cond, not, ◌&&◌, List, [], ◌∷◌, ◌++◌, map, Option, Some, refl, sym, ap, ◌∙◌, subst, arith, append_assoc}
 use Rattle.std.proofs.lemmas.List.{map-append}
 use Rattle.dice_key.specs.Lawful.{IsEquality}
 use Rattle.dice_model.specs.Log.{Has}
 use Rattle.task_share.specs.Asked.{By, Promised, Tasked, is_by}
-use Rattle.task_share.specs.Seen.{Share, task_at, asks, KeepsTasks, KeepsAsks}
+use Rattle.task_share.specs.Seen.{Share, task_at, asks}
 use Rattle.journal.specs.declared.event.Told.{Told}
 use Rattle.core_laws.specs.Tasks.{Outcome, goes_on}
 use Rattle.core_laws.proofs.Counts.{has_append, has_front, has_last}
 use Rattle.core_laws.proofs.Shapes.{both_parts}
 use Rattle.dice_core.specs.Helds.{Held, held_ended}
 use Rattle.dice_core.specs.Hands.{DeskSeen, with_event, with_ended, with_told_next}
-use Rattle.dice_core.specs.Endings.{EndsTask, TellsEnd, ListsEnd, ComesOf, told_end, EndsAsker, HasTold, EndsTasks}
+use Rattle.dice_core.specs.Endings.{EndsTask, ListsEnd, ComesOf, told_end, EndsAsker, HasTold, EndsTasks}
 use Rattle.dice_core.proofs.EndsLemmas.{quits_keeps}
 use Rattle.dice_core.proofs.CascadeLemmas.{quits_room}
 use Rattle.dice_core.proofs.TellLemmas.{told_events, told_ended}

@@ -1,21 +1,19 @@
 -- An ask that is left, with its version in hand.
-use Rattle.std.proofs.Common.{◌≡◌, ◌<◌, ◌≤◌, ◌+◌, ◌-◌, ◌*◌, ℕ, Bool, true, false, cond, not, ◌&&◌, nat_eq, List, [], ◌∷◌, ◌++◌, map, reverse, Option, Some, None, refl, sym, ap, ◌∙◌, subst, arith, append_assoc}
+use Rattle.std.proofs.Common.{◌≡◌, ◌<◌, ◌+◌, ℕ, Bool, true, not, ◌&&◌, List, [], ◌∷◌, ◌++◌, map, reverse, Some, refl, sym, ap, ◌∙◌, subst, arith}
 use Rattle.std.specs.List.{AllByRecursion}
 use Rattle.dice_key.specs.Meaning.{Meaning}
 use Rattle.dice_key.specs.Lawful.{IsEquality, IsLawful}
 use Rattle.task_share.specs.Asked.{By, Promised, is_by, IsDone}
-use Rattle.task_share.specs.Seen.{Share, task_at, is_live, asks, asked_of, KeepsTasks}
+use Rattle.task_share.specs.Seen.{Share, task_at, asks, asked_of, KeepsTasks}
 use Rattle.injected.specs.Seen.{Seen}
 use Rattle.journal.specs.declared.event.Told.{Told}
-use Rattle.journal.specs.declared.event.Told.TheVariants.{Leave, Close, Drop}
-use Rattle.journal.specs.Events.{Asking, open_count, ended_at}
+use Rattle.journal.specs.declared.event.Told.TheVariants.{Leave, Drop}
+use Rattle.journal.specs.Events.{open_count, ended_at}
 use Rattle.versioned_graph.specs.Entries.{Stored}
-use Rattle.core_laws.specs.Tasks.{Task}
 use Rattle.core_laws.specs.Changes.{Leaves}
 use Rattle.core_laws.specs.Desk.{World, Stand, AreAll, with_version, is_out}
 use Rattle.core_laws.proofs.StepsAsks.{left_stand}
-use Rattle.core_laws.proofs.Shapes.{both_parts}
-use Rattle.dice_core.specs.Askings.{IsAskAt, DropsAfter}
+use Rattle.dice_core.specs.Askings.{IsAskAt}
 use Rattle.dice_core.specs.AtHand.{AtHand}
 use Rattle.dice_core.specs.Commits.{CellsStand}
 use Rattle.dice_core.specs.Cores.{IsWorkAt}
@@ -24,8 +22,7 @@ use Rattle.dice_core.specs.Entries.{EntriesStand}
 use Rattle.dice_core.specs.Hands.{DeskSeen, desk_of, tasks_of, seen_world, with_event, Working, Cleaning}
 use Rattle.dice_core.specs.Helds.{Held}
 use Rattle.dice_core.proofs.EndsLemmas.{back_more, same_tasks}
-use Rattle.dice_core.proofs.EntriesLemmas.{stand_leave}
-use Rattle.dice_core.proofs.EventLemmas.{along, all_drops, all_works, entries_given_up, cells_works, count_works}
+use Rattle.dice_core.proofs.EventLemmas.{all_drops, all_works, entries_given_up, cells_works, count_works}
 
 module _ {K V : Type 0} (eq : K → K → Bool) (equality : IsEquality eq) (m : Meaning K V) (law : IsLawful m) (v : ℕ) where
   -- the same tasks, with other asks, over one event more: all is there for the cascade
@@ -49,7 +46,7 @@ module _ {K V : Type 0} (eq : K → K → Bool) (equality : IsEquality eq) (m : 
   left_cleaning k by i owed ps qs d keeps asked ask w work =
       let leaves : Leaves eq ask.asking.key (Promised i) (asked_of eq ps) (asked_of eq qs) = subst (λ z. Leaves eq z (Promised i) (asked_of eq ps) (asked_of eq qs)) (sym ask.key) asked in
       let r = left_stand eq equality m law (reverse d.events) v w [] (asked_of eq ps) (asked_of eq qs) (tasks_of eq ps) by i ask.asking (desk_of d) (desk_of (with_event d (Leave by i))) (owed + 1) owed work.stand ask.live ask.his ask.at leaves keeps.live
-          (record { ready = refl; out = refl; live = refl }) (let n = work.stand.room in omega arith) in
+      (record { ready = refl; out = refl; live = refl }) (let n = work.stand.room in omega arith) in
       (cleaning_by (Leave by i) owed ps qs d keeps w r.1 work.outs work.named, ap ended_at (back_more d.events (Leave by i)) ∙ r.2)
 
   -- whoever is asked for still, has a task

@@ -1,5 +1,5 @@
 -- What holds between calls holds again where the batch of a task was taken up.
-use Rattle.std.proofs.Common.{◌≡◌, ◌≢◌, ◌⊎◌, inl, inr, ◌<◌, ◌≤◌, ◌+◌, ◌*◌, ℕ, suc, Bool, true, false, cond, ◌&&◌, ◌||◌, List, [], ◌∷◌, ◌++◌, length, map, reverse, Option, Some, None, refl, sym, ap, ◌∙◌, subst, arith}
+use Rattle.std.proofs.Common.{◌≡◌, ◌⊎◌, inl, inr, ◌<◌, ◌≤◌, ◌+◌, ◌*◌, ℕ, suc, Bool, true, false, cond, ◌||◌, List, [], ◌∷◌, ◌++◌, length, map, reverse, Option, Some, None, refl, sym, ap, ◌∙◌, subst, arith}
 use Rattle.std.proofs.lemmas.List.{length-reverse}
 use Rattle.std.specs.List.{AllByRecursion, AllZip}
 use Rattle.std.specs.Option.{option_map}
@@ -7,22 +7,21 @@ use Rattle.std.proofs.lemmas.Option.{none-some, same_Some}
 use Rattle.dice_key.specs.Meaning.{Meaning}
 use Rattle.dice_key.specs.Lawful.{IsLawful, IsEquality}
 use Rattle.dice_key.specs.declared.universe.Kind.TheVariants.{Injected}
-use Rattle.dice_model.specs.Log.{Has, AreDistinct, input}
+use Rattle.dice_model.specs.Log.{Has, input}
 use Rattle.dice_model.specs.Eval.{HasValue, by_kind, reached, eval}
 use Rattle.dice_model.specs.Asks.{AsksFor}
 use Rattle.dice_jobs.specs.Jobs.{Assigned, Waits, answered_more}
-use Rattle.task_share.specs.Asked.{By, Tasked, Asked, WaitOf, Leads, stays, IsDone}
+use Rattle.task_share.specs.Asked.{By, Tasked, WaitOf, Leads, stays, IsDone}
 use Rattle.task_share.specs.Lists as Shared
-use Rattle.task_share.specs.Seen.{Share, task_at, is_live, asks, asked_of, asker_room, wait_room, has_place, KeepsAsks}
-use Rattle.cycle_guard.specs.Circle.{IsRound, WouldWait, IsCircle}
+use Rattle.task_share.specs.Seen.{Share, task_at, is_live, asks, asked_of, asker_room, wait_room}
+use Rattle.cycle_guard.specs.Circle.{IsRound, WouldWait}
 use Rattle.injected.specs.Seen.{Seen, cell_at}
 use Rattle.injected.specs.Inputs.{AreOf}
 use Rattle.journal.specs.declared.event.Told.{Told}
-use Rattle.journal.specs.Events.{commits_of, open_count}
-use Rattle.journal.specs.Law.{IsWanted}
-use Rattle.versioned_graph.specs.Entries.{Stored, entry_at}
-use Rattle.versioned_graph.specs.Looks.{Matches, look}
-use Rattle.core_laws.specs.Tasks.{IsReady, IsOut, IsWaiting, Standing, Works, Ended, WithValue, WithCycle, WithNothing, Task, goes_on, is_going, value_of, value_in}
+use Rattle.journal.specs.Events.{commits_of}
+use Rattle.versioned_graph.specs.Entries.{Stored}
+use Rattle.versioned_graph.specs.Looks.{Matches}
+use Rattle.core_laws.specs.Tasks.{IsReady, IsOut, IsWaiting, Standing, Works, Ended, WithValue, WithCycle, WithNothing, is_going, value_of, value_in}
 use Rattle.core_laws.specs.Stands.{AsksNext, TaskStands, IsStanding, VersionStands, CycleStands}
 use Rattle.core_laws.specs.Desk.{World, out_in}
 use Rattle.core_laws.proofs.Cycles.{cycle_above, circle_is_cycle}
@@ -34,17 +33,17 @@ use Rattle.core_laws.proofs.Turns.{stands_here}
 use Rattle.dice_core.specs.AtHand.{AtHand}
 use Rattle.dice_core.specs.Circles.{path_in, path_with}
 use Rattle.dice_core.specs.Helds.{Held, Ahead, task_of, held_of, held_ended, doing}
-use Rattle.dice_core.specs.Hands.{DeskSeen, HasDeskRoom, desk_of, Working, tasks_of}
+use Rattle.dice_core.specs.Hands.{DeskSeen, desk_of, Working, tasks_of}
 use Rattle.dice_core.specs.Entries.{EntriesStand}
 use Rattle.dice_core.specs.Endings.{AreTasked, Knows}
-use Rattle.dice_core.specs.Waitings.{HasRoomFor, IsTurned, ParksJob, ReturnsJob, MayPark, waits_so}
-use Rattle.dice_core.specs.Plans.{key_in, wait_for, waits_of, IsPathOf, IsPart, AreParts, ArePlaced, IsAtHand, IsRoomy, GoesOnSo, WaitsSo}
-use Rattle.dice_core.specs.Batches.{IsOfMakes, ending_events, GivesUp, LeavesOut, MakesOn, IsBeside, HasRoomToMake, MakesParts, TakesUp, IsGiven, IsToldOf}
+use Rattle.dice_core.specs.Waitings.{HasRoomFor, ParksJob, ReturnsJob, MayPark, waits_so}
+use Rattle.dice_core.specs.Plans.{key_in, wait_for, waits_of, IsPathOf, AreParts, ArePlaced, IsAtHand, IsRoomy, GoesOnSo, WaitsSo}
+use Rattle.dice_core.specs.Batches.{IsOfMakes, ending_events, GivesUp, LeavesOut, MakesOn, IsBeside, HasRoomToMake, MakesParts, TakesUp}
 use Rattle.dice_core.specs.declared.plan.Part.{Part}
 use Rattle.dice_core.proofs.EndsLemmas.{working_knows}
 use Rattle.dice_core.proofs.LooksLemmas.{look_stands}
 use Rattle.dice_core.proofs.MakesLemmas.{makes_more_keys, makes_tasks}
-use Rattle.dice_core.proofs.PartLemmas.{has_mapped, map_has, there_waits, wait_there, zip_on}
+use Rattle.dice_core.proofs.PartLemmas.{has_mapped, there_waits, wait_there, zip_on}
 use Rattle.dice_core.proofs.QuietLemmas.{commits_after, cells_after, open_after}
 use Rattle.dice_core.proofs.WaitLemmas.{waits_there, waits_only, key_there, wait_of}
 

@@ -1,16 +1,15 @@
 -- One task after the other is dropped.
-use Rattle.std.proofs.Common.{◌≡◌, ◌≤◌, ◌<◌, ◌+◌, ◌-◌, ◌*◌, ℕ, Bool, true, false, cond, not, ◌&&◌, ◌||◌, List, [], ◌∷◌, ◌++◌, map, length, Option, Some, None, refl, sym, ap, ◌∙◌, subst, arith, append_assoc}
+use Rattle.std.proofs.Common.{◌≡◌, ◌<◌, ◌+◌, ◌-◌, ℕ, Bool, true, false, cond, not, ◌&&◌, ◌||◌, List, [], ◌∷◌, ◌++◌, map, Option, None, refl, sym, ap, ◌∙◌, subst, arith, append_assoc}
 use Rattle.std.proofs.lemmas.List.{map-append, append-nil}
 use Rattle.std.specs.List.{list_any}
 use Rattle.dice_key.specs.Lawful.{IsEquality}
-use Rattle.task_share.specs.Asked.{By, Tasked, Asked, is_by, Takes, IsSame, IsDone, Cascade}
+use Rattle.task_share.specs.Asked.{Tasked, Asked, is_by, Takes, IsSame, IsDone, Cascade}
 use Rattle.task_share.specs.Seen.{Share, task_at, asked_of, KeepsTasks, KeepsAsks}
-use Rattle.journal.specs.declared.event.Told.{Told}
 use Rattle.journal.specs.declared.event.Told.TheVariants.{Drop}
-use Rattle.core_laws.specs.Tasks.{IsReady, IsOut, IsWaiting, Standing, Works, Ended, is_going}
-use Rattle.core_laws.proofs.Shapes.{same_or_other, other_way}
+use Rattle.core_laws.specs.Tasks.{IsReady, IsOut, IsWaiting, Standing, Works, Ended}
+use Rattle.core_laws.proofs.Shapes.{other_way}
 use Rattle.dice_core.specs.Helds.{Held}
-use Rattle.dice_core.specs.Hands.{DeskSeen, with_event, with_ended, KeepsDesk, Unreadies, Leaves}
+use Rattle.dice_core.specs.Hands.{DeskSeen, KeepsDesk}
 use Rattle.dice_core.specs.Endings.{Quits, Knows, DropsTask, DropsTasks}
 use Rattle.dice_core.proofs.EndsLemmas.{quits_keeps}
 

@@ -1,26 +1,24 @@
 -- A transaction that closes, with its version in hand; and the end of a version.
-use Rattle.std.proofs.Common.{◌≡◌, ◌<◌, ◌≤◌, ◌⊎◌, inl, inr, ◌+◌, ◌-◌, ◌*◌, ℕ, suc, Bool, true, false, cond, not, ◌&&◌, ◌||◌, nat_eq, eqb, List, [], ◌∷◌, ◌++◌, length, map, reverse, Option, Some, None, unwrap_or, is_some, refl, sym, ap, ◌∙◌, subst, arith, append_assoc}
-use Rattle.std.specs.List.{AllByRecursion, list_any}
+use Rattle.std.proofs.Common.{◌≡◌, ◌<◌, ◌≤◌, ◌+◌, ◌-◌, ℕ, Bool, true, false, cond, not, ◌&&◌, nat_eq, eqb, List, [], ◌∷◌, ◌++◌, map, reverse, Option, Some, None, unwrap_or, is_some, refl, sym, ap, ◌∙◌, subst, arith, append_assoc}
+use Rattle.std.specs.List.{list_any}
 use Rattle.std.specs.Map.{lookup}
-use Rattle.std.specs.Option.{option_map}
-use Rattle.std.proofs.lemmas.Bool.{eqb-true, eq-eqb, and_right}
+use Rattle.std.proofs.lemmas.Bool.{eqb-true, and_right}
 use Rattle.dice_key.specs.Meaning.{Meaning}
 use Rattle.dice_key.specs.Lawful.{IsEquality, IsLawful}
 use Rattle.dice_model.specs.Log.{Has}
-use Rattle.task_share.specs.Asked.{By, Promised, Tasked, Asked, is_by, IsDone}
-use Rattle.task_share.specs.Seen.{Share, task_at, is_live, asks, asked_of, KeepsTasks}
+use Rattle.task_share.specs.Asked.{By, Promised, Tasked, is_by, IsDone}
+use Rattle.task_share.specs.Seen.{Share, is_live, asks, asked_of, KeepsTasks}
 use Rattle.injected.specs.Seen.{Seen}
 use Rattle.journal.specs.declared.event.Told.{Told}
 use Rattle.journal.specs.declared.event.Told.TheVariants.{Close, Drop}
-use Rattle.journal.specs.Events.{Opened, Asking, is_for, one_if, open_at, opened_at, open_count, live_at, ended_at}
+use Rattle.journal.specs.Events.{Opened, Asking, is_for, one_if, open_at, open_count, live_at, ended_at}
 use Rattle.versioned_graph.specs.Entries.{Stored}
-use Rattle.core_laws.specs.Tasks.{Standing, Works, Ended, IsReady, IsOut, IsWaiting, Task, goes_on, is_going}
+use Rattle.core_laws.specs.Tasks.{Standing, Works, Ended, Task, goes_on, is_going}
 use Rattle.core_laws.specs.Stands.{VersionStands}
 use Rattle.core_laws.specs.Promises.{is_promise_in, nobody}
-use Rattle.core_laws.specs.Desk.{World, Stand, Rests, AreAll, with_version, is_out, out_in}
+use Rattle.core_laws.specs.Desk.{World, Rests, AreAll, with_version, is_out, out_in}
 use Rattle.core_laws.proofs.Counts.{all_alike}
 use Rattle.core_laws.proofs.Empties.{idle}
-use Rattle.core_laws.proofs.Opens.{there_open}
 use Rattle.core_laws.proofs.Shapes.{both_parts}
 use Rattle.core_laws.proofs.StepsAsks.{closed_stand}
 use Rattle.core_laws.proofs.StepsRests.{live_stand, rests_emptied}
@@ -32,14 +30,14 @@ use Rattle.dice_core.specs.Commits.{CellsStand}
 use Rattle.dice_core.specs.Endings.{DropsTasks, AreTasked}
 use Rattle.dice_core.specs.Entries.{EntriesStand}
 use Rattle.dice_core.specs.Hands.{DeskSeen, desk_of, tasks_of, seen_world, AreNamed, with_event, Working, Cleaning}
-use Rattle.dice_core.specs.Helds.{Held, task_of}
+use Rattle.dice_core.specs.Helds.{Held}
 use Rattle.dice_core.specs.Sessions.{SessionSeen, SessionsSeen, has_ask, asks_in, owed, session_at, SessionsStand, Closing}
-use Rattle.dice_core.specs.Cores.{CoreSeen, past_of, table_at, has_table, world_of, core_of, WorksOn, CoreStands}
+use Rattle.dice_core.specs.Cores.{CoreSeen, table_at, has_table, world_of, WorksOn, CoreStands}
 use Rattle.dice_core.proofs.AskingLemmas.{cleaning_by}
 use Rattle.dice_core.proofs.EndsLemmas.{back_more}
 use Rattle.dice_core.proofs.EntriesLemmas.{stand_close}
 use Rattle.dice_core.proofs.EventLemmas.{all_drops, all_works, entries_given_up, cells_works, count_works, sessions_works}
-use Rattle.dice_core.proofs.SessionLemmas.{closing_end, closing_asking, eqb_flips}
+use Rattle.dice_core.proofs.SessionLemmas.{closing_end, eqb_flips}
 
 -- ---- the asks of a transaction that go
 
@@ -165,7 +163,7 @@ module _ {K V : Type 0} (eq : K → K → Bool) (equality : IsEquality eq) (m : 
       → Cleaning eq m v w less qs (with_event d (Close by t)) × (ended_at (reverse (d.events ++ Close by t ∷ [])) ≡ Some v)
   closed_cleaning by t owes less o xs ps qs d fewer is_open his at listed keeps asked w work =
       let r = closed_stand eq equality m law (reverse d.events) v w [] (asked_of eq ps) (asked_of eq qs) (tasks_of eq ps) by t o (desk_of d) (desk_of (with_event d (Close by t))) (owes + 1) less work.stand is_open his at leaves keeps.live
-          (record { ready = refl; out = refl; live = refl }) (let n = work.stand.room in omega arith) in
+      (record { ready = refl; out = refl; live = refl }) (let n = work.stand.room in omega arith) in
       (cleaning_by eq equality m law v (Close by t) less ps qs d keeps w r.1 work.outs work.named, ap ended_at (back_more d.events (Close by t)) ∙ r.2)
     where
       leaves : (q : K) (a : By K) → asks eq qs q a ≡ (asks eq ps q a && not (is_promise_in (reverse d.events) t a))

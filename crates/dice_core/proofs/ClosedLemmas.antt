@@ -1,6 +1,6 @@
 -- A transaction that is closed, and a step that is given, over all versions.
-use Rattle.std.proofs.Common.{◌≡◌, ◌<◌, ◌≤◌, ◌-◌, ◌+◌, ◌++◌, ◌⊎◌, inl, inr, ℕ, zero, suc, Bool, true, false, cond, nat_eq, eqb, List, [], ◌∷◌, length, map, reverse, Option, Some, None, is_some, Result, Ok, Err, unwrap_or, refl, sym, ap, ◌∙◌, subst, arith}
-use Rattle.std.specs.Prelude.{OnOk, OnErr, IfOk, IfSome, IfNone}
+use Rattle.std.proofs.Common.{◌≡◌, ◌<◌, ◌-◌, ◌⊎◌, inl, inr, ℕ, zero, suc, Bool, true, false, cond, nat_eq, eqb, List, [], reverse, Option, Some, None, Result, Ok, Err, unwrap_or, refl, sym, ap, ◌∙◌, subst, arith}
+use Rattle.std.specs.Prelude.{OnOk, IfOk, IfSome, IfNone}
 use Rattle.std.specs.Map.{lookup}
 use Rattle.std.specs.Option.{option_map}
 use Rattle.std.specs.List.{list_any}
@@ -10,24 +10,20 @@ use Rattle.dice_key.specs.Lawful.{IsEquality, IsLawful}
 use Rattle.task_share.specs.Seen.{Share, task_at}
 use Rattle.injected.specs.Seen.{Seen}
 use Rattle.journal.specs.declared.event.Told.{Told}
-use Rattle.journal.specs.declared.event.Told.TheVariants.{Close, Drop}
 use Rattle.journal.specs.Events.{Opened, open_at, open_count}
 use Rattle.version_epoch.specs.Standings.{open_count_of}
 use Rattle.versioned_graph.specs.Entries.{Stored}
 use Rattle.dice_jobs.specs.Jobs.{Stepped}
-use Rattle.core_laws.specs.Desk.{World}
-use Rattle.core_laws.specs.Tasks.{IsOut}
 use Rattle.dice_core.specs.AtHand.{AtHand}
-use Rattle.dice_core.specs.Askings.{DropsAfter}
 use Rattle.dice_core.specs.Closings.{LeftHand}
 use Rattle.dice_core.specs.Givings.{Gives}
 use Rattle.dice_core.specs.Hands.{DeskSeen}
-use Rattle.dice_core.specs.Helds.{Held, held_of}
-use Rattle.dice_core.specs.Sessions.{SessionSeen, SessionsSeen, opened_of, session_at, transaction_at, owed, SessionsStand}
-use Rattle.dice_core.specs.Cores.{CoreSeen, past_of, table_at, has_table, world_of, core_of, PutsTable, Turned, CoreStands, WorksOn}
+use Rattle.dice_core.specs.Helds.{Held}
+use Rattle.dice_core.specs.Sessions.{SessionSeen, SessionsSeen, opened_of, session_at, owed, SessionsStand}
+use Rattle.dice_core.specs.Cores.{table_at, has_table, world_of, core_of, PutsTable, Turned, CoreStands, WorksOn}
 use Rattle.dice_core.proofs.CoreLemmas.{in_hand, put_back_so, table_put}
 use Rattle.dice_core.proofs.CloseLemmas.{hand_of_left, thrown_away_so}
-use Rattle.dice_core.proofs.TurnLemmas.{opened_some, worked_stands}
+use Rattle.dice_core.proofs.TurnLemmas.{opened_some}
 
 -- a table that is taken away after it was put
 pub put_away : {K V : Type 0} (ts us ws : List (ℕ × List (K × Share K (Held K V)))) (v : ℕ) (qs : List (K × Share K (Held K V))) → PutsTable v qs ts us → ((u : ℕ) → lookup (nat_eq u) ws ≡ cond (nat_eq v u) None (lookup (nat_eq u) us)) → (u : ℕ) → lookup (nat_eq u) ws ≡ cond (nat_eq v u) None (lookup (nat_eq u) ts)

@@ -1,29 +1,24 @@
 -- The core between calls: its first state; one version taken in hand and put back; and calls that leave all as before.
-use Rattle.std.proofs.Common.{◌≡◌, ◌<◌, ◌≤◌, ◌+◌, ◌*◌, ℕ, zero, Bool, true, false, cond, nat_eq, eqb, List, [], ◌∷◌, suc, length, reverse, Option, Some, None, unwrap_or, is_some, refl, sym, ap, ◌∙◌, subst, arith}
+use Rattle.std.proofs.Common.{◌≡◌, ◌<◌, ℕ, zero, Bool, true, false, cond, nat_eq, eqb, List, [], suc, length, reverse, Option, Some, None, unwrap_or, is_some, refl, sym, ap, ◌∙◌, subst, arith}
 use Rattle.std.specs.Map.{lookup}
 use Rattle.std.specs.Option.{option_map}
-use Rattle.std.proofs.lemmas.Bool.{eqb-true, eq-eqb}
+use Rattle.std.proofs.lemmas.Bool.{eqb-true}
 use Rattle.dice_key.specs.Meaning.{Meaning}
 use Rattle.dice_key.specs.Lawful.{IsEquality, IsLawful}
-use Rattle.dice_model.specs.Log.{Has}
-use Rattle.task_share.specs.Asked.{By, Asked, IsDone}
-use Rattle.task_share.specs.Seen.{Share, task_at, is_live, asks, asked_of}
+use Rattle.task_share.specs.Asked.{By}
+use Rattle.task_share.specs.Seen.{Share, task_at, asks, asked_of}
 use Rattle.injected.specs.Seen.{Seen, sets_at}
-use Rattle.injected.specs.Inputs.{AreOf}
-use Rattle.journal.specs.declared.event.Told.{Told}
-use Rattle.journal.specs.Events.{commits_of, open_count}
+use Rattle.journal.specs.Events.{open_count}
 use Rattle.versioned_graph.specs.Entries.{Stored}
 use Rattle.core_laws.specs.Tasks.{Task}
-use Rattle.core_laws.specs.Promises.{nobody}
-use Rattle.core_laws.specs.Desk.{World, Desk, DeskStays, Rests, Stand, AreAll, with_version, is_out}
+use Rattle.core_laws.specs.Desk.{World, Rests, AreAll, with_version, is_out}
 use Rattle.core_laws.proofs.StepsRests.{same_world, stand_with, wanted_here, rests_of, rests_room, rests_first}
 use Rattle.dice_core.specs.AtHand.{AtHand}
-use Rattle.dice_core.specs.Commits.{SameSets, CellsStand}
+use Rattle.dice_core.specs.Commits.{CellsStand}
 use Rattle.dice_core.specs.Entries.{EntriesStand}
-use Rattle.dice_core.specs.Endings.{AreTasked}
-use Rattle.dice_core.specs.Hands.{DeskSeen, desk_of, tasks_of, seen_world, AreNamed, Working, KeepsHands}
+use Rattle.dice_core.specs.Hands.{DeskSeen, desk_of, tasks_of, AreNamed, Working}
 use Rattle.dice_core.specs.Helds.{Held, task_of}
-use Rattle.dice_core.specs.Sessions.{SessionsSeen, owed, IsSame, SessionsStand}
+use Rattle.dice_core.specs.Sessions.{SessionsSeen, owed, SessionsStand}
 use Rattle.dice_core.specs.Cores.{CoreSeen, past_of, table_at, has_table, held_in, world_of, IsAsBefore, CoreStands}
 use Rattle.dice_core.proofs.EntriesLemmas.{none_stand}
 use Rattle.dice_core.proofs.SessionLemmas.{eqb_flips, same_stands}
@@ -180,5 +175,5 @@ module _ {K V : Type 0} (eq : K → K → Bool) (equality : IsEquality eq) (m : 
           subst (λ (w : World K V). Rests eq m (past_of d) w (desk_of d.desk) (owed d.sessions)) (sym (world_same c d b))
           (subst (λ R. Rests eq m R (world_of eq c.tables) (desk_of d.desk) (owed d.sessions)) (sym past)
           (rests_room eq equality m law (past_of c) (world_of eq c.tables) (desk_of c.desk) (desk_of d.desk) (owed c.sessions) (owed d.sessions) st.rests
-              (record { ready = b.hands.ready; out = ap length b.hands.out; live = b.hands.live })
-              (let r = st.rests.room in let s = b.room.spare in let l = b.hands.live in let o = b.sessions.owed in omega arith)))
+          (record { ready = b.hands.ready; out = ap length b.hands.out; live = b.hands.live })
+          (let r = st.rests.room in let s = b.room.spare in let l = b.hands.live in let o = b.sessions.owed in omega arith)))

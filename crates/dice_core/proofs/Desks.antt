@@ -1,5 +1,5 @@
 -- What the calls on a desk do to what contracts see of it.
-use Rattle.std.proofs.Common.{◌≡◌, ℕ, ◌+◌, ◌-◌, ◌<◌, ◌≤◌, List, [], ◌∷◌, ◌++◌, length, map, take, drop, get_or, slice_get, Option, Some, None, Bor, inl, inr, refl, sym, ap, ◌∙◌, subst, arith, length-drop}
+use Rattle.std.proofs.Common.{◌≡◌, ℕ, ◌+◌, ◌-◌, ◌<◌, ◌≤◌, List, [], ◌∷◌, ◌++◌, length, map, take, drop, get_or, slice_get, Option, Some, None, Bor, inl, inr, sym, ap, ◌∙◌, subst, arith, length-drop}
 use Rattle.std.specs.Prelude.{IfSome, IfNone}
 use Rattle.std.specs.Option.{option_copied, option_map}
 use Rattle.std.proofs.lemmas.Option.{slice_get-map}
@@ -47,14 +47,16 @@ module _ {K V : Type 0} where
       let c : length d.ready ≡ n = ap length dr ∙ count_ready n ks l.bound in
       let h : n ≤ length ks = l.bound in
       let m : n - 1 + 1 ≡ n = omega (arith, c, b) in
-      let g = goes_first (n - 1) ks (omega (arith, c, b, h)) l.distinct in
-      (g.0, record {
-        ready = dr ∙ (ap (λ i. ready_of i ks) (sym m) ∙ g.1);
-        out = subst (λ (z : List (ℕ × K)). Gains g.0 z (out_of (n - 1) ks)) (sym (dq ∙ ap (λ i. out_of i ks) (sym m))) g.2;
-        count = omega (arith, count_out (n - 1) ks, ap length dq ∙ count_out n ks, h, c, b);
-        room = ap (λ (z : DeskSeen K V). z.ready_room) v;
-        rest = record { events = ap (λ (z : DeskSeen K V). z.events) v; live = ap (λ (z : DeskSeen K V). z.live) v; ended = ap (λ (z : DeskSeen K V). z.ended) v; spare = ap (λ (z : DeskSeen K V). z.spare) v; live_room = ap (λ (z : DeskSeen K V). z.live_room) v };
-      })
+      let g = goes_first (n - 1) ks (omega (arith, c, b, h)) l.distinct in (
+        g.0,
+        record {
+          ready = dr ∙ (ap (λ i. ready_of i ks) (sym m) ∙ g.1);
+          out = subst (λ (z : List (ℕ × K)). Gains g.0 z (out_of (n - 1) ks)) (sym (dq ∙ ap (λ i. out_of i ks) (sym m))) g.2;
+          count = omega (arith, count_out (n - 1) ks, ap length dq ∙ count_out n ks, h, c, b);
+          room = ap (λ (z : DeskSeen K V). z.ready_room) v;
+          rest = record { events = ap (λ (z : DeskSeen K V). z.events) v; live = ap (λ (z : DeskSeen K V). z.live) v; ended = ap (λ (z : DeskSeen K V). z.ended) v; spare = ap (λ (z : DeskSeen K V). z.spare) v; live_room = ap (λ (z : DeskSeen K V). z.live_room) v };
+        },
+      )
 
   -- the task that is to be taken next
   pub next_is : (n : ℕ) (ks : List (ReadyTask K)) (w d : DeskSeen K V) → w ≡ d → w.ready ≡ ready_of n ks → (o : Option (Bor (ReadyTask K))) → option_copied o ≡ slice_get ks (n - 1) → 0 < n → IfSome o (λ r. (ps : List (ℕ × K)) × (d.ready ≡ ps ++ place_of r.now ∷ []))
@@ -67,8 +69,9 @@ module _ {K V : Type 0} where
       let dr : ready_of n ks ≡ d.ready = sym wr ∙ ap (λ (z : DeskSeen K V). z.ready) v in
       let dq : out_of n ks ≡ d.out = sym wo ∙ ap (λ (z : DeskSeen K V). z.out) v in
       elim (has_either (ready_of n ks) (out_of n ks) p (subst (λ (l : List (ℕ × K)). Has l p) (sym (parts place_of n ks)) h)) [
-        inl x ↦ a (subst (λ (l : List (ℕ × K)). Has l p) dr x)
-        | inr y ↦ b (subst (λ (l : List (ℕ × K)). Has l p) dq y) ]
+        | inl x ↦ a (subst (λ (l : List (ℕ × K)). Has l p) dr x)
+        | inr y ↦ b (subst (λ (l : List (ℕ × K)). Has l p) dq y)
+      ]
 
   -- where a task is ready, some are
   pub some_ready : (n : ℕ) (ks : List (ReadyTask K)) (w d : DeskSeen K V) (p : ℕ × K) → w ≡ d → IsLaid n ks → w.ready ≡ ready_of n ks → Has d.ready p → (0 < n) × (n - 1 < length ks) × Has (ready_of (n - 1 + 1) ks) p

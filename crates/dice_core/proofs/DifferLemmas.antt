@@ -1,5 +1,5 @@
 -- A check with a changed answer computes.
-use Rattle.std.proofs.Common.{◌≡◌, ◌≤◌, ◌<◌, ◌+◌, ◌-◌, ◌*◌, ℕ, Bool, true, false, cond, List, [], ◌∷◌, ◌++◌, length, reverse, Option, Some, None, refl, sym, ap, ◌∙◌, subst, arith}
+use Rattle.std.proofs.Common.{◌≡◌, ◌≤◌, ◌+◌, ◌-◌, ◌*◌, ℕ, Bool, true, false, cond, List, [], ◌∷◌, ◌++◌, reverse, Option, Some, refl, sym, ap, ◌∙◌, subst, arith}
 use Rattle.std.specs.Option.{option_map}
 use Rattle.dice_key.specs.Lawful.{IsEquality, IsLawful}
 use Rattle.dice_key.specs.Meaning.{Meaning, Answered}
@@ -10,11 +10,11 @@ use Rattle.journal.specs.declared.event.Told.TheVariants.{Start}
 use Rattle.journal.specs.declared.event.Reason.TheVariants.{Differs}
 use Rattle.core_laws.specs.Tasks.{IsReady, IsOut, Works, Computes, Checks, Task, goes_on, is_going}
 use Rattle.core_laws.specs.Changes.{Puts, ChangesFirst}
-use Rattle.core_laws.specs.Desk.{World, Desk, DeskTurns, Stand, is_out}
+use Rattle.core_laws.specs.Desk.{World, DeskTurns, Stand}
 use Rattle.core_laws.proofs.StepsEnds.{differs_stand}
 use Rattle.core_laws.proofs.StepsWanted.{AllWanted, all_wanted_on, all_wanted_same}
 use Rattle.dice_core.specs.Helds.{Held, task_of}
-use Rattle.dice_core.specs.Hands.{DeskSeen, desk_of, tasks_of, seen_world, with_event, Returns, Leaves, Working}
+use Rattle.dice_core.specs.Hands.{DeskSeen, desk_of, tasks_of, seen_world, with_event, Returns, Working}
 use Rattle.dice_core.specs.Endings.{Quits, Knows, BeginsAnew}
 use Rattle.dice_core.proofs.EndsLemmas.{back_more, outs_after, puts_of, named_put, working_knows}
 

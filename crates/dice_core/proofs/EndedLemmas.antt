@@ -1,11 +1,11 @@
 -- All that is at work stays wanted, and all versions stand, where a task ends.
-use Rattle.std.proofs.Common.{◌≡◌, ◌≤◌, ◌<◌, ◌+◌, ◌-◌, ◌*◌, ℕ, Bool, true, false, cond, not, ◌&&◌, List, [], ◌∷◌, ◌++◌, map, reverse, Option, Some, None, refl, sym, ap, ◌∙◌, subst, arith}
+use Rattle.std.proofs.Common.{◌≡◌, ◌≤◌, ◌+◌, ◌*◌, ℕ, Bool, true, false, cond, not, ◌&&◌, List, [], ◌∷◌, ◌++◌, map, reverse, Option, Some, None, refl, sym, ap, ◌∙◌, subst, arith}
 use Rattle.std.specs.Option.{option_map}
 use Rattle.dice_key.specs.Lawful.{IsEquality, IsLawful}
 use Rattle.dice_key.specs.Meaning.{Meaning, Answered, Ends}
 use Rattle.dice_model.specs.Asks.{IsTrace}
-use Rattle.task_share.specs.Asked.{By, Tasked, Asked, is_by}
-use Rattle.task_share.specs.Seen.{Share, task_at, is_live, asks, asked_of, KeepsTasks, KeepsAsks, KeepsRoom, KeepsOtherRoom}
+use Rattle.task_share.specs.Asked.{By, Tasked, is_by}
+use Rattle.task_share.specs.Seen.{Share, task_at, is_live, asks, asked_of, KeepsTasks, KeepsRoom, KeepsOtherRoom}
 use Rattle.task_share.specs.Lent.{WritesTask}
 use Rattle.journal.specs.declared.event.Told.{Told}
 use Rattle.journal.specs.declared.event.Told.TheVariants.{Keep, End, Cyclic, Lost}
@@ -14,11 +14,11 @@ use Rattle.journal.specs.Law.{IsWanted}
 use Rattle.core_laws.specs.Tasks.{IsOut, Outcome, WithValue, WithCycle, WithNothing, Works, Ended, Computes, Checks, Task, goes_on, is_going}
 use Rattle.core_laws.specs.Stands.{CycleStands}
 use Rattle.core_laws.specs.Changes.{Puts, Lives, Withdraws}
-use Rattle.core_laws.specs.Desk.{World, Desk, DeskTurns, AreAll, Stand, is_ready, is_out}
+use Rattle.core_laws.specs.Desk.{World, DeskTurns, Stand, is_ready, is_out}
 use Rattle.core_laws.proofs.StepsEnds.{ends_stand, keeps_stand, loses_stand, cycles_stand}
 use Rattle.core_laws.proofs.StepsWanted.{IsOfTask, AllWanted, all_wanted_on, all_wanted_ended}
 use Rattle.dice_core.specs.Helds.{Held, task_of, held_ended}
-use Rattle.dice_core.specs.Hands.{DeskSeen, desk_of, tasks_of, AreNamed, seen_world, with_event, with_ended, with_told_next, KeepsDesk, Working}
+use Rattle.dice_core.specs.Hands.{DeskSeen, desk_of, tasks_of, seen_world, with_event, with_ended, with_told_next, KeepsDesk, Working}
 use Rattle.dice_core.specs.Endings.{Quits, Knows, EndsTask, TellsEnd, ListsEnd}
 use Rattle.dice_core.proofs.EndsLemmas.{back_more, quits_keeps, quits_turns, outs_after, puts_of, named_put, working_knows}
 use Rattle.core_laws.proofs.Shapes.{both_parts}

@@ -1,29 +1,26 @@
 -- What holds while a call works on a version is kept where a task ends or is dropped.
-use Rattle.std.proofs.Common.{◌≡◌, ◌≤◌, ◌<◌, ◌⊎◌, inl, inr, ◌+◌, ◌-◌, ◌*◌, ℕ, Bool, true, false, cond, not, ◌&&◌, eqb, List, [], ◌∷◌, ◌++◌, length, reverse, Option, Some, None, refl, sym, ap, ◌∙◌, subst, arith}
+use Rattle.std.proofs.Common.{◌≡◌, ◌≤◌, ◌<◌, inl, inr, ◌+◌, ◌-◌, ◌*◌, ℕ, Bool, true, false, cond, List, [], ◌∷◌, ◌++◌, length, reverse, Option, Some, None, refl, sym, ap, ◌∙◌, subst, arith}
 use Rattle.std.proofs.lemmas.Bool.{eq-eqb}
 use Rattle.std.proofs.lemmas.List.{reverse-append}
 use Rattle.std.specs.Option.{option_map}
 use Rattle.dice_key.specs.Lawful.{IsEquality, IsLawful}
 use Rattle.dice_key.specs.Meaning.{Meaning}
-use Rattle.dice_model.specs.Log.{Has, AreDistinct}
-use Rattle.task_share.specs.Asked.{By, Tasked, Asked, is_by, IsDone}
-use Rattle.task_share.specs.Seen.{Share, task_at, is_live, asks, asked_of, KeepsTasks, KeepsAsks}
+use Rattle.task_share.specs.Asked.{Asked, IsDone}
+use Rattle.task_share.specs.Seen.{Share, task_at, asked_of, KeepsTasks, KeepsAsks}
 use Rattle.journal.specs.declared.event.Told.{Told}
 use Rattle.journal.specs.declared.event.Told.TheVariants.{Drop}
 use Rattle.journal.specs.Events.{ended_at}
-use Rattle.journal.specs.Law.{IsWanted}
-use Rattle.dice_jobs.specs.Jobs.{Name}
-use Rattle.core_laws.specs.Tasks.{IsReady, IsOut, IsWaiting, Outcome, Standing, Works, Ended, Task, goes_on, is_going}
+use Rattle.core_laws.specs.Tasks.{IsReady, IsOut, IsWaiting, Standing, Works, Ended, Task, goes_on, is_going}
 use Rattle.core_laws.specs.Stands.{VersionStands}
 use Rattle.core_laws.specs.Changes.{Puts}
-use Rattle.core_laws.specs.Desk.{World, Desk, DeskTurns, AreAll, Loses, Stand, with_version, is_ready, is_out, ready_in, out_in}
+use Rattle.core_laws.specs.Desk.{World, DeskTurns, AreAll, Stand, with_version, is_ready, is_out, out_in}
 use Rattle.core_laws.proofs.Counts.{all_alike, all_fewer, counted}
 use Rattle.core_laws.proofs.Held.{going_where_waiting}
-use Rattle.core_laws.proofs.Turns.{pair_test, task_here, task_there, with_twice, stands_here}
+use Rattle.core_laws.proofs.Turns.{pair_test, task_there, with_twice, stands_here}
 use Rattle.core_laws.proofs.StepsEnds.{drops_stand}
 use Rattle.core_laws.proofs.StepsRests.{wanted_stand}
-use Rattle.dice_core.specs.Helds.{Held, task_of, held_ended}
-use Rattle.dice_core.specs.Hands.{DeskSeen, desk_of, tasks_of, AreNamed, seen_world, with_event, with_ended, Stays, KeepsDesk, Unreadies, Leaves, Working, Cleaning}
+use Rattle.dice_core.specs.Helds.{Held, task_of}
+use Rattle.dice_core.specs.Hands.{DeskSeen, desk_of, tasks_of, AreNamed, seen_world, with_event, with_ended, Stays, KeepsDesk, Working, Cleaning}
 use Rattle.dice_core.specs.Endings.{Quits, Knows, DropsTask}
 
 -- one event more, read backwards

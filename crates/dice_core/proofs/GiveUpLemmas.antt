@@ -1,13 +1,12 @@
 -- A task is given up with all that ask for it: what holds between calls goes on, and which other tasks stay out.
-use Rattle.std.proofs.Common.{◌≡◌, ◌⊎◌, inl, inr, ◌<◌, ℕ, Bool, true, false, cond, not, ◌&&◌, ◌||◌, List, [], ◌∷◌, ◌++◌, map, reverse, Option, Some, None, refl, sym, ap, ◌∙◌, subst, append_assoc}
+use Rattle.std.proofs.Common.{◌≡◌, ◌⊎◌, inl, inr, ℕ, Bool, true, false, cond, not, ◌&&◌, ◌||◌, List, [], ◌∷◌, ◌++◌, map, reverse, Option, Some, None, refl, sym, ap, ◌∙◌, subst, append_assoc}
 use Rattle.std.specs.Option.{option_map}
 use Rattle.std.specs.List.{AllByRecursion, list_any}
-use Rattle.std.proofs.lemmas.List.{append-nil, reverse-append}
+use Rattle.std.proofs.lemmas.List.{reverse-append}
 use Rattle.std.proofs.lemmas.Option.{none-some, same_Some}
 use Rattle.dice_key.specs.Meaning.{Meaning}
 use Rattle.dice_key.specs.Lawful.{IsEquality}
 use Rattle.dice_model.specs.Log.{Has}
-use Rattle.dice_jobs.specs.Jobs.{Assigned}
 use Rattle.task_share.specs.Asked.{Asked, IsDone, Cascade}
 use Rattle.task_share.specs.Seen.{Share, task_at, is_live, asked_of}
 use Rattle.injected.specs.Seen.{Seen}
@@ -15,7 +14,7 @@ use Rattle.journal.specs.declared.event.Told.{Told}
 use Rattle.journal.specs.declared.event.Told.TheVariants.{Drop}
 use Rattle.journal.specs.Events.{ended_at}
 use Rattle.versioned_graph.specs.Entries.{Stored}
-use Rattle.core_laws.specs.Tasks.{IsOut, Outcome, WithValue, WithCycle, WithNothing, Task, goes_on, is_going}
+use Rattle.core_laws.specs.Tasks.{IsOut, Outcome, WithCycle, WithNothing, goes_on, is_going}
 use Rattle.core_laws.specs.Stands.{VersionStands}
 use Rattle.core_laws.specs.Desk.{World}
 use Rattle.core_laws.proofs.Shapes.{same_or_other, not_both}

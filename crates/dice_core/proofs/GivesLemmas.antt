@@ -1,25 +1,21 @@
 -- What becomes of a step that is given, from what each of its ways says.
-use Rattle.std.proofs.Common.{◌≡◌, ◌<◌, ◌⊎◌, inl, inr, ◌++◌, ℕ, Bool, true, false, cond, List, [], ◌∷◌, map, reverse, Option, Some, None, Result, Ok, Err, refl, sym, ap, ◌∙◌, subst}
+use Rattle.std.proofs.Common.{◌≡◌, inl, inr, ◌++◌, ℕ, Bool, true, false, cond, List, [], ◌∷◌, map, reverse, Some, Result, Ok, Err, refl, sym, ap, ◌∙◌, subst}
 use Rattle.std.specs.Prelude.{OnOk}
 use Rattle.std.specs.List.{AllByRecursion}
 use Rattle.dice_key.specs.Meaning.{Meaning, Answered}
 use Rattle.dice_key.specs.Lawful.{IsEquality}
-use Rattle.dice_model.specs.Log.{Has}
-use Rattle.dice_jobs.specs.Jobs.{Assigned, Stepped, Checks, Wanting, Valued, Unchanged, Changed}
-use Rattle.task_share.specs.Seen.{Share, task_at, KeepsAsks}
-use Rattle.injected.specs.Seen.{Seen}
+use Rattle.dice_jobs.specs.Jobs.{Assigned, Stepped, Checks, Wanting, Changed}
+use Rattle.task_share.specs.Seen.{Share, task_at}
 use Rattle.journal.specs.declared.event.Told.{Told}
-use Rattle.journal.specs.declared.event.Told.TheVariants.{Start, Keep, End, Drop}
+use Rattle.journal.specs.declared.event.Told.TheVariants.{Start, Keep, Drop}
 use Rattle.journal.specs.declared.event.Reason.TheVariants.{Differs}
-use Rattle.core_laws.specs.Tasks.{IsReady, IsOut, IsWaiting, Outcome, WithValue}
+use Rattle.core_laws.specs.Tasks.{IsOut, IsWaiting, Outcome}
 use Rattle.core_laws.specs.Desk.{out_in}
-use Rattle.dice_core.specs.Batches.{IsOfMakes, LeavesOut, IsGiven, IsToldOf, TakesUp, ending_events}
+use Rattle.dice_core.specs.Batches.{IsOfMakes, IsGiven, IsToldOf, TakesUp, ending_events}
 use Rattle.dice_core.specs.Endings.{told_end}
-use Rattle.dice_core.specs.Finishings.{EndsWith, EndsAndWakes}
 use Rattle.dice_core.specs.Givings.{IsToldBy, Gives}
-use Rattle.dice_core.specs.Hands.{DeskSeen, KeepsHands, KeepsDeskRoom}
+use Rattle.dice_core.specs.Hands.{DeskSeen}
 use Rattle.dice_core.specs.Helds.{Held, held_of, held_ended}
-use Rattle.dice_core.specs.Joinings.{KeepsAtHand}
 use Rattle.dice_core.specs.Makings.{held_run}
 use Rattle.dice_core.specs.Waitings.{IsTurned}
 use Rattle.dice_core.specs.Cores.{IsWorkAt}
@@ -94,7 +90,7 @@ module _ {K V : Type 0} (eq : K → K → Bool) (equality : IsEquality eq) (s : 
       works_of xs (inl a) = all_makes v ks xs a
       works_of xs (inr h) = subst (λ z. AllByRecursion (IsWorkAt v) z) (sym h.4)
           (all_works v (ending_events v h.1 h.2) (all_both v (GivesUp v) (map (λ (p : K × Outcome K V). told_end v p.0 p.1) h.1) (map (Drop v) h.2)
-            (all_given_up v (map (λ (p : K × Outcome K V). told_end v p.0 p.1) h.1) (all_tell v (Some h.0) h.1 h.3)) (all_drops V v h.2)))
+          (all_given_up v (map (λ (p : K × Outcome K V). told_end v p.0 p.1) h.1) (all_tell v (Some h.0) h.1 h.3)) (all_drops V v h.2)))
 
       by_batch : (xs : List (Told K V)) → IsToldOf eq m v s.job ks xs → IsToldBy v s.job.name.key s.job.work (Wanting ks) xs
       by_batch xs (inl a) = inl a

@@ -1,24 +1,23 @@
 -- Tasks that are given up together, and the cascade after them, with their version in hand.
 use Rattle.std.specs.List.{AllByRecursion}
 use Rattle.dice_core.specs.Entries.{EntriesStand}
-use Rattle.std.proofs.Common.{◌≡◌, ◌<◌, ◌+◌, inl, inr, ℕ, Bool, true, false, List, [], ◌∷◌, ◌++◌, map, reverse, Option, Some, refl, sym, ap, ◌∙◌, subst, arith, append_assoc}
+use Rattle.std.proofs.Common.{◌≡◌, ◌<◌, inl, inr, ℕ, Bool, List, [], ◌∷◌, ◌++◌, map, reverse, Option, Some, sym, ap, ◌∙◌, subst, append_assoc}
 use Rattle.dice_key.specs.Meaning.{Meaning}
-use Rattle.dice_key.specs.Lawful.{IsEquality, IsLawful}
 use Rattle.dice_model.specs.Log.{Has}
 use Rattle.task_share.specs.Asked.{IsDone}
-use Rattle.task_share.specs.Seen.{Share, task_at, asked_of}
+use Rattle.task_share.specs.Seen.{Share, asked_of}
 use Rattle.injected.specs.Seen.{Seen}
 use Rattle.journal.specs.declared.event.Told.{Told}
 use Rattle.journal.specs.declared.event.Told.TheVariants.{Drop}
-use Rattle.journal.specs.Events.{open_count, ended_at}
+use Rattle.journal.specs.Events.{ended_at}
 use Rattle.versioned_graph.specs.Entries.{Stored}
 use Rattle.core_laws.specs.Tasks.{Outcome}
 use Rattle.core_laws.specs.Desk.{World}
 use Rattle.dice_core.specs.AtHand.{AtHand}
-use Rattle.dice_core.specs.Endings.{EndsTasks, DropsTasks, GivesUpAll, AreTasked, told_end}
+use Rattle.dice_core.specs.Endings.{EndsTasks, GivesUpAll, AreTasked, told_end}
 use Rattle.dice_core.specs.Hands.{DeskSeen, Working}
 use Rattle.dice_core.specs.Helds.{Held}
-use Rattle.dice_core.specs.Cores.{IsWorkAt, WorksOn}
+use Rattle.dice_core.specs.Cores.{WorksOn}
 use Rattle.dice_core.proofs.EventLemmas.{GivesUp, all_tell, all_given_up, all_drops, all_both, all_works, ended_after, entries_given_up, cells_works, count_works}
 
 has_told : {X Y : Type 0} (f : X → Y) (xs : List X) (x : X) → Has xs x → Has (map f xs) (f x)

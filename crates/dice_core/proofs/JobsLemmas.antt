@@ -1,5 +1,5 @@
 -- A job that is taken or comes back, over all versions.
-use Rattle.std.proofs.Common.{◌≡◌, ◌↔◌, IsTrue, ◌<◌, ◌+◌, ℕ, Bool, true, false, cond, nat_eq, eqb, List, [], ◌∷◌, ◌++◌, reverse, Option, Some, None, is_some, unwrap_or, refl, sym, ap, ◌∙◌, subst, arith, ◌≤◌}
+use Rattle.std.proofs.Common.{◌≡◌, ◌↔◌, IsTrue, ◌<◌, ℕ, Bool, true, false, cond, nat_eq, eqb, List, [], ◌∷◌, ◌++◌, reverse, Option, Some, None, is_some, unwrap_or, refl, sym, ap, ◌∙◌, subst, arith, ◌≤◌}
 use Rattle.std.proofs.lemmas.Bool.{eqb-true}
 use Rattle.std.specs.Map.{lookup}
 use Rattle.std.specs.Option.{option_map}
@@ -9,7 +9,6 @@ use Rattle.dice_model.specs.Log.{Has}
 use Rattle.task_share.specs.Asked.{By}
 use Rattle.task_share.specs.Seen.{Share, task_at, is_live, asks}
 use Rattle.injected.specs.Seen.{Seen}
-use Rattle.journal.specs.declared.event.Told.{Told}
 use Rattle.journal.specs.Events.{open_count}
 use Rattle.versioned_graph.specs.Entries.{Stored}
 use Rattle.core_laws.specs.Tasks.{Phase, IsOut, IsReady, IsWaiting}
@@ -25,7 +24,7 @@ use Rattle.std.specs.Prelude.{IfSome, IfNone}
 use Rattle.dice_core.specs.Helds.{Held, held_of, task_of}
 use Rattle.dice_core.specs.Sessions.{SessionsSeen, owed, SessionsStand}
 use Rattle.dice_core.specs.Waitings.{IsTurned, KeepsTable, TakesJob, ReturnsJob}
-use Rattle.dice_core.specs.Cores.{CoreSeen, past_of, table_at, has_table, held_in, world_of, core_of, PutsTable, Turned, IsAsBefore, CoreStands, WorksOn}
+use Rattle.dice_core.specs.Cores.{CoreSeen, table_at, has_table, world_of, core_of, PutsTable, Turned, IsAsBefore, CoreStands, WorksOn}
 use Rattle.dice_core.proofs.TurnLemmas.{worked_stands}
 use Rattle.dice_core.proofs.CoreLemmas.{working_in, in_hand, open_by_task, put_back_so, stands_same, table_put, has_put}
 use Rattle.dice_core.proofs.EndsLemmas.{working_knows}
@@ -72,7 +71,6 @@ kept_stands {K} {V} eq d ts es s x v us qs put keeps = record {
     by_asks : (u : ℕ) (q : K) (a : By K) (b : Bool) → eqb u v ≡ b → asks eq (cond b qs (table_at ts u)) q a ≡ asks eq (table_at ts u) q a
     by_asks u q a true i = keeps.asks q a ∙ ap (λ z. asks eq (table_at ts z) q a) (sym (eqb-true u v i))
     by_asks u q a false i = refl
-
 
 module _ {K V : Type 0} (eq : K → K → Bool) (equality : IsEquality eq) (m : Meaning K V) (law : IsLawful m) where
   -- one task changed, and nothing was told
@@ -140,8 +138,8 @@ take_stands eq equality m law d e ts us es s x st v ps qs (Some j) found put h k
     let same : j.name.version ≡ v = (named j.name.key (held_of j IsReady) h.table.was).0 in
     let at : table_at ts j.name.version ≡ ps = ap (table_at ts) same ∙ found in
     turned_stands eq equality m law d ts es s x st j.name.version j.name.key (held_of j IsReady) (held_of j IsOut) us qs e (subst (λ z. PutsTable z qs ts us) (sym same) put)
-        (subst (λ a. IsTurned eq j.name.key (held_of j IsReady) (held_of j IsOut) a qs) (sym at) h.table) h.desk.rest.events h.desk.rest.ended
-        (λ w W n work. kept w W n (subst (λ a. Working eq m j.name.version W w n a d) at work))
+    (subst (λ a. IsTurned eq j.name.key (held_of j IsReady) (held_of j IsOut) a qs) (sym at) h.table) h.desk.rest.events h.desk.rest.ended
+    (λ w W n work. kept w W n (subst (λ a. Working eq m j.name.version W w n a d) at work))
 
 module _ {K V : Type 0} (eq : K → K → Bool) (equality : IsEquality eq) (m : Meaning K V) (law : IsLawful m) where
   -- a job that comes back, or is handed back: so the core stands after it
@@ -153,8 +151,8 @@ module _ {K V : Type 0} (eq : K → K → Bool) (equality : IsEquality eq) (m : 
       (stands_same eq equality m law (core_of d ts es s x) (core_of d us es s x) (kept_stands eq d ts es s x j.name.version us qs put (subst (λ a. KeepsTable eq a qs) (sym found) same.2)) st)
   back_stands j d e ts us es s x st ps qs None B found put same back kept =
       turned_stands eq equality m law d ts es s x st j.name.version j.name.key (held_of j IsOut) (held_of j IsReady) us qs e put
-        (subst (λ a. IsTurned eq j.name.key (held_of j IsOut) (held_of j IsReady) a qs) (sym found) back.table) back.desk.rest.events back.desk.rest.ended
-        (λ w W n work. kept w W n (subst (λ a. Working eq m j.name.version W w n a d) found work))
+      (subst (λ a. IsTurned eq j.name.key (held_of j IsOut) (held_of j IsReady) a qs) (sym found) back.table) back.desk.rest.events back.desk.rest.ended
+      (λ w W n work. kept w W n (subst (λ a. Working eq m j.name.version W w n a d) found work))
 
   -- tasks that are given up: so the core stands after it
   pub failed_stands : (d e : DeskSeen K V) (ts us : List (ℕ × List (K × Share K (Held K V)))) (es : List (K × Stored K V)) (s : Seen K V) (x : SessionsSeen K) → CoreStands eq m (core_of d ts es s x) → (v : ℕ) (k : K) (h : Held K V) (ps qs : List (K × Share K (Held K V)))
@@ -205,7 +203,6 @@ module _ {K V : Type 0} (eq : K → K → Bool) where
       → IfNone o (ReturnsJob eq j.name.version j.name.key j j ps qs d e) → IfNone o (Turned eq m j.name.version ts us (λ a b. ReturnsJob eq j.name.version j.name.key j j a b d e))
   back_turned m j d e ts us ps qs (Some y) found put back = tt
   back_turned m j d e ts us ps qs None found put back = record { tasks = qs; put = put; turned = subst (λ a. ReturnsJob eq j.name.version j.name.key j j a qs d e) (sym found) back }
-
 
   -- nothing is told of a job that comes back
   pub back_events : {Y : Type 0} (j : Assigned K V) (d e : DeskSeen K V) (ps qs : List (K × Share K (Held K V))) (o : Option Y) (B : Y → Type 0) → IfSome o (λ y. B y × (e ≡ d) × KeepsTable eq ps qs) → IfNone o (ReturnsJob eq j.name.version j.name.key j j ps qs d e) → e.events ≡ d.events

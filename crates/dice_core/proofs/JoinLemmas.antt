@@ -1,8 +1,8 @@
 -- A key that is asked for, with its version in hand.
-use Rattle.std.proofs.Common.{◌≡◌, ◌≢◌, ◌<◌, ◌≤◌, ◌⊎◌, inl, inr, ◌+◌, ◌-◌, ◌*◌, ℕ, suc, Bool, true, false, cond, not, ◌&&◌, ◌||◌, nat_eq, eqb, List, [], ◌∷◌, ◌++◌, length, reverse, Option, Some, None, is_some, refl, sym, ap, ◌∙◌, subst, arith, append_assoc, eq-eqb}
+use Rattle.std.proofs.Common.{◌≡◌, ◌≢◌, ◌<◌, ◌≤◌, inl, inr, ◌+◌, ◌-◌, ◌*◌, ℕ, suc, Bool, true, false, cond, not, ◌&&◌, ◌||◌, List, [], ◌∷◌, ◌++◌, length, reverse, Option, Some, None, is_some, refl, sym, ap, ◌∙◌, subst, arith, append_assoc, eq-eqb}
 use Rattle.std.specs.List.{AllByRecursion}
 use Rattle.std.specs.Map.{lookup}
-use Rattle.std.proofs.lemmas.Bool.{and_from, and_right, or_left, or_right, or_cases}
+use Rattle.std.proofs.lemmas.Bool.{and_from, or_left, or_right, or_cases}
 use Rattle.std.proofs.lemmas.List.{length-reverse}
 use Rattle.std.proofs.lemmas.Option.{same_Some}
 use Rattle.dice_jobs.specs.Jobs.{Assigned}
@@ -11,33 +11,32 @@ use Rattle.dice_key.specs.Lawful.{IsEquality, IsLawful}
 use Rattle.dice_key.specs.declared.universe.Kind.TheVariants.{Injected}
 use Rattle.dice_model.specs.Log.{Has, AreDistinct}
 use Rattle.task_share.specs.Asked.{By, Promised, Tasked, is_by, IsDone}
-use Rattle.task_share.specs.Seen.{Share, is_for, number_for, task_at, is_live, asks, asked_of, has_place, promise_room, KeepsTasks, KeepsAsks, KeepsRoom, UsesRoomOf}
+use Rattle.task_share.specs.Seen.{Share, number_for, task_at, is_live, asks, asked_of, has_place, promise_room, KeepsTasks, KeepsAsks, UsesRoomOf}
 use Rattle.injected.specs.Seen.{Seen}
 use Rattle.journal.specs.declared.event.Told.{Told}
 use Rattle.journal.specs.declared.event.Told.TheVariants.{Ask, Start, Keep}
-use Rattle.journal.specs.Events.{Opened, open_at, open_count, opened_at, commits_of}
+use Rattle.journal.specs.Events.{open_count, commits_of}
 use Rattle.journal.specs.Law.{IsWanted, IsLawfulBack}
 use Rattle.journal.specs.Tell.{reason_of}
 use Rattle.versioned_graph.specs.Entries.{Stored}
 use Rattle.core_laws.specs.Changes.{SameAsks, Joins}
-use Rattle.core_laws.specs.Tasks.{Standing, Works, Ended, IsReady, IsOut, WithValue, WithNothing, Task, is_going}
+use Rattle.core_laws.specs.Tasks.{Ended, IsOut, WithValue, WithNothing, is_going}
 use Rattle.core_laws.specs.Stands.{VersionStands, IsAtRest}
 use Rattle.core_laws.specs.Desk.{World, Stand, AreAll, IsCount, with_version, is_ready, is_out, ready_in}
 use Rattle.core_laws.proofs.Held.{wanted_asked}
 use Rattle.core_laws.proofs.Opens.{there_open, open_within}
 use Rattle.core_laws.proofs.Shapes.{both_parts, not_both, same_or_other}
 use Rattle.core_laws.proofs.StepsAsks.{asked_stand}
-use Rattle.core_laws.proofs.StepsRests.{same_world}
-use Rattle.core_laws.proofs.StepsWanted.{AllWanted, all_wanted_on_ask}
+use Rattle.core_laws.proofs.StepsWanted.{all_wanted_on_ask}
 use Rattle.dice_core.specs.AtHand.{AtHand}
 use Rattle.dice_core.specs.Commits.{CellsStand}
 use Rattle.dice_core.specs.Cores.{IsWorkAt, WorksOn}
-use Rattle.dice_core.specs.Endings.{AreTasked, Knows}
+use Rattle.dice_core.specs.Endings.{AreTasked}
 use Rattle.dice_core.specs.Entries.{EntriesStand}
-use Rattle.dice_core.specs.Hands.{DeskSeen, desk_of, tasks_of, seen_world, with_event, with_made, Stays, Readies, KeepsHands, KeepsDeskRoom, HasDeskRoom, Working}
-use Rattle.dice_core.specs.Helds.{Held, held_of, held_ended, works as work_of}
-use Rattle.dice_core.specs.Joinings.{KeepsAtHand, IsToldOfMake, IsNewTask, AsksForKey, IsOpenAt, MayBeWith, OwesOneMore}
-use Rattle.dice_core.specs.Makings.{IsFree, HasTask, IsOfMake, MayMake, IsMaking, IsMakingFor, CanMake, IsMade, Makes, MakesEnded, MakesAlone}
+use Rattle.dice_core.specs.Hands.{DeskSeen, desk_of, tasks_of, seen_world, with_event, Stays, KeepsHands, KeepsDeskRoom, HasDeskRoom, Working}
+use Rattle.dice_core.specs.Helds.{Held, held_of, works as work_of}
+use Rattle.dice_core.specs.Joinings.{KeepsAtHand, IsNewTask, AsksForKey, IsOpenAt}
+use Rattle.dice_core.specs.Makings.{IsFree, HasTask, IsOfMake, MayMake, IsMaking, CanMake, IsMade, MakesAlone}
 use Rattle.dice_core.specs.declared.make.Making.{Making}
 use Rattle.dice_core.specs.declared.make.Making.TheVariants.{Join, Match, Run, Check}
 use Rattle.dice_core.proofs.EndsLemmas.{back_more, same_tasks, same_table, working_knows}
@@ -102,14 +101,14 @@ module _ {K V : Type 0} (eq : K → K → Bool) (equality : IsEquality eq) (m : 
       → 2 * d.live + less ≤ d.spare - 1 → Working eq m v [] w owed ps d → Working eq m v [] w less qs (with_event d (Ask by t k))
   asked_works w owed less ps qs d by t k is_open keeps same joins room work =
       let r = asked_stand eq equality m law (reverse d.events) v w [] (asked_of eq ps) (asked_of eq qs) (tasks_of eq ps) by t k is_open.0 (desk_of d) (desk_of (with_event d (Ask by t k))) owed less work.stand is_open.1 is_open.2 same joins keeps.live
-          (record { ready = refl; out = refl; live = refl }) room in
+      (record { ready = refl; out = refl; live = refl }) room in
       record {
-    stand = subst (λ R. Stand eq m R v [] (seen_world eq v qs w) (desk_of (with_event d x)) less) (sym told)
-        (subst (λ ts. Stand eq m (x ∷ reverse d.events) v [] (with_version v (asked_of eq qs) ts w) (desk_of (with_event d x)) less) (sym alike) r.1);
-    outs = subst (λ ts. AreAll (λ (p : ℕ × K). is_out ((with_version v (asked_of eq qs) ts w).tasks p.0 p.1)) d.out) (sym alike) work.outs;
-    named = λ q h e. work.named q h (sym (keeps.tasks q) ∙ e);
-    wanted = λ q l. subst (λ R. IsWanted eq m R v q) (sym told) (all_wanted_on_ask eq equality m law (reverse d.events) v (asked_of eq ps) by t k work.wanted q (sym (keeps.live q) ∙ l));
-  }
+        stand = subst (λ R. Stand eq m R v [] (seen_world eq v qs w) (desk_of (with_event d x)) less) (sym told)
+            (subst (λ ts. Stand eq m (x ∷ reverse d.events) v [] (with_version v (asked_of eq qs) ts w) (desk_of (with_event d x)) less) (sym alike) r.1);
+        outs = subst (λ ts. AreAll (λ (p : ℕ × K). is_out ((with_version v (asked_of eq qs) ts w).tasks p.0 p.1)) d.out) (sym alike) work.outs;
+        named = λ q h e. work.named q h (sym (keeps.tasks q) ∙ e);
+        wanted = λ q l. subst (λ R. IsWanted eq m R v q) (sym told) (all_wanted_on_ask eq equality m law (reverse d.events) v (asked_of eq ps) by t k work.wanted q (sym (keeps.live q) ∙ l));
+      }
     where
       x : Told K V
       x = Ask by t k

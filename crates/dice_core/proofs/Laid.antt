@@ -1,13 +1,13 @@
 -- What the calls on a shelf do to its two parts.
-use Rattle.std.proofs.Common.{◌≡◌, ℕ, ◌+◌, ◌-◌, ◌<◌, ◌≤◌, Bool, true, false, ◌||◌, List, [], ◌∷◌, ◌++◌, length, map, take, drop, get_or, slice_get, eqb, eq-eqb, ◌&&◌, Option, Some, None, inl, inr, refl, sym, ap, ◌∙◌, subst, arith}
-use Rattle.std.specs.Prelude.{IfSome, IfNone, IfOk, IsOk, Result, Ok, Err, if◌then◌else◌}
+use Rattle.std.proofs.Common.{◌≡◌, ℕ, ◌+◌, ◌<◌, ◌≤◌, Bool, true, false, ◌||◌, List, [], ◌∷◌, ◌++◌, length, map, take, drop, get_or, slice_get, eqb, eq-eqb, ◌&&◌, Option, Some, inl, inr, refl, sym, ap, ◌∙◌, subst, arith}
+use Rattle.std.specs.Prelude.{IfSome, IfOk, IsOk, Result, Ok, Err, if◌then◌else◌}
 use Rattle.indexmap.specs.IndexSet.{insert_key}
 use Rattle.std.specs.Arc.{arc_value}
 use Rattle.std.specs.Cmp.{first_so, second_so}
 use Rattle.std.specs.List.{swap, swap_remove, list_any}
 use Rattle.std.proofs.lemmas.Bool.{eqb-true, false≢true}
 use Rattle.std.proofs.lemmas.Option.{slice_get_within, slice_get-get_or, same_Some}
-use Rattle.std.proofs.lemmas.List.{length_push, drop_more}
+use Rattle.std.proofs.lemmas.List.{drop_more}
 use Rattle.std.proofs.lemmas.List.Edits.{length-swap}
 use Rattle.std.proofs.lemmas.List.Sorted.{IsPermutation-swap_remove, length_permutation}
 use Rattle.dice_key.specs.Lawful.{IsEquality}
@@ -87,9 +87,10 @@ module _ {X Y : Type 0} (f : X → Y) where
       let there : Has (map f (drop r ys)) (f y) = subst (λ (l : List Y). Has l (f y)) (sym tail) (inl refl) in
       let away = take_away_is t says ys zs r r y (f y) v there e2 refl k2 n w in
       let d : AreDistinct (f y ∷ map f (drop (r + 1) xs)) = subst AreDistinct tail (distinct_right (map f (take r ys)) (map f (drop r ys)) (subst AreDistinct (sym (parts f r ys)) v)) in
-      let front : map f (take r zs) ≡ map f (take r (swap xs i r)) = away.0 ∙ ap (λ (z : List X). map f (take r z)) k in
-      (subst (λ (l : List Y). Loses p (map f (take (r + 1) xs)) l) (sym front) (subst (λ (z : Y). Loses z (map f (take (r + 1) xs)) (map f (take r (swap xs i r)))) (ap f (sym a.2) ∙ q) g.2),
-       loses_first (map f (drop (r + 1) xs)) (map f (drop r zs)) (f y) d (subst (λ (l : List Y). Loses (f y) l (map f (drop r zs))) tail away.1))
+      let front : map f (take r zs) ≡ map f (take r (swap xs i r)) = away.0 ∙ ap (λ (z : List X). map f (take r z)) k in (
+        subst (λ (l : List Y). Loses p (map f (take (r + 1) xs)) l) (sym front) (subst (λ (z : Y). Loses z (map f (take (r + 1) xs)) (map f (take r (swap xs i r)))) (ap f (sym a.2) ∙ q) g.2),
+        loses_first (map f (drop (r + 1) xs)) (map f (drop r zs)) (f y) d (subst (λ (l : List Y). Loses (f y) l (map f (drop r zs))) tail away.1),
+      )
 
   -- what stands in a part stands in the whole
   pub in_second : (r : ℕ) (xs : List X) (p : Y) → Has (map f (drop r xs)) p → Has (map f xs) p

@@ -1,5 +1,5 @@
 -- Parts of lists whose elements stand once.
-use Rattle.std.proofs.Common.{◌≡◌, ◌⊎◌, inl, inr, ℕ, ◌+◌, ◌<◌, ◌≤◌, List, [], ◌∷◌, ◌++◌, length, map, take, drop, refl, sym, ap, ◌∙◌, subst, arith}
+use Rattle.std.proofs.Common.{◌⊎◌, inl, inr, List, [], ◌∷◌, ◌++◌, refl, sym, subst}
 use Rattle.dice_model.specs.Log.{Has, AreDistinct}
 use Rattle.core_laws.specs.Desk.{Loses}
 use Rattle.dice_core.specs.Hands.{Gains, Stays}
@@ -43,7 +43,8 @@ module _ {X : Type 0} where
   moves_left A B C p d e s = record {
     among = λ x h. (
       elim (has_either A B x (s.back x (has_right (A ++ p ∷ []) C x h))) [ inl l ↦ absurd (apart (A ++ p ∷ []) C x e (has_left A (p ∷ []) x l) h) | inr r ↦ r ],
-      λ q. apart (A ++ p ∷ []) C x e (has_right A (p ∷ []) x (inl q)) h);
+      λ q. apart (A ++ p ∷ []) C x e (has_right A (p ∷ []) x (inl q)) h,
+    );
     others = λ x h n. elim (has_either (A ++ p ∷ []) C x (s.there x (has_right A B x h))) [ inl l ↦ elim (has_either A (p ∷ []) x l) [ inl a ↦ absurd (apart A B x d a h) | inr b ↦ elim b [ inl q ↦ absurd (n q) | inr z ↦ absurd z ] ] | inr r ↦ r ];
     distinct = distinct_right (A ++ p ∷ []) C e;
   }
@@ -53,7 +54,8 @@ module _ {X : Type 0} where
   leaves_right A B C p d e s = record {
     among = λ x h. (
       elim (has_either A B x (s.back x (inr (has_right A C x h)))) [ inl l ↦ absurd (apart A C x e.1 l h) | inr r ↦ r ],
-      λ q. e.0 (subst (λ z. Has (A ++ C) z) (sym q) (has_right A C x h)));
+      λ q. e.0 (subst (λ z. Has (A ++ C) z) (sym q) (has_right A C x h)),
+    );
     others = λ x h n. elim (s.there x (has_right A B x h)) [ inl q ↦ absurd (n q) | inr r ↦ elim (has_either A C x r) [ inl a ↦ absurd (apart A B x d a h) | inr c ↦ c ] ];
     distinct = distinct_right A C e.1;
   }
@@ -62,13 +64,16 @@ module _ {X : Type 0} where
   pub comes_between : (A B C : List X) (p : X) → AreDistinct ((A ++ B) ++ p ∷ []) → AreDistinct ((A ++ p ∷ []) ++ C) → Same ((A ++ B) ++ p ∷ []) ((A ++ p ∷ []) ++ C) → Stays B C
   comes_between A B C p d e s = record {
     kept = λ x h. elim (has_either (A ++ p ∷ []) C x (s.there x (has_left (A ++ B) (p ∷ []) x (has_right A B x h)))) [
-      inl l ↦ elim (has_either A (p ∷ []) x l) [
-        inl a ↦ absurd (apart A B x (distinct_left (A ++ B) (p ∷ []) d) a h)
-        | inr b ↦ absurd (apart (A ++ B) (p ∷ []) x d (has_right A B x h) b) ]
-      | inr r ↦ r ];
+      | inl l ↦ elim (has_either A (p ∷ []) x l) [
+        | inl a ↦ absurd (apart A B x (distinct_left (A ++ B) (p ∷ []) d) a h)
+        | inr b ↦ absurd (apart (A ++ B) (p ∷ []) x d (has_right A B x h) b)
+      ]
+      | inr r ↦ r
+    ];
     only = λ x h. elim (has_either (A ++ B) (p ∷ []) x (s.back x (has_right (A ++ p ∷ []) C x h))) [
-      inl l ↦ elim (has_either A B x l) [ inl a ↦ absurd (apart (A ++ p ∷ []) C x e (has_left A (p ∷ []) x a) h) | inr b ↦ b ]
-      | inr r ↦ absurd (apart (A ++ p ∷ []) C x e (has_right A (p ∷ []) x r) h) ];
+      | inl l ↦ elim (has_either A B x l) [ inl a ↦ absurd (apart (A ++ p ∷ []) C x e (has_left A (p ∷ []) x a) h) | inr b ↦ b ]
+      | inr r ↦ absurd (apart (A ++ p ∷ []) C x e (has_right A (p ∷ []) x r) h)
+    ];
     distinct = distinct_right (A ++ p ∷ []) C e;
   }
 

@@ -1,25 +1,20 @@
 -- What a make leaves as it was, and what goes on for the keys that are made after it.
-use Rattle.std.proofs.Common.{◌≡◌, ◌≢◌, ◌≤◌, ◌<◌, ◌+◌, ◌-◌, ◌&&◌, not, ℕ, Bool, true, false, cond, List, [], ◌∷◌, ◌++◌, length, reverse, Option, Some, None, refl, sym, ap, ◌∙◌, subst, arith}
+use Rattle.std.proofs.Common.{◌≡◌, ◌≤◌, ◌<◌, ◌+◌, ◌-◌, ◌&&◌, not, ℕ, Bool, true, false, cond, List, [], ◌∷◌, ◌++◌, reverse, Some, refl, sym, ap, ◌∙◌, subst, arith}
 use Rattle.std.specs.List.{AllByRecursion}
 use Rattle.std.specs.Option.{option_map}
 use Rattle.std.proofs.lemmas.List.{append-nil, append_assoc, reverse-append}
-use Rattle.std.proofs.lemmas.Option.{none-some, same_Some}
 use Rattle.dice_key.specs.Meaning.{Meaning}
 use Rattle.dice_key.specs.Lawful.{IsLawful, IsEquality}
-use Rattle.task_share.specs.Asked.{By, Tasked, is_by}
 use Rattle.task_share.specs.Seen.{Share, task_at, is_live, asks, has_place, KeepsRoom, KeepsOtherRoom}
 use Rattle.journal.specs.declared.event.Told.{Told}
-use Rattle.journal.specs.declared.event.Told.TheVariants.{Commit, Open, Close, Ask, Leave, Start, Keep, End, Cyclic, Drop, Lost}
-use Rattle.journal.specs.Events.{commits_of}
-use Rattle.journal.specs.Tell.{reason_of}
+use Rattle.journal.specs.declared.event.Told.TheVariants.{Start, Keep}
 use Rattle.versioned_graph.specs.Entries.{Stored, entry_at, seen_at}
 use Rattle.versioned_graph.specs.Looks.{look}
-use Rattle.core_laws.specs.Tasks.{Ended, WithNothing}
 use Rattle.core_laws.specs.Desk.{World}
 use Rattle.core_laws.proofs.StepsWanted.{wanted_on}
 use Rattle.dice_core.specs.Helds.{Held}
 use Rattle.dice_core.specs.Hands.{DeskSeen, Readies, Working, with_event, with_made}
-use Rattle.dice_core.specs.Makings.{IsFree, HasTask, HasMakeRoom, MayMake, IsMaking, IsMakingFor, CanMake, IsMade, IsOfMake, Makes, MakesEnded, MakesAlone}
+use Rattle.dice_core.specs.Makings.{IsFree, HasTask, HasMakeRoom, MayMake, IsMaking, CanMake, IsMade, IsOfMake, Makes, MakesEnded, MakesAlone}
 use Rattle.dice_core.specs.declared.make.Making.{Making}
 use Rattle.dice_core.specs.declared.make.Making.TheVariants.{Join, Match, Run, Check}
 use Rattle.dice_core.proofs.MakeLemmas.{idle_at_hand}

@@ -1,23 +1,23 @@
 -- A task is made: what holds while a call works goes on.
-use Rattle.std.proofs.Common.{◌≡◌, ◌≢◌, ◌≤◌, ◌<◌, ◌+◌, ◌*◌, ◌-◌, ◌⊎◌, inl, inr, ◌&&◌, ◌||◌, not, ℕ, Bool, true, false, cond, eqb, List, [], ◌∷◌, ◌++◌, length, reverse, Option, Some, None, refl, sym, ap, ◌∙◌, subst, arith, eq-eqb}
+use Rattle.std.proofs.Common.{◌≡◌, ◌≤◌, ◌<◌, ◌+◌, ◌&&◌, ◌||◌, not, ℕ, Bool, true, false, cond, eqb, List, [], ◌∷◌, ◌++◌, length, reverse, Option, Some, None, refl, sym, ap, ◌∙◌, subst, arith, eq-eqb}
 use Rattle.std.specs.Option.{option_map}
 use Rattle.std.proofs.lemmas.List.{reverse-append}
 use Rattle.std.proofs.lemmas.Option.{same_Some}
 use Rattle.std.proofs.lemmas.Bool.{false≢true}
 use Rattle.dice_key.specs.Meaning.{Meaning, Answered}
 use Rattle.dice_key.specs.Lawful.{IsLawful, IsEquality}
-use Rattle.dice_model.specs.Log.{Has, AreDistinct}
-use Rattle.task_share.specs.Asked.{Asked, By, Promised, Tasked, is_by}
+use Rattle.dice_model.specs.Log.{Has}
+use Rattle.task_share.specs.Asked.{By, Promised, Tasked, is_by}
 use Rattle.task_share.specs.Seen.{Share, task_at, is_live, asks, asked_of, KeepsAsks, KeepsRoom, KeepsOtherRoom}
 use Rattle.journal.specs.declared.event.Told.{Told}
 use Rattle.journal.specs.declared.event.Told.TheVariants.{Start, Keep}
 use Rattle.journal.specs.declared.event.Reason.{Reason}
 use Rattle.journal.specs.Events.{commits_of, open_count, decided}
 use Rattle.journal.specs.Law.{IsWanted, IsTrueCause, KeepsValue}
-use Rattle.core_laws.specs.Tasks.{Task, IsReady, Standing, Works, Ended, WithValue, WithNothing, Computes, Checks, goes_on, is_going}
+use Rattle.core_laws.specs.Tasks.{Task, Ended, WithValue, WithNothing, goes_on, is_going}
 use Rattle.core_laws.specs.Stands.{VersionStands, IsStanding, WasSeen}
-use Rattle.core_laws.specs.Changes.{Puts, SameAsks, Lives}
-use Rattle.core_laws.specs.Desk.{World, Desk, AreAll, ListTurns, CountTurns, DeskTurns, Stand, is_ready, is_out, ready_in, out_in}
+use Rattle.core_laws.specs.Changes.{Puts, SameAsks}
+use Rattle.core_laws.specs.Desk.{World, Desk, AreAll, DeskTurns, Stand, is_ready, is_out, ready_in, out_in}
 use Rattle.core_laws.proofs.Counts.{all_alike}
 use Rattle.core_laws.proofs.Shapes.{idle_batch, asks_nothing}
 use Rattle.core_laws.proofs.Held.{wanted_once}

@@ -1,20 +1,18 @@
 -- The parts of a batch are made one after the other.
-use Rattle.std.proofs.Common.{◌≡◌, ◌⊎◌, inl, inr, ◌<◌, ◌≤◌, ◌+◌, ◌*◌, ◌-◌, ℕ, Bool, true, false, cond, List, [], ◌∷◌, ◌++◌, length, map, reverse, Option, Some, None, refl, sym, ap, ◌∙◌, subst, arith, append_assoc, length-append}
+use Rattle.std.proofs.Common.{◌≡◌, ◌⊎◌, inl, inr, ◌≤◌, ◌+◌, ◌*◌, ℕ, Bool, true, false, cond, List, [], ◌∷◌, ◌++◌, length, map, reverse, Option, Some, None, refl, sym, ap, ◌∙◌, subst, arith, append_assoc, length-append}
 use Rattle.std.specs.List.{AllByRecursion}
 use Rattle.std.specs.Option.{option_map}
 use Rattle.std.proofs.lemmas.List.{append-nil}
-use Rattle.std.proofs.lemmas.Option.{none-some, same_Some}
+use Rattle.std.proofs.lemmas.Option.{none-some}
 use Rattle.dice_key.specs.Meaning.{Meaning}
 use Rattle.dice_key.specs.Lawful.{IsLawful, IsEquality}
 use Rattle.dice_model.specs.Log.{Has, AreDistinct}
 use Rattle.dice_jobs.specs.Jobs.{Assigned}
-use Rattle.task_share.specs.Asked.{Asked}
-use Rattle.task_share.specs.Seen.{Share, task_at, is_live, asks, asked_of, asker_room, wait_room, has_place, KeepsAsks}
+use Rattle.task_share.specs.Seen.{Share, task_at, is_live, asks, asked_of, asker_room, KeepsAsks}
 use Rattle.journal.specs.declared.event.Told.{Told}
-use Rattle.journal.specs.declared.event.Told.TheVariants.{Commit, Open, Close, Ask, Leave, Start, Keep, End, Cyclic, Drop, Lost}
-use Rattle.journal.specs.Events.{commits_of}
+use Rattle.journal.specs.declared.event.Told.TheVariants.{Start, Keep}
 use Rattle.versioned_graph.specs.Entries.{Stored}
-use Rattle.core_laws.specs.Tasks.{IsReady, IsOut, Standing, Works, Ended, WithValue, WithCycle, WithNothing, goes_on, is_going, value_of, value_in}
+use Rattle.core_laws.specs.Tasks.{IsOut, Standing, Works, Ended, WithValue, WithCycle, WithNothing, goes_on, is_going, value_of, value_in}
 use Rattle.core_laws.specs.Stands.{VersionStands}
 use Rattle.core_laws.specs.Desk.{World, out_in}
 use Rattle.core_laws.proofs.Counts.{has_append, has_front, has_last}
@@ -22,17 +20,17 @@ use Rattle.core_laws.proofs.Shapes.{same_or_other, not_both}
 use Rattle.core_laws.proofs.StepsWanted.{IsOfTask}
 use Rattle.core_laws.proofs.Turns.{stands_here}
 use Rattle.dice_core.specs.Circles.{path_in, path_with}
-use Rattle.dice_core.specs.Helds.{Held, task_of, held_of, held_ended}
+use Rattle.dice_core.specs.Helds.{Held, task_of, held_of}
 use Rattle.dice_core.specs.Hands.{DeskSeen, desk_of, Working, tasks_of}
 use Rattle.dice_core.specs.Entries.{EntriesStand}
 use Rattle.dice_core.specs.Makings.{IsFree, HasTask, IsMaking, IsMade, IsOfMake, MakesAlone, MayMake, CanMake}
-use Rattle.dice_core.specs.Plans.{key_in, is_awaited, HasNoPath, IsPart}
+use Rattle.dice_core.specs.Plans.{key_in, is_awaited, IsPart}
 use Rattle.dice_core.specs.Batches.{IsOfMakes, MakesOn, IsBeside, HasRoomToMake, MakesParts}
 use Rattle.dice_core.specs.declared.make.Making.{Making}
 use Rattle.dice_core.specs.declared.make.Making.TheVariants.{Join, Match, Run, Check}
 use Rattle.dice_core.specs.declared.plan.Part.{Part}
 use Rattle.dice_core.proofs.Lists.{apart, distinct_left}
-use Rattle.dice_core.proofs.MakeLemmas.{Idle, free_idle, same_asks}
+use Rattle.dice_core.proofs.MakeLemmas.{free_idle, same_asks}
 use Rattle.dice_core.proofs.MakeFrames.{making_on, may_more, can_make}
 use Rattle.dice_core.proofs.PartLemmas.{map_has, map_last}
 use Rattle.dice_core.proofs.QuietLemmas.{all_both}

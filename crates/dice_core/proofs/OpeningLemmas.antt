@@ -1,34 +1,33 @@
 -- A transaction that is opened, and an ask that is left, over all versions.
-use Rattle.std.proofs.Common.{◌≡◌, ◌<◌, ◌≤◌, ◌+◌, ◌*◌, ◌++◌, ℕ, Bool, true, false, cond, nat_eq, eqb, List, [], ◌∷◌, length, map, reverse, Option, Some, None, is_some, unwrap_or, refl, sym, ap, ◌∙◌, subst, arith, append_assoc}
+use Rattle.std.proofs.Common.{◌≡◌, ◌<◌, ◌+◌, ◌++◌, ℕ, Bool, true, false, cond, nat_eq, eqb, List, [], ◌∷◌, length, map, reverse, Option, Some, None, is_some, unwrap_or, refl, sym, ap, ◌∙◌, subst, arith, append_assoc}
 use Rattle.std.specs.Map.{lookup}
 use Rattle.std.specs.Option.{option_map}
 use Rattle.std.proofs.lemmas.Bool.{eqb-true}
 use Rattle.dice_key.specs.Meaning.{Meaning}
 use Rattle.dice_key.specs.Lawful.{IsEquality, IsLawful}
-use Rattle.task_share.specs.Asked.{By}
 use Rattle.task_share.specs.Seen.{Share, task_at, is_live, asks, asked_of}
 use Rattle.injected.specs.Seen.{Seen}
 use Rattle.journal.specs.declared.event.Told.{Told}
 use Rattle.journal.specs.declared.event.Told.TheVariants.{Open, Leave, Drop}
-use Rattle.journal.specs.Events.{Opened, Asking, one_if, commits_of, open_at, opened_at, open_count, live_at}
+use Rattle.journal.specs.Events.{Opened, Asking, one_if, open_at, opened_at, open_count, live_at}
 use Rattle.versioned_graph.specs.Entries.{Stored}
-use Rattle.core_laws.specs.Desk.{World, Desk, Rests, AreAll, is_out}
+use Rattle.core_laws.specs.Desk.{World, Rests, AreAll, is_out}
 use Rattle.core_laws.proofs.Indices.{opened_counts}
 use Rattle.core_laws.proofs.Opens.{there_open}
 use Rattle.core_laws.proofs.StepsRests.{rests_open}
-use Rattle.dice_core.specs.Askings.{IsAskAt, DropsAfter, StaysAtHand}
+use Rattle.dice_core.specs.Askings.{DropsAfter, StaysAtHand}
 use Rattle.dice_core.specs.AtHand.{AtHand}
-use Rattle.dice_core.specs.Commits.{SameSets, CellsStand}
+use Rattle.dice_core.specs.Commits.{CellsStand}
 use Rattle.dice_core.specs.Entries.{EntriesStand}
 use Rattle.dice_core.specs.Hands.{DeskSeen, desk_of, tasks_of, with_event, KeepsHands, KeepsDeskRoom, HasDeskRoom}
 use Rattle.dice_core.specs.Helds.{Held}
-use Rattle.dice_core.specs.Sessions.{SessionSeen, SessionsSeen, opened_of, session_at, transaction_at, ask_at, owed, IsSame, Opens, Leaves, SessionsStand}
-use Rattle.dice_core.specs.Cores.{CoreSeen, past_of, table_at, has_table, held_in, world_of, core_of, PutsTable, Turned, IsAsBefore, KeepsTasksOf, CoreStands, WorksOn}
+use Rattle.dice_core.specs.Sessions.{SessionSeen, SessionsSeen, opened_of, session_at, transaction_at, ask_at, owed, IsSame, Leaves, SessionsStand}
+use Rattle.dice_core.specs.Cores.{table_at, has_table, world_of, core_of, PutsTable, Turned, IsAsBefore, KeepsTasksOf, CoreStands, WorksOn}
 use Rattle.dice_core.proofs.CoreLemmas.{in_hand, put_back_so}
 use Rattle.dice_core.proofs.EndsLemmas.{back_more}
 use Rattle.dice_core.proofs.EntriesLemmas.{stand_open}
 use Rattle.dice_core.proofs.EventLemmas.{all_drops, all_works, sessions_works, count_works}
-use Rattle.dice_core.proofs.SessionLemmas.{leaves_stand, asking_opened}
+use Rattle.dice_core.proofs.SessionLemmas.{asking_opened}
 
 -- other asks and transactions of the sessions are as they were
 pub same_sessions : {K : Type 0} (x : SessionsSeen K) → IsSame x x
@@ -72,7 +71,7 @@ module _ {K V : Type 0} (eq : K → K → Bool) (equality : IsEquality eq) (m : 
     rests = subst (λ S. Rests eq m S (world_of eq us) (desk_of (with_event f (Open by n))) (owed y)) (sym past)
         (subst (λ (w : World K V). Rests eq m (Open by n ∷ R) w (desk_of (with_event f (Open by n))) (owed y)) (sym world)
         (rests_open eq equality m law R (world_of eq ts) (desk_of d) (desk_of (with_event f (Open by n))) (owed x) (owed y) st.rests (record { ready = hands.ready; out = ap length hands.out; live = hands.live })
-            (let r = room.spare in let o = owes in omega arith) by n (sym newest ∙ st.cells.newest)).1);
+        (let r = room.spare in let o = owes in omega arith) by n (sym newest ∙ st.cells.newest)).1);
     outs = subst (λ (w : World K V). AreAll (λ (p : ℕ × K). is_out (w.tasks p.0 p.1)) f.out) (sym world) (subst (λ xs. AreAll (λ (p : ℕ × K). is_out ((world_of eq ts).tasks p.0 p.1)) xs) (sym hands.out) st.outs);
     named = λ v k h e. st.named v k h (ap (λ ps. task_at eq ps k) (sym (tables v)) ∙ e);
     told = hands.ended ∙ st.told;
@@ -162,7 +161,11 @@ pub left_log : {K V : Type 0} (eq : K → K → Bool) (m : Meaning K V) (R : Lis
     → live_at R i ≡ Some a → open_at R a.opened ≡ Some o → o.version ≡ v → by ≡ a.by → table_at ts v ≡ ps → PutsTable v qs ts us → DropsAfter eq v (Leave by i ∷ []) ks ps qs d e
     → (b : Asking K) × (p : Opened) × (ls : List K) × (live_at R i ≡ Some b) × (open_at R b.opened ≡ Some p) × Turned eq m p.version ts us (λ x y. DropsAfter eq p.version (Leave b.by i ∷ []) ls x y d e)
 left_log eq m R v by i a o ks d e ts us ps qs live op at his found put drops = (
-  a, o, ks, live, op,
+  a,
+  o,
+  ks,
+  live,
+  op,
   subst (λ z. Turned eq m z ts us (λ x y. DropsAfter eq z (Leave a.by i ∷ []) ks x y d e)) (sym at) (record {
     tasks = qs;
     put = put;

@@ -1,12 +1,11 @@
 -- Waits are added, in room made ahead.
-use Rattle.std.proofs.Common.{◌≡◌, ◌≤◌, ◌<◌, ◌⊎◌, inl, inr, ◌+◌, ℕ, suc, Bool, true, false, cond, ◌&&◌, ◌||◌, List, [], ◌∷◌, ◌++◌, length, Option, Some, None, refl, sym, ap, ◌∙◌, subst, arith, length-append}
-use Rattle.std.specs.List.{list_any}
+use Rattle.std.proofs.Common.{◌≡◌, ◌≤◌, ◌<◌, ◌⊎◌, inl, inr, ◌+◌, ℕ, suc, Bool, true, false, cond, ◌&&◌, ◌||◌, List, [], ◌∷◌, ◌++◌, length, refl, sym, ap, ◌∙◌, subst, arith, length-append}
 use Rattle.std.proofs.lemmas.List.Folds.{list_any-append}
 use Rattle.dice_key.specs.Lawful.{IsEquality}
 use Rattle.dice_model.specs.Log.{Has}
 use Rattle.dice_jobs.specs.Jobs.{Waits}
 use Rattle.task_share.specs.Asked.{By, Tasked, WaitOf, is_by}
-use Rattle.task_share.specs.Seen.{Share, task_at, asks, asker_room, wait_room, KeepsTasks, KeepsAsks, KeepsRoom, UsesRoomOf}
+use Rattle.task_share.specs.Seen.{Share, asks, asker_room, wait_room, KeepsTasks, KeepsAsks, KeepsRoom, UsesRoomOf}
 use Rattle.core_laws.specs.Tasks.{IsOut, IsWaiting}
 use Rattle.dice_core.specs.Helds.{Held, held_of}
 use Rattle.dice_core.specs.Hands.{DeskSeen, Leaves}

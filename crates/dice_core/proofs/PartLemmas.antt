@@ -1,25 +1,22 @@
 -- The parts of a batch: one after the other, turned round, and over a table where nothing but room has changed.
-use Rattle.std.proofs.Common.{◌≡◌, ◌≢◌, ◌⊎◌, inl, inr, ◌<◌, ◌≤◌, ◌+◌, ℕ, Bool, true, false, cond, not, ◌||◌, ◌&&◌, List, [], ◌∷◌, ◌++◌, length, map, filter, reverse, take, get_or, Option, Some, None, refl, sym, ap, ◌∙◌, subst, arith}
+use Rattle.std.proofs.Common.{◌≡◌, ◌⊎◌, inl, inr, ◌<◌, ◌+◌, ℕ, Bool, true, false, cond, List, [], ◌∷◌, ◌++◌, length, map, filter, reverse, take, get_or, Option, refl, sym, ap, ◌∙◌, subst, arith}
 use Rattle.std.specs.Arc.{arc_value}
 use Rattle.std.specs.declared.sync.Arc.{Arc}
-use Rattle.std.specs.List.{AllZip, list_any}
+use Rattle.std.specs.List.{AllZip}
 use Rattle.std.specs.Option.{option_map}
 use Rattle.std.proofs.lemmas.List.{map-append, reverse-append, take_more}
 use Rattle.dice_key.specs.Meaning.{Meaning}
-use Rattle.dice_key.specs.Lawful.{IsEquality}
 use Rattle.dice_key.specs.declared.universe.Kind.TheVariants.{Injected}
 use Rattle.dice_model.specs.Log.{Has, AreDistinct}
 use Rattle.task_share.specs.Asked.{WaitOf, Leads}
-use Rattle.task_share.specs.Seen.{Share, task_at, is_live, asked_of, KeepsTasks, KeepsAsks}
-use Rattle.versioned_graph.specs.Entries.{Stored, entry_at}
-use Rattle.versioned_graph.specs.Looks.{look}
+use Rattle.task_share.specs.Seen.{Share, asked_of, KeepsTasks, KeepsAsks}
+use Rattle.versioned_graph.specs.Entries.{Stored}
 use Rattle.core_laws.proofs.Counts.{has_append, has_front, has_last}
 use Rattle.core_laws.specs.Tasks.{value_of}
-use Rattle.dice_core.specs.Circles.{path_in, path_with}
+use Rattle.dice_core.specs.Circles.{path_with}
 use Rattle.dice_core.specs.Helds.{Held, task_of}
-use Rattle.dice_core.specs.Hands.{tasks_of}
 use Rattle.dice_core.specs.Makings.{IsFree, HasTask, IsMaking}
-use Rattle.dice_core.specs.Plans.{key_in, wait_for, waits_of, is_awaited, HasNoPath, IsPathAt, IsPathOf, IsPart, AreParts, IsAtHand}
+use Rattle.dice_core.specs.Plans.{key_in, wait_for, waits_of, is_awaited, IsPart, AreParts, IsAtHand}
 use Rattle.dice_core.specs.declared.make.Making.{Making}
 use Rattle.dice_core.specs.declared.make.Making.TheVariants.{Join, Match, Run, Check}
 use Rattle.dice_core.specs.declared.plan.Part.{Part}

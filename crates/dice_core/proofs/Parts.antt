@@ -1,20 +1,20 @@
 -- A list of things whose places are distinct, the first r of which are one part, and the others another.
-use Rattle.std.proofs.Common.{◌≡◌, ◌⊎◌, inl, inr, ℕ, zero, suc, ◌+◌, ◌-◌, ◌<◌, ◌≤◌, Bool, true, false, List, [], ◌∷◌, ◌++◌, length, map, take, drop, set, get_or, slice_get, Option, Some, None, refl, sym, ap, ◌∙◌, subst, arith, length-append}
+use Rattle.std.proofs.Common.{◌≡◌, inl, inr, ℕ, zero, suc, ◌+◌, ◌-◌, ◌<◌, ◌≤◌, Bool, true, false, List, [], ◌∷◌, ◌++◌, length, map, take, drop, set, get_or, slice_get, Option, Some, None, refl, sym, ap, ◌∙◌, subst, arith}
 use Rattle.std.specs.Prelude.{IfSome, IfNone}
 use Rattle.std.specs.Option.{is_some}
-use Rattle.std.specs.List.{swap, swap_remove, IsDistinct, AllByRecursion, Contains, list_any, position}
+use Rattle.std.specs.List.{swap, swap_remove, IsDistinct, AllByRecursion, list_any, position}
 use Rattle.std.specs.List.Sorted.{IsPermutation}
 use Rattle.std.proofs.lemmas.Bool.{false≢true, true≢false, or_left, or_right, cases_lt}
-use Rattle.std.proofs.lemmas.List.{take-append-drop, map-append, take-set-le, drop-set-lt, take_more_set, take_more, length_push, take-append-le, get_or_push, length-set, get_or-set_other, get_or-set_same, take-take, take-set, get_or_default, drop_more, length-take, get_or-take}
+use Rattle.std.proofs.lemmas.List.{take-append-drop, map-append, take-set-le, drop-set-lt, take_more_set, take_more, length_push, take-append-le, get_or_push, length-set, get_or-set_same, take-take, drop_more, length-take, get_or-take}
 use Rattle.std.proofs.lemmas.List.Quantifiers.{position-Some}
 use Rattle.std.proofs.lemmas.Option.{slice_get_cases}
 use Rattle.std.proofs.lemmas.List.Edits.{swap_is, length-swap}
-use Rattle.std.proofs.lemmas.List.Sorted.{IsPermutation-swap, IsPermutation-swap_remove, IsPermutation-map, IsPermutation-sym, Contains-permutation, length_permutation}
+use Rattle.std.proofs.lemmas.List.Sorted.{IsPermutation-swap, IsPermutation-swap_remove, IsPermutation-map, IsPermutation-sym, Contains-permutation}
 use Rattle.std.proofs.lemmas.Map.Keys.{IsDistinct-head, IsDistinct-tail}
 use Rattle.dice_model.specs.Log.{Has, AreDistinct}
 use Rattle.core_laws.specs.Desk.{Loses}
 use Rattle.dice_core.specs.Hands.{Gains, Stays}
-use Rattle.dice_core.proofs.Lists.{Same, has_left, has_right, has_either, distinct_left, distinct_right, apart, moves_left, leaves_right, comes_between, loses_last, same_front, goes_over}
+use Rattle.dice_core.proofs.Lists.{Same, distinct_left, apart, moves_left, leaves_right, comes_between, loses_last, same_front, goes_over}
 
 module _ {X : Type 0} where
   has_get : (xs : List X) (i : ℕ) (d : X) → i < length xs → Has xs (get_or xs i d)
@@ -85,16 +85,18 @@ module _ {X Y : Type 0} (f : X → Y) where
   -- the first that passes a test of a place has that place
   pub found_there : (t : X → Bool) (p : Y) → ((x : X) → t x ≡ true → f x ≡ p) → (xs : List X) (i : ℕ) → i < length xs → position t xs ≡ Some i → (x : X) × (slice_get xs i ≡ Some x) × (f x ≡ p)
   found_there t p means xs i l e = elim (slice_get_cases xs i).1 [
-    inl c ↦ (c.0, c.2, means c.0 (ap t (sym c.3) ∙ (position-Some t xs i c.0 e).1))
-    | inr c ↦ absurd (omega arith) ]
+    | inl c ↦ (c.0, c.2, means c.0 (ap t (sym c.3) ∙ (position-Some t xs i c.0 e).1))
+    | inr c ↦ absurd (omega arith)
+  ]
 
   -- what stands in the second part has an index there
   pub stands_after : (xs : List X) (r i : ℕ) (d : X) → i < length xs → AreDistinct (map f xs) → Has (map f (drop r xs)) (f (get_or xs i d)) → r ≤ i
   stands_after xs r i d l u h = elim (cases_lt i r) [
-    inr b ↦ b
+    | inr b ↦ b
     | inl q ↦
         let m : i < length (take r xs) = rw (length-take r xs) (omega arith) in
-        absurd (apart (map f (take r xs)) (map f (drop r xs)) (f (get_or xs i d)) (subst AreDistinct (sym (parts r xs)) u) (has_map (take r xs) (get_or xs i d) (subst (λ z. Has (take r xs) z) (get_or-take r xs i d q) (has_get (take r xs) i d m))) h) ]
+        absurd (apart (map f (take r xs)) (map f (drop r xs)) (f (get_or xs i d)) (subst AreDistinct (sym (parts r xs)) u) (has_map (take r xs) (get_or xs i d) (subst (λ z. Has (take r xs) z) (get_or-take r xs i d q) (has_get (take r xs) i d m))) h)
+  ]
     where
       has_map : (ys : List X) (x : X) → Has ys x → Has (map f ys) (f x)
       has_map [] x k = k
@@ -164,8 +166,9 @@ module _ {X Y : Type 0} (f : X → Y) where
   -- what stands in the first part has an index there
   pub stands_before : (xs : List X) (r i : ℕ) (d : X) → i < length xs → AreDistinct (map f xs) → Has (map f (take r xs)) (f (get_or xs i d)) → i < r
   stands_before xs r i d l u h = elim (cases_lt i r) [
-    inl q ↦ q
-    | inr b ↦ absurd (apart (map f (take r xs)) (map f (drop r xs)) (f (get_or xs i d)) (subst AreDistinct (sym (parts r xs)) u) h (has_later xs r i d b l)) ]
+    | inl q ↦ q
+    | inr b ↦ absurd (apart (map f (take r xs)) (map f (drop r xs)) (f (get_or xs i d)) (subst AreDistinct (sym (parts r xs)) u) h (has_later xs r i d b l))
+  ]
     where
       has_later : (ys : List X) (n j : ℕ) (x : X) → n ≤ j → j < length ys → Has (map f (drop n ys)) (f (get_or ys j x))
       has_later [] n j x b m = absurd (omega arith)

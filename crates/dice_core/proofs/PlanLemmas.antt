@@ -1,5 +1,5 @@
 -- A plan is one over the room that was made for it, and leaves what is seen as it was.
-use Rattle.std.proofs.Common.{◌≡◌, ◌≢◌, ◌⊎◌, inl, inr, ◌<◌, ◌≤◌, ◌+◌, ◌*◌, ℕ, Bool, true, false, List, [], ◌∷◌, ◌++◌, length, reverse, Option, Some, None, refl, sym, ap, ◌∙◌, subst, arith}
+use Rattle.std.proofs.Common.{◌≡◌, inl, inr, ◌<◌, ◌≤◌, ◌+◌, ◌*◌, ℕ, Bool, true, false, List, [], ◌∷◌, ◌++◌, length, reverse, Option, Some, None, refl, sym, ap, ◌∙◌, subst, arith}
 use Rattle.std.specs.List.{AllZip}
 use Rattle.std.specs.Option.{option_map}
 use Rattle.std.specs.Prelude.{◌==◌}
@@ -7,31 +7,28 @@ use Rattle.std.proofs.lemmas.Bool.{eqb-true}
 use Rattle.std.proofs.lemmas.Option.{none-some, same_Some}
 use Rattle.dice_key.specs.Meaning.{Meaning}
 use Rattle.dice_key.specs.Lawful.{IsEquality}
-use Rattle.dice_key.specs.declared.universe.Kind.TheVariants.{Injected}
 use Rattle.dice_model.specs.Log.{Has}
 use Rattle.dice_jobs.specs.Jobs.{Assigned, Waits, Outcome, Wanting, waiting_after, answered_more}
 use Rattle.task_share.specs.Asked.{WaitOf}
 use Rattle.task_share.specs.Seen.{Share, task_at, is_live, asked_of, wait_room, KeepsTasks, KeepsAsks}
 use Rattle.injected.specs.Seen.{Seen}
-use Rattle.injected.specs.Inputs.{AreOf}
 use Rattle.journal.specs.declared.event.Told.{Told}
-use Rattle.journal.specs.Events.{commits_of, open_count}
+use Rattle.journal.specs.Events.{open_count}
 use Rattle.journal.specs.Law.{IsWanted}
-use Rattle.versioned_graph.specs.Entries.{Stored, entry_at}
-use Rattle.versioned_graph.specs.Looks.{look}
-use Rattle.core_laws.specs.Tasks.{IsOut, is_going, value_of}
+use Rattle.versioned_graph.specs.Entries.{Stored}
+use Rattle.core_laws.specs.Tasks.{is_going}
 use Rattle.core_laws.specs.Stands.{VersionStands}
-use Rattle.core_laws.specs.Desk.{World, Desk, Stand, AreAll, IsCount, is_ready, is_out}
+use Rattle.core_laws.specs.Desk.{World, Stand, AreAll, IsCount, is_ready, is_out}
 use Rattle.core_laws.proofs.Shapes.{not_both}
 use Rattle.core_laws.proofs.Turns.{stands_here}
 use Rattle.dice_core.specs.AtHand.{AtHand}
 use Rattle.dice_core.specs.Commits.{CellsStand}
-use Rattle.dice_core.specs.Helds.{Held, Ahead, task_of, held_of}
-use Rattle.dice_core.specs.Hands.{DeskSeen, KeepsHands, KeepsDeskRoom, HasDeskRoom, desk_of, Working, tasks_of, seen_world}
+use Rattle.dice_core.specs.Helds.{Held, Ahead, task_of}
+use Rattle.dice_core.specs.Hands.{DeskSeen, KeepsHands, HasDeskRoom, desk_of, Working, tasks_of, seen_world}
 use Rattle.dice_core.specs.Entries.{EntriesStand}
 use Rattle.dice_core.specs.Makings.{IsMaking}
 use Rattle.dice_core.specs.Plans.{key_in, wait_for, waits_of, is_awaited, HasNone, IsPart, AreParts, ArePlaced, IsAtHand, IsRoomy, GoesOnSo, WaitsSo, IsPlan}
-use Rattle.dice_core.specs.Batches.{LeavesOut, TakesUp}
+use Rattle.dice_core.specs.Batches.{TakesUp}
 use Rattle.dice_core.specs.declared.make.Making.{Making}
 use Rattle.dice_core.specs.declared.make.Making.TheVariants.{Join, Match, Run, Check}
 use Rattle.dice_core.specs.declared.plan.Part.{Part}

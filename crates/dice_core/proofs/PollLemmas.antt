@@ -1,5 +1,5 @@
 -- What a poll says, by what stands between calls.
-use Rattle.std.proofs.Common.{◌≡◌, ◌≢◌, ◌<◌, ℕ, Bool, true, false, cond, nat_eq, eqb, List, [], ◌∷◌, length, reverse, Option, Some, None, refl, sym, ap, ◌∙◌, subst, arith}
+use Rattle.std.proofs.Common.{◌≡◌, ◌≢◌, ◌<◌, ℕ, Bool, true, false, cond, nat_eq, List, [], length, Option, Some, None, refl, sym, ap, ◌∙◌, subst, arith}
 use Rattle.std.specs.Option.{option_map}
 use Rattle.dice_key.specs.Meaning.{Meaning}
 use Rattle.dice_key.specs.Lawful.{IsEquality, IsLawful}
@@ -11,9 +11,8 @@ use Rattle.dice_model.proofs.Inputs.{injected_value}
 use Rattle.task_share.specs.Asked.{Promised}
 use Rattle.task_share.specs.Seen.{task_at, is_live, asks}
 use Rattle.std.proofs.lemmas.Bool.{eqb-true}
-use Rattle.injected.specs.Seen.{Seen, cell_at}
-use Rattle.injected.specs.Inputs.{AreOf}
-use Rattle.journal.specs.Events.{Asking, Decision, ByValue, ByCycle, commits_of, decided, open_count, opened_at, live_at}
+use Rattle.injected.specs.Seen.{cell_at}
+use Rattle.journal.specs.Events.{Asking, commits_of, decided, open_count, opened_at, live_at}
 use Rattle.core_laws.specs.Tasks.{Standing, Works, Ended, WithValue, WithCycle, WithNothing, Task, is_going, goes_on}
 use Rattle.core_laws.specs.Stands.{CycleStands, lost_in_epoch, IsStanding, TaskStands}
 use Rattle.core_laws.proofs.Indices.{opened_counts}

@@ -1,5 +1,5 @@
 -- What the public calls say, by what they do over the tables of all versions.
-use Rattle.std.proofs.Common.{◌≡◌, ◌↔◌, IsTrue, ◌⊎◌, inl, inr, ◌++◌, ℕ, Bool, true, false, cond, nat_eq, eqb, List, [], ◌∷◌, map, Option, Some, None, refl, sym, ap, ◌∙◌, subst, append_assoc}
+use Rattle.std.proofs.Common.{◌≡◌, ◌↔◌, IsTrue, ◌⊎◌, inl, inr, ◌++◌, ℕ, Bool, true, false, cond, eqb, List, [], ◌∷◌, map, Option, Some, None, refl, sym, ap, ◌∙◌, subst, append_assoc}
 use Rattle.std.specs.Prelude.{IfSome}
 use Rattle.std.specs.List.{list_any}
 use Rattle.std.proofs.lemmas.Bool.{eqb-true}
@@ -8,17 +8,16 @@ use Rattle.dice_key.specs.Lawful.{IsEquality, IsLawful}
 use Rattle.dice_model.specs.Log.{Has}
 use Rattle.task_share.specs.Seen.{Share, task_at}
 use Rattle.injected.specs.Seen.{Seen}
-use Rattle.journal.specs.declared.event.Told.{Told}
 use Rattle.journal.specs.declared.event.Told.TheVariants.{Lost, Drop}
 use Rattle.versioned_graph.specs.Entries.{Stored}
 use Rattle.dice_jobs.specs.Jobs.{Assigned}
-use Rattle.core_laws.specs.Tasks.{Outcome, WithNothing, IsOut}
-use Rattle.dice_core.specs.Endings.{ComesOf, told_end, EndsTasks, DropsTasks, GivesUpAll}
+use Rattle.core_laws.specs.Tasks.{Outcome, WithNothing}
+use Rattle.dice_core.specs.Endings.{told_end, GivesUpAll}
 use Rattle.dice_core.specs.Hands.{DeskSeen}
-use Rattle.dice_core.specs.Helds.{Held, held_ended, held_of}
+use Rattle.dice_core.specs.Helds.{Held, held_ended}
 use Rattle.dice_core.specs.Sessions.{SessionsSeen}
-use Rattle.dice_core.specs.Waitings.{TakesJob, ReturnsJob}
-use Rattle.dice_core.specs.Cores.{CoreSeen, table_at, held_in, core_of, PutsTable, Turned, TakesOut, DropsOnly, GivesUpOnly, IsJobOut}
+use Rattle.dice_core.specs.Waitings.{TakesJob}
+use Rattle.dice_core.specs.Cores.{table_at, core_of, PutsTable, Turned, TakesOut, DropsOnly, GivesUpOnly}
 use Rattle.dice_core.proofs.CoreLemmas.{table_put}
 use Rattle.dice_core.proofs.ResultLemmas.{takes_out}
 

@@ -2,7 +2,6 @@
 use Rattle.std.proofs.Common.{◌≡◌, ◌<◌, ℕ, Bool, List, [], ◌∷◌, ◌++◌, length, reverse, refl, sym, ap, ◌∙◌, subst}
 use Rattle.std.specs.List.{AllByRecursion}
 use Rattle.std.proofs.lemmas.List.{append-nil, append_assoc, reverse-append}
-use Rattle.dice_model.specs.Log.{Has}
 use Rattle.injected.specs.Seen.{Seen}
 use Rattle.injected.specs.Inputs.{AreOf}
 use Rattle.journal.specs.declared.event.Told.{Told}

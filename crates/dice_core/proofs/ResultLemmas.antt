@@ -1,8 +1,8 @@
 -- What follows from a result both ways, and what a commit leaves of the core.
-use Rattle.std.proofs.Common.{◌≡◌, ◌<◌, ◌≤◌, ◌+◌, ◌*◌, ◌++◌, ◌&&◌, ◌⊎◌, inl, inr, ℕ, zero, suc, Bool, true, false, cond, nat_eq, eqb, List, [], ◌∷◌, length, reverse, Option, Some, None, Result, Ok, Err, refl, sym, ap, ◌∙◌, subst, arith, length-append, append-nil}
+use Rattle.std.proofs.Common.{◌≡◌, ◌<◌, ◌≤◌, ◌+◌, ◌++◌, ◌&&◌, ℕ, suc, Bool, true, false, cond, nat_eq, eqb, List, [], ◌∷◌, length, reverse, Some, Result, Ok, Err, refl, sym, ap, ◌∙◌, subst, arith, length-append, append-nil}
 use Rattle.std.proofs.lemmas.List.{length-reverse}
 use Rattle.std.specs.Prelude.{OnOk, OnErr}
-use Rattle.std.proofs.lemmas.Bool.{eqb-true, and_parts}
+use Rattle.std.proofs.lemmas.Bool.{eqb-true}
 use Rattle.dice_key.specs.Meaning.{Meaning}
 use Rattle.dice_key.specs.Lawful.{IsEquality, IsLawful}
 use Rattle.std.specs.List.{AllByRecursion}
@@ -14,16 +14,16 @@ use Rattle.journal.specs.Events.{commits_of, open_count}
 use Rattle.journal.specs.Law.{IsAllowed}
 use Rattle.versioned_graph.specs.Entries.{Stored}
 use Rattle.dice_jobs.specs.Jobs.{Assigned}
-use Rattle.core_laws.specs.Tasks.{IsReady, IsOut}
+use Rattle.core_laws.specs.Tasks.{IsOut}
 use Rattle.core_laws.proofs.StepsRests.{rests_commit}
-use Rattle.dice_core.specs.Commits.{Commits, SameSets, CellsStand, event_of, IsAsBefore as CellsAsBefore}
+use Rattle.dice_core.specs.Commits.{Commits, SameSets, CellsStand, event_of}
 use Rattle.dice_core.specs.Hands.{DeskSeen, desk_of, KeepsHands, KeepsDeskRoom, KeepsWork}
 use Rattle.dice_core.specs.Helds.{Held, held_of}
 use Rattle.dice_core.specs.Sessions.{SessionsSeen, owed, SessionsStand}
 use Rattle.dice_core.specs.Entries.{EntriesStand}
 use Rattle.core_laws.specs.Desk.{Rests, AreAll, is_out}
-use Rattle.dice_core.specs.Waitings.{TakesJob, ReturnsJob}
-use Rattle.dice_core.specs.Cores.{CoreSeen, past_of, table_at, held_in, world_of, core_of, PutsTable, IsAsBefore, CoreStands, TakesOut}
+use Rattle.dice_core.specs.Waitings.{TakesJob}
+use Rattle.dice_core.specs.Cores.{table_at, world_of, core_of, PutsTable, IsAsBefore, CoreStands, TakesOut}
 use Rattle.dice_core.proofs.CoreLemmas.{stands_same, table_put}
 use Rattle.dice_core.proofs.EndsLemmas.{back_more}
 use Rattle.dice_core.proofs.EntriesLemmas.{stand_commit}
@@ -94,7 +94,7 @@ module _ {K V : Type 0} (eq : K → K → Bool) (equality : IsEquality eq) (m : 
     more by c h a = record {
       rests = subst (λ S. Rests eq m S (world_of eq ts) (desk_of e) (owed x)) (sym past)
           (rests_commit eq equality m law (reverse d.events) (world_of eq ts) (desk_of d) (desk_of e) (owed x) (owed x) st.rests (record { ready = keeps.ready; out = ap length keeps.out; live = keeps.live })
-              (let r = st.rests.room in let p = keeps.spare in let l = keeps.live in omega arith) by c a);
+          (let r = st.rests.room in let p = keeps.spare in let l = keeps.live in omega arith) by c a);
       outs = subst (λ xs. AreAll (λ (p : ℕ × K). is_out ((world_of eq ts).tasks p.0 p.1)) xs) (sym keeps.out) st.outs;
       named = st.named;
       told = keeps.ended ∙ st.told;

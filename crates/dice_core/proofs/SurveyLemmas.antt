@@ -1,5 +1,5 @@
 -- One key of a batch after the other is looked at.
-use Rattle.std.proofs.Common.{◌≡◌, ◌≢◌, ◌⊎◌, inl, inr, ◌<◌, ◌+◌, ℕ, zero, suc, Bool, true, false, cond, ◌&&◌, ◌||◌, List, [], ◌∷◌, ◌++◌, length, map, take, get_or, refl, sym, ap, ◌∙◌, subst, arith}
+use Rattle.std.proofs.Common.{◌≡◌, ◌⊎◌, inl, inr, ◌<◌, ◌+◌, ℕ, zero, suc, Bool, true, false, cond, ◌&&◌, ◌||◌, List, [], ◌∷◌, ◌++◌, length, map, take, get_or, refl, sym, ap, ◌∙◌, subst, arith}
 use Rattle.std.specs.Arc.{arc_value}
 use Rattle.std.specs.declared.sync.Arc.{Arc}
 use Rattle.std.specs.List.{list_any}
@@ -12,10 +12,10 @@ use Rattle.task_share.specs.Seen.{Share, asked_of}
 use Rattle.versioned_graph.specs.Entries.{Stored}
 use Rattle.core_laws.proofs.Shapes.{not_both}
 use Rattle.dice_core.specs.Helds.{Held}
-use Rattle.dice_core.specs.Plans.{key_in, IsPathAt, IsPathOf, IsPart, AreParts}
+use Rattle.dice_core.specs.Plans.{key_in, IsPart, AreParts}
 use Rattle.dice_core.specs.declared.plan.Part.{Part}
 use Rattle.dice_core.proofs.CommitLemmas.{AreSeen, seen_more, any_has, has_any}
-use Rattle.dice_core.proofs.PartLemmas.{keys_next, map_has, map_last, parts_skip, parts_more}
+use Rattle.dice_core.proofs.PartLemmas.{keys_next, map_has, parts_skip, parts_more}
 
 -- what stands at an index is in the list
 get_has : {X : Type 0} (xs : List X) (i : ℕ) (x : X) → i < length xs → x ≡ get_or xs i x → Has xs x

@@ -1,12 +1,11 @@
 -- The ready task that is to be taken next, and what a take leaves.
-use Rattle.std.proofs.Common.{◌≡◌, ◌<◌, ◌+◌, inl, ℕ, suc, Bool, true, false, cond, eqb, List, [], ◌∷◌, ◌++◌, length, Option, Some, None, refl, sym, ap, ◌∙◌, subst, arith, length-append}
+use Rattle.std.proofs.Common.{◌≡◌, ◌<◌, ◌+◌, inl, ℕ, Bool, true, cond, List, [], ◌∷◌, ◌++◌, length, Option, Some, None, refl, sym, ap, ◌∙◌, subst, arith, length-append}
 use Rattle.std.specs.Prelude.{IfSome, IfNone}
 use Rattle.std.proofs.lemmas.Bool.{eq-eqb}
-use Rattle.dice_key.specs.Lawful.{IsEquality}
 use Rattle.dice_key.specs.Meaning.{Meaning}
 use Rattle.dice_model.specs.Log.{Has}
 use Rattle.dice_jobs.specs.Jobs.{Assigned}
-use Rattle.task_share.specs.Seen.{Share, task_at}
+use Rattle.task_share.specs.Seen.{Share}
 use Rattle.core_laws.specs.Tasks.{IsReady, IsOut}
 use Rattle.core_laws.specs.Desk.{World, is_ready}
 use Rattle.dice_core.specs.Helds.{Held, held_of}

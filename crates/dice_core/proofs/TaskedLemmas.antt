@@ -1,14 +1,14 @@
 -- Whoever is asked for has a task, also where tasks end or are dropped.
-use Rattle.std.proofs.Common.{◌≡◌, ◌⊎◌, inl, inr, Bool, true, false, cond, not, ◌&&◌, List, Option, Some, None, ℕ, refl, sym, ap, ◌∙◌, subst}
+use Rattle.std.proofs.Common.{◌≡◌, Bool, true, false, cond, not, List, Some, None, ℕ, refl, sym, ◌∙◌, subst}
 use Rattle.dice_key.specs.Lawful.{IsEquality}
-use Rattle.task_share.specs.Asked.{By, Tasked, is_by}
+use Rattle.task_share.specs.Asked.{Tasked, is_by}
 use Rattle.task_share.specs.Seen.{Share, task_at, asks, KeepsTasks, KeepsAsks}
 use Rattle.journal.specs.declared.event.Told.{Told}
 use Rattle.core_laws.specs.Tasks.{Outcome}
 use Rattle.core_laws.proofs.Shapes.{both_parts}
 use Rattle.dice_core.specs.Helds.{Held, held_ended}
 use Rattle.dice_core.specs.Hands.{DeskSeen}
-use Rattle.dice_core.specs.Endings.{DropsTask, EndsTask, BeginsAnew, EndsAsker, HasTold, AreTasked}
+use Rattle.dice_core.specs.Endings.{DropsTask, EndsTask, BeginsAnew, AreTasked}
 
 module _ {K V : Type 0} (eq : K → K → Bool) where
   pub tasked_same : (ps qs : List (K × Share K (Held K V))) → KeepsTasks eq ps qs → KeepsAsks eq ps qs → AreTasked eq ps → AreTasked eq qs

@@ -1,11 +1,11 @@
 -- A task's parts at each step.
-use Rattle.std.proofs.Common.{◌≡◌, ◌⊎◌, inl, inr, Bool, true, false, List, [], ◌∷◌, ◌++◌, length, Option, Some, None, refl, sym, ap, ◌∙◌, subst}
+use Rattle.std.proofs.Common.{◌≡◌, ◌⊎◌, inl, inr, true, List, length, Option, Some, None, refl, sym, ap, ◌∙◌, subst}
 use Rattle.std.specs.Prelude.{IfSome, IfNone}
 use Rattle.std.proofs.lemmas.Option.{none-some, same_Some}
 use Rattle.std.proofs.lemmas.Bool.{false≢true}
 use Rattle.dice_jobs.specs.Jobs.{Name, Assigned, Waits, Work, Computes, Checks, answered_more}
-use Rattle.core_laws.specs.Tasks.{Phase, IsReady, IsOut, IsWaiting, Standing, Works, Ended, goes_on}
-use Rattle.core_laws.specs.Tasks.{Work as Doing, Computes as DoesCompute, Checks as DoesCheck}
+use Rattle.core_laws.specs.Tasks.{Phase, IsReady, IsOut, IsWaiting, Standing, Works, goes_on}
+use Rattle.core_laws.specs.Tasks.{Computes as DoesCompute, Checks as DoesCheck}
 use Rattle.task_state.specs.declared.state.Stage.{Stage}
 use Rattle.task_state.specs.declared.state.Stage.TheVariants.{Ready, Out, Waiting}
 use Rattle.task_state.specs.declared.state.TaskState.{TaskState}

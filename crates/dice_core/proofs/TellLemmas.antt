@@ -1,14 +1,12 @@
 -- The askers of ended tasks are told.
-use Rattle.std.proofs.Common.{◌≡◌, ◌≤◌, ◌<◌, ◌⊎◌, inl, inr, ◌+◌, ◌-◌, ◌*◌, ℕ, Bool, true, false, List, [], ◌∷◌, ◌++◌, length, reverse, Option, Some, None, refl, sym, ap, ◌∙◌, subst, arith, length-append}
+use Rattle.std.proofs.Common.{◌≡◌, ◌<◌, inl, inr, ◌+◌, ◌-◌, ◌*◌, ℕ, Bool, List, [], ◌∷◌, ◌++◌, length, reverse, Option, Some, None, refl, sym, ap, ◌∙◌, subst, arith, length-append}
 use Rattle.dice_key.specs.Lawful.{IsEquality, IsLawful}
 use Rattle.dice_key.specs.Meaning.{Meaning}
 use Rattle.dice_model.specs.Log.{Has}
-use Rattle.task_share.specs.Asked.{Tasked}
-use Rattle.task_share.specs.Seen.{Share, is_live, asks, asked_of, KeepsTasks, KeepsAsks}
+use Rattle.task_share.specs.Seen.{Share, asked_of}
 use Rattle.journal.specs.declared.event.Told.{Told}
 use Rattle.journal.specs.Events.{commits_of}
 use Rattle.core_laws.specs.Tasks.{Outcome, WithValue, WithCycle, WithNothing}
-use Rattle.core_laws.specs.Stands.{CycleStands}
 use Rattle.core_laws.specs.Desk.{World, Stand, AreAll, is_out}
 use Rattle.core_laws.proofs.Counts.{has_append, has_front}
 use Rattle.core_laws.proofs.Cycles.{cycle_above}

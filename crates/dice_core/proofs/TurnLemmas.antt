@@ -1,6 +1,5 @@
 -- A version that was in hand is put back after events of its tasks.
-use Rattle.std.proofs.Common.{◌≡◌, ◌<◌, ◌+◌, ◌++◌, ◌⊎◌, inl, inr, ℕ, Bool, true, false, cond, nat_eq, eqb, List, [], ◌∷◌, length, reverse, Option, Some, None, is_some, refl, sym, ap, ◌∙◌, subst, append_assoc}
-use Rattle.std.specs.Map.{lookup}
+use Rattle.std.proofs.Common.{◌≡◌, ◌<◌, ◌+◌, ◌++◌, ℕ, Bool, true, false, cond, eqb, List, [], ◌∷◌, reverse, Some, refl, sym, ap, ◌∙◌, subst, append_assoc}
 use Rattle.std.specs.List.{AllByRecursion}
 use Rattle.dice_key.specs.Meaning.{Meaning}
 use Rattle.dice_key.specs.Lawful.{IsEquality, IsLawful}
@@ -11,9 +10,8 @@ use Rattle.task_share.specs.Seen.{Share, task_at, is_live, asks}
 use Rattle.injected.specs.Seen.{Seen}
 use Rattle.journal.specs.declared.event.Told.{Told}
 use Rattle.journal.specs.declared.event.Told.TheVariants.{Ask, Start, Keep}
-use Rattle.journal.specs.Events.{Opened, open_at, opened_at, open_count}
+use Rattle.journal.specs.Events.{Opened, open_at, open_count}
 use Rattle.versioned_graph.specs.Entries.{Stored}
-use Rattle.core_laws.specs.Desk.{World}
 use Rattle.core_laws.proofs.Indices.{opened_counts}
 use Rattle.core_laws.proofs.Opens.{there_open}
 use Rattle.dice_core.specs.AtHand.{AtHand}
@@ -21,8 +19,8 @@ use Rattle.dice_core.specs.Hands.{DeskSeen}
 use Rattle.dice_core.specs.Helds.{Held}
 use Rattle.dice_core.specs.Joinings.{IsToldOfMake, AsksForKey, KeepsAtHand}
 use Rattle.dice_core.specs.Makings.{IsOfMake}
-use Rattle.dice_core.specs.Sessions.{SessionSeen, SessionsSeen, opened_of, session_at, transaction_at, owed, IsSame, SessionsStand}
-use Rattle.dice_core.specs.Cores.{CoreSeen, past_of, table_at, has_table, world_of, core_of, PutsTable, Turned, IsAsBefore, CoreStands, IsWorkAt, WorksOn}
+use Rattle.dice_core.specs.Sessions.{SessionSeen, SessionsSeen, opened_of, session_at, owed, IsSame, SessionsStand}
+use Rattle.dice_core.specs.Cores.{table_at, world_of, core_of, PutsTable, Turned, IsAsBefore, CoreStands, IsWorkAt, WorksOn}
 use Rattle.dice_core.proofs.CoreLemmas.{in_hand, put_back_so, table_put, has_put}
 use Rattle.dice_core.proofs.EndsLemmas.{back_more}
 use Rattle.dice_core.proofs.EventLemmas.{sessions_works, count_works}

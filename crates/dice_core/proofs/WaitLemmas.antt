@@ -1,34 +1,33 @@
 -- What holds while a call works on a version is kept where a task is taken, put back, waits or goes on.
-use Rattle.std.proofs.Common.{◌≡◌, ◌≤◌, ◌<◌, ◌⊎◌, inl, inr, ◌+◌, ◌*◌, ℕ, Bool, true, false, cond, not, ◌&&◌, ◌||◌, eqb, List, [], ◌∷◌, ◌++◌, length, map, reverse, Option, Some, None, refl, sym, ap, ◌∙◌, subst, arith}
+use Rattle.std.proofs.Common.{◌≡◌, ◌≤◌, ◌⊎◌, inl, inr, ◌+◌, ◌*◌, ℕ, Bool, true, false, cond, ◌&&◌, ◌||◌, List, [], ◌∷◌, map, reverse, Option, Some, refl, sym, ap, ◌∙◌, subst, arith}
 use Rattle.std.proofs.lemmas.Bool.{eq-eqb}
 use Rattle.std.specs.Option.{option_map}
 use Rattle.std.specs.List.{AllZip}
 use Rattle.dice_key.specs.Lawful.{IsEquality, IsLawful}
-use Rattle.dice_key.specs.Meaning.{Meaning, Answered}
+use Rattle.dice_key.specs.Meaning.{Meaning}
 use Rattle.dice_model.specs.Log.{Has, AreDistinct}
 use Rattle.dice_model.specs.Eval.{HasValue}
 use Rattle.dice_jobs.specs.Jobs.{Name, Assigned, Waits, answered_more}
 use Rattle.dice_model.specs.Asks.{AsksFor}
 use Rattle.dice_key.specs.declared.universe.Kind.TheVariants.{Injected}
 use Rattle.task_share.specs.Asked.{By, Promised, Tasked, Asked, WaitOf, Leads, is_by}
-use Rattle.task_share.specs.Seen.{Share, task_at, is_live, asks, asked_of, asker_room, wait_room, KeepsTasks, KeepsAsks, KeepsRoom, UsesRoomOf}
+use Rattle.task_share.specs.Seen.{Share, task_at, is_live, asks, asked_of, KeepsAsks}
 use Rattle.task_share.specs.Lent.{WritesTask}
-use Rattle.journal.specs.declared.event.Told.{Told}
 use Rattle.journal.specs.Events.{commits_of}
 use Rattle.journal.specs.Law.{IsWanted}
-use Rattle.core_laws.specs.Tasks.{IsReady, IsOut, IsWaiting, Works, Task, is_going, value_of}
+use Rattle.core_laws.specs.Tasks.{IsReady, IsOut, IsWaiting, Task, value_of}
 use Rattle.core_laws.specs.Stands.{AsksNext, TaskStands, VersionStands}
 use Rattle.core_laws.specs.Changes.{Puts, Parks}
-use Rattle.core_laws.specs.Desk.{World, Desk, DeskTurns, AreAll, Loses, Stand, with_version, is_ready, is_out, out_in}
-use Rattle.core_laws.proofs.Counts.{all_alike, all_fewer}
+use Rattle.core_laws.specs.Desk.{World, DeskTurns, AreAll, Loses, Stand, with_version, is_out, out_in}
+use Rattle.core_laws.proofs.Counts.{all_fewer}
 use Rattle.core_laws.proofs.Turns.{pair_test, task_there, with_twice, stands_here}
 use Rattle.core_laws.proofs.StepsWaits.{taken_stand, brought_back_stand, goes_on_at_once_stand, parks_stand}
 use Rattle.core_laws.proofs.Parks.{asks_of_next}
 use Rattle.core_laws.proofs.Shapes.{both_parts}
 use Rattle.dice_core.specs.Helds.{Held, task_of, held_of, doing}
-use Rattle.dice_core.specs.Hands.{DeskSeen, desk_of, tasks_of, AreNamed, seen_world, Gains, Stays, Takes, Returns, Leaves, Readies, Working}
-use Rattle.dice_core.specs.Waitings.{OutTurns, IsTurned, KeepsTable, TakesJob, ReturnsJob, HasRoomFor, waits_so, ParksJob, MayPark}
-use Rattle.dice_core.proofs.Lists.{Same, loses_last, has_right}
+use Rattle.dice_core.specs.Hands.{DeskSeen, desk_of, tasks_of, seen_world, Gains, Stays, Takes, Working}
+use Rattle.dice_core.specs.Waitings.{OutTurns, IsTurned, KeepsTable, TakesJob, ReturnsJob, waits_so, ParksJob, MayPark}
+use Rattle.dice_core.proofs.Lists.{Same, loses_last}
 use Rattle.dice_core.proofs.EndsLemmas.{puts_of, named_put}
 
 -- ---- the tasks that are out
@@ -190,7 +189,6 @@ either_part : (a b : Bool) → (a || b) ≡ true → (a ≡ true) ⊎ (b ≡ tru
 either_part true b e = inl refl
 either_part false b e = inr e
 
-
 module _ {K : Type 0} where
   pub key_there : (xs : List (WaitOf K)) (x : WaitOf K) → Has xs x → Has (map (λ y. y.key) xs) x.key
   key_there [] x h = h
@@ -230,6 +228,7 @@ module _ {K V : Type 0} (eq : K → K → Bool) (equality : IsEquality eq) (m : 
     where
       a : Assigned K V
       a = p.job
+
       ds : List K
       ds = map (λ x. x.key) xs
 

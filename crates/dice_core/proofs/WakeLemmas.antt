@@ -1,17 +1,17 @@
 -- Tasks go on when the last key that they waited for has a value, and all others that asked for it wait on.
-use Rattle.std.proofs.Common.{◌≡◌, ◌≤◌, ◌<◌, ◌⊎◌, inl, inr, ◌+◌, ◌*◌, ℕ, Bool, true, false, cond, not, ◌&&◌, eqb, List, [], ◌∷◌, ◌++◌, length, map, reverse, Option, Some, None, refl, sym, ap, ◌∙◌, subst, arith, length-append}
+use Rattle.std.proofs.Common.{◌≡◌, ◌≤◌, ◌⊎◌, inl, inr, ◌+◌, ◌*◌, ℕ, Bool, true, false, cond, not, ◌&&◌, eqb, List, [], ◌∷◌, ◌++◌, length, map, reverse, Option, Some, refl, sym, ap, ◌∙◌, subst, arith, length-append}
 use Rattle.std.proofs.lemmas.Bool.{eq-eqb}
 use Rattle.std.proofs.lemmas.List.{map-append}
 use Rattle.std.specs.Option.{option_map}
 use Rattle.dice_key.specs.Lawful.{IsEquality, IsLawful}
-use Rattle.dice_key.specs.Meaning.{Meaning, Answered}
+use Rattle.dice_key.specs.Meaning.{Meaning}
 use Rattle.dice_model.specs.Log.{Has, AreDistinct}
-use Rattle.dice_jobs.specs.Jobs.{Name, Assigned, answered_more}
+use Rattle.dice_jobs.specs.Jobs.{Assigned, answered_more}
 use Rattle.task_share.specs.Asked.{By, Tasked, is_by}
-use Rattle.task_share.specs.Seen.{Share, task_at, is_live, asks, asked_of, KeepsTasks, KeepsAsks, KeepsRoom}
+use Rattle.task_share.specs.Seen.{Share, task_at, asks, asked_of, KeepsTasks, KeepsAsks}
 use Rattle.journal.specs.declared.event.Told.{Told}
-use Rattle.core_laws.specs.Tasks.{IsReady, IsOut, IsWaiting, Works, Task, value_of, value_in}
-use Rattle.core_laws.specs.Desk.{World, Desk, DeskTurns, Stand, AreAll, with_version, is_ready, is_out}
+use Rattle.core_laws.specs.Tasks.{IsReady, IsWaiting, Task, value_of}
+use Rattle.core_laws.specs.Desk.{World, DeskTurns, Stand, AreAll, with_version, is_ready, is_out}
 use Rattle.core_laws.proofs.Counts.{has_append}
 use Rattle.core_laws.proofs.Shapes.{both_parts}
 use Rattle.core_laws.proofs.StepsWaits.{released_ready_stand, released_on_stand, told_stand}
@@ -66,12 +66,16 @@ module _ {K V : Type 0} (eq : K → K → Bool) (equality : IsEquality eq) where
       where
         v : ℕ
         v = y.place.0
+
         j : K
         j = y.place.1
+
         a : Assigned K V
         a = i.follows.waits.job
+
         ks : List K
         ks = i.follows.waits.keys
+
         b : Assigned K V
         b = answered_more a ks y.ahead.values
 
@@ -171,18 +175,18 @@ module _ {K V : Type 0} (eq : K → K → Bool) (equality : IsEquality eq) where
       released_so d v W w owed asked on work =
           let r = on.others j asked in
           let st = released_on_stand eq equality m law (reverse d.events) v w W (asked_of eq ps) (asked_of eq qs) (tasks_of eq ps) k j on.value.0 (desk_of d) (desk_of d) owed owed work.stand on.value.1 left kept.live r.0
-            (left r.0 (Tasked j) ∙ still_asked (asks eq ps r.0 (Tasked j)) (eq k r.0) (eq j j) r.2 r.1) (record { ready = refl; out = refl; live = refl }) work.stand.room in record {
-          stand = subst (λ (z : K → Option (Task K V)). Stand eq m (reverse d.events) v W (with_version v (asked_of eq qs) z w) (desk_of d) owed) (sym (same_tasks eq ps qs kept)) st;
-          outs = subst (λ (z : K → Option (Task K V)). AreAll (λ (p : ℕ × K). is_out (cond (eqb p.0 v) z (w.tasks p.0) p.1)) d.out) (sym (same_tasks eq ps qs kept)) work.outs;
-          named = λ q h there. work.named q h (sym (kept.tasks q) ∙ there);
-          wanted = λ q on. work.wanted q (sym (kept.live q) ∙ on);
-        }
+          (left r.0 (Tasked j) ∙ still_asked (asks eq ps r.0 (Tasked j)) (eq k r.0) (eq j j) r.2 r.1) (record { ready = refl; out = refl; live = refl }) work.stand.room in record {
+            stand = subst (λ (z : K → Option (Task K V)). Stand eq m (reverse d.events) v W (with_version v (asked_of eq qs) z w) (desk_of d) owed) (sym (same_tasks eq ps qs kept)) st;
+            outs = subst (λ (z : K → Option (Task K V)). AreAll (λ (p : ℕ × K). is_out (cond (eqb p.0 v) z (w.tasks p.0) p.1)) d.out) (sym (same_tasks eq ps qs kept)) work.outs;
+            named = λ q h there. work.named q h (sym (kept.tasks q) ∙ there);
+            wanted = λ q on. work.wanted q (sym (kept.live q) ∙ on);
+          }
 
     -- all who asked for k were told
     pub told_all : KeepsAsks eq ps qs → ((j : K) → asks eq ps k (Tasked j) ≡ false) → (d : DeskSeen K V) (v : ℕ) (W : List K) (w : World K V) (owed : ℕ) → Working eq m v (k ∷ W) w owed ps d → Working eq m v W w owed qs d
     told_all asked none d v W w owed work = record {
       stand = subst (λ (x : World K V). Stand eq m (reverse d.events) v W x (desk_of d) owed) (same_table eq v w ps qs kept asked)
-        (told_stand eq equality m law (reverse d.events) v w W (asked_of eq ps) (tasks_of eq ps) k (desk_of d) (desk_of d) owed owed work.stand none (record { ready = refl; out = refl; live = refl }) work.stand.room);
+          (told_stand eq equality m law (reverse d.events) v w W (asked_of eq ps) (tasks_of eq ps) k (desk_of d) (desk_of d) owed owed work.stand none (record { ready = refl; out = refl; live = refl }) work.stand.room);
       outs = subst (λ (x : World K V). AreAll (λ (p : ℕ × K). is_out (x.tasks p.0 p.1)) d.out) (same_table eq v w ps qs kept asked) work.outs;
       named = λ q h there. work.named q h (sym (kept.tasks q) ∙ there);
       wanted = λ q on. work.wanted q (sym (kept.live q) ∙ on);
@@ -201,8 +205,9 @@ module _ {K V : Type 0} (eq : K → K → Bool) (equality : IsEquality eq) where
   -- a task that waits is neither ready nor out
   pub not_at_hand : (m : Meaning K V) (v : ℕ) (k : K) (y : Wakes K V) (ps : List (K × Share K (Held K V))) (d : DeskSeen K V) → IsWoken eq m (reverse d.events) v k y ps → (W : List K) (w : World K V) (owed : ℕ) → Working eq m v W w owed ps d → (Has d.ready y.place → ⊥) × (Has d.out y.place → ⊥)
   not_at_hand m v k y ps d i W w owed work = (
-      λ h. (let a = work.stand.ready.passes y.place h in let b = ap is_ready waits in let c : true ≡ false = sym a ∙ b in cc),
-      λ h. (let a = work.outs.passes y.place h in let b = ap is_out waits in let c : true ≡ false = sym a ∙ b in cc))
+    λ h. (let a = work.stand.ready.passes y.place h in let b = ap is_ready waits in let c : true ≡ false = sym a ∙ b in cc),
+    λ h. (let a = work.outs.passes y.place h in let b = ap is_out waits in let c : true ≡ false = sym a ∙ b in cc),
+  )
     where
       waits : (seen_world eq v ps w).tasks y.place.0 y.place.1 ≡ Some (task_of (held_of i.follows.waits.job (IsWaiting i.follows.waits.keys)))
       waits = ap (λ b. cond b (tasks_of eq ps) (w.tasks y.place.0) y.place.1) (eq-eqb y.place.0 v i.version) ∙ ap (option_map task_of) (i.was ∙ ap Some i.follows.held)

@@ -1,20 +1,16 @@
 -- Asks that come and go, and transactions that close, with one version in hand.
-use Rattle.std.specs.Prelude.{◌≡◌, ◌≤◌, ◌<◌, ◌⊎◌, ℕ, Bool, true, cond, not, ◌&&◌, nat_eq, List, [], ◌∷◌, ◌++◌, ◌+◌, map, reverse, Option, Some, None}
+use Rattle.std.specs.Prelude.{◌≡◌, ℕ, Bool, true, cond, List, ◌++◌, ◌+◌, map, Some, None}
 use Rattle.std.specs.List.{list_any}
 use Rattle.dice_key.specs.Meaning.{Meaning}
-use Rattle.task_share.specs.Asked.{By, Promised, Tasked, IsDone}
-use Rattle.task_share.specs.Seen.{Share, task_at, asks, asked_of}
+use Rattle.task_share.specs.Seen.{Share, task_at}
 use Rattle.injected.specs.Seen.{Seen}
 use Rattle.journal.specs.declared.event.Told.{Told}
-use Rattle.journal.specs.declared.event.Told.TheVariants.{Ask, Close, Leave, Start, Keep, Drop, Lost}
-use Rattle.journal.specs.Events.{Opened, Asking, is_for, open_at, opened_at, live_at}
+use Rattle.journal.specs.declared.event.Told.TheVariants.{Drop}
+use Rattle.journal.specs.Events.{Asking, opened_at, live_at}
 use Rattle.versioned_graph.specs.Entries.{Stored}
 use Rattle.core_laws.specs.Desk.{World}
 use Rattle.dice_core.specs.Helds.{Held}
-use Rattle.dice_core.specs.Hands.{DeskSeen, Working}
-use Rattle.dice_core.specs.Endings.{AreTasked}
-use Rattle.dice_core.specs.Entries.{EntriesStand}
-use Rattle.dice_core.specs.Commits.{CellsStand}
+use Rattle.dice_core.specs.Hands.{DeskSeen}
 use Rattle.dice_core.specs.AtHand.{AtHand}
 
 module _ {K V : Type 0} (eq : K → K → Bool) (m : Meaning K V) where

@@ -1,13 +1,11 @@
 -- What is done where the task of a key asks a batch: tasks are made for its keys, and it waits or goes on; or it ends with a circle.
-use Rattle.std.specs.Prelude.{◌≡◌, ◌≢◌, ◌⊎◌, ◌<◌, ◌≤◌, ◌+◌, ◌*◌, ℕ, Bool, true, false, List, [], ◌∷◌, ◌++◌, length, map, reverse, Option, Some, None}
-use Rattle.std.specs.Arc.{arc_value}
+use Rattle.std.specs.Prelude.{◌≡◌, ◌⊎◌, ◌≤◌, ◌+◌, ◌*◌, ℕ, Bool, true, false, List, ◌++◌, length, map, reverse, Option, Some}
 use Rattle.std.specs.List.{AllZip, AllByRecursion}
 use Rattle.dice_key.specs.Meaning.{Meaning}
 use Rattle.dice_model.specs.Log.{Has, AreDistinct}
 use Rattle.dice_model.specs.Eval.{HasValue}
 use Rattle.dice_jobs.specs.Jobs.{Assigned, answered_more}
-use Rattle.task_share.specs.Asked.{By, Promised}
-use Rattle.task_share.specs.Seen.{Share, task_at, is_live, asks, has_place, asker_room, wait_room, KeepsAsks}
+use Rattle.task_share.specs.Seen.{Share, task_at, is_live, has_place, asker_room, wait_room, KeepsAsks}
 use Rattle.journal.specs.declared.event.Told.{Told}
 use Rattle.journal.specs.declared.event.Told.TheVariants.{Start, Keep, Drop}
 use Rattle.journal.specs.Events.{commits_of}

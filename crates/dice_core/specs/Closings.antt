@@ -1,5 +1,5 @@
 -- Transactions that close: their asks go one by one, and then the tasks that nobody asks for any more.
-use Rattle.std.specs.Prelude.{◌≡◌, ℕ, Bool, true, false, cond, not, ◌&&◌, nat_eq, List, [], reverse, Option, Some}
+use Rattle.std.specs.Prelude.{◌≡◌, ℕ, Bool, true, false, cond, not, ◌&&◌, nat_eq, List, [], reverse, Some}
 use Rattle.dice_key.specs.Meaning.{Meaning}
 use Rattle.task_share.specs.Asked.{By, Promised, Tasked, is_by, IsDone}
 use Rattle.task_share.specs.Seen.{Share, asks, asked_of}

@@ -1,21 +1,21 @@
 -- The core as contracts see it, and what holds of it between calls.
-use Rattle.std.specs.Prelude.{◌≡◌, ◌<◌, ◌≤◌, ℕ, Bool, true, false, cond, ◌&&◌, ◌++◌, ◌+◌, ◌⊎◌, nat_eq, List, [], reverse, length, Option, Some, None, unwrap_or, is_some}
+use Rattle.std.specs.Prelude.{◌≡◌, ◌<◌, ℕ, Bool, true, cond, ◌&&◌, ◌++◌, ◌+◌, ◌⊎◌, nat_eq, List, [], reverse, length, Option, Some, None, unwrap_or, is_some}
 use Rattle.std.specs.Map.{lookup}
 use Rattle.std.specs.Arc.{arc_value}
 use Rattle.dice_key.specs.Meaning.{Meaning}
 use Rattle.dice_key.specs.declared.universe.Kind.{Kind}
 use Rattle.dice_key.specs.declared.universe.Kind.TheVariants.{Injected, Computed, Projection}
-use Rattle.task_share.specs.Asked.{By, Asked}
+use Rattle.task_share.specs.Asked.{By}
 use Rattle.task_share.specs.Seen.{Share, task_at, is_live, asks, asked_of}
 use Rattle.injected.specs.Seen.{Seen, cell_at}
 use Rattle.journal.specs.declared.event.Told.{Told}
 use Rattle.journal.specs.declared.event.Told.TheVariants.{Start, Keep, End, Cyclic, Drop, Lost}
 use Rattle.std.specs.List.{AllByRecursion}
-use Rattle.journal.specs.Events.{Decision, ByValue, ByCycle, commits_of, open_count}
+use Rattle.journal.specs.Events.{Decision, ByValue, ByCycle, open_count}
 use Rattle.version_epoch.specs.Standings.{open_count_of}
-use Rattle.versioned_graph.specs.Entries.{Stored, entry_at}
+use Rattle.versioned_graph.specs.Entries.{Stored}
 use Rattle.dice_jobs.specs.Jobs.{Name, Assigned}
-use Rattle.core_laws.specs.Tasks.{IsReady, IsOut, Outcome, WithValue, WithCycle, WithNothing, Standing, Works, Ended, Task}
+use Rattle.core_laws.specs.Tasks.{IsReady, IsOut, WithValue, WithCycle, WithNothing, Standing, Works, Ended}
 use Rattle.core_laws.specs.Desk.{World, Rests, AreAll, is_out}
 use Rattle.dice_core.specs.Commits.{SameSets, CellsStand}
 use Rattle.dice_core.specs.Entries.{EntriesStand}

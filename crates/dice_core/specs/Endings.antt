@@ -1,5 +1,5 @@
 -- Tasks that end, and tasks that are dropped.
-use Rattle.std.specs.Prelude.{◌≡◌, ◌≤◌, ◌*◌, ◌<◌, ◌⊎◌, ℕ, Bool, true, false, cond, not, ◌&&◌, List, [], ◌∷◌, ◌++◌, map, reverse, Option, Some, None}
+use Rattle.std.specs.Prelude.{◌≡◌, ◌≤◌, ◌*◌, ◌<◌, ◌⊎◌, ℕ, Bool, true, false, cond, not, ◌&&◌, List, ◌++◌, map, reverse, Option, Some, None}
 use Rattle.std.specs.Arc.{arc_value}
 use Rattle.std.specs.List.{list_any}
 use Rattle.dice_key.specs.Meaning.{Meaning}

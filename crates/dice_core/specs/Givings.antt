@@ -2,7 +2,7 @@
 use Rattle.std.specs.Prelude.{◌≡◌, ◌⊎◌, ℕ, Bool, List, [], ◌∷◌, ◌++◌, Option, Some, None}
 use Rattle.std.specs.List.{AllByRecursion}
 use Rattle.dice_key.specs.Meaning.{Answered}
-use Rattle.dice_jobs.specs.Jobs.{Work, Computes, Checks, Assigned, Outcome, Stepped, Wanting, Valued, Unchanged, Changed}
+use Rattle.dice_jobs.specs.Jobs.{Work, Checks, Assigned, Outcome, Stepped, Wanting, Valued, Unchanged, Changed}
 use Rattle.task_share.specs.Seen.{Share, task_at}
 use Rattle.journal.specs.declared.event.Told.{Told}
 use Rattle.journal.specs.declared.event.Told.TheVariants.{Start, Keep, End}
@@ -11,7 +11,7 @@ use Rattle.core_laws.specs.Tasks.{IsOut, Outcome as Ended}
 use Rattle.dice_core.specs.Helds.{Held, held_of}
 use Rattle.dice_core.specs.Hands.{DeskSeen}
 use Rattle.dice_core.specs.Batches.{LeavesOut, IsOfMakes, ending_events}
-use Rattle.dice_core.specs.Cores.{WorksOn, IsWorkAt}
+use Rattle.dice_core.specs.Cores.{IsWorkAt}
 use Rattle.dice_core.specs.declared.giving.Gave.{Gave}
 use Rattle.dice_core.specs.declared.giving.Gave.TheVariants.{Taken, Stale}
 

@@ -1,7 +1,6 @@
 -- The tasks of the version that a call works on, and the desk: the journal, and which tasks are ready, which are out, and how many are at work.
-use Rattle.std.specs.Prelude.{◌≡◌, ◌⊎◌, ◌+◌, ◌-◌, ◌*◌, ◌≤◌, ℕ, Bool, true, List, [], ◌∷◌, ◌++◌, length, reverse, slice_get, Option, Some, None}
+use Rattle.std.specs.Prelude.{◌≡◌, ◌⊎◌, ◌+◌, ◌-◌, ◌*◌, ◌≤◌, ℕ, Bool, true, List, [], ◌∷◌, ◌++◌, length, reverse, slice_get, Option, Some}
 use Rattle.std.specs.Option.{option_map}
-use Rattle.std.specs.Arc.{arc_value}
 use Rattle.dice_key.specs.Meaning.{Meaning}
 use Rattle.dice_model.specs.Log.{Has, AreDistinct}
 use Rattle.task_share.specs.Seen.{Share, task_at, is_live, asked_of}

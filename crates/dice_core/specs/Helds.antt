@@ -1,20 +1,15 @@
 -- A task as it is kept, and what it stands for.
-use Rattle.std.specs.Prelude.{◌≡◌, ℕ, List, [], Option, Some, None, length}
-use Rattle.std.specs.Option.{option_map}
+use Rattle.std.specs.Prelude.{◌≡◌, ℕ, List, length}
 use Rattle.std.specs.Arc.{arc_value}
-use Rattle.std.specs.declared.sync.Arc.{Arc}
 use Rattle.dice_jobs.specs.Jobs.{Name, Assigned, Waits, answered_more}
 use Rattle.dice_jobs.specs.Jobs.{Work, Computes, Checks}
-use Rattle.core_laws.specs.Tasks.{Phase, IsReady, IsOut, IsWaiting, Standing, Works, Ended, Task}
+use Rattle.core_laws.specs.Tasks.{Phase, IsWaiting, Standing, Works, Ended, Task}
 use Rattle.core_laws.specs.Tasks.{Work as Doing, Computes as DoesCompute, Checks as DoesCheck}
 use Rattle.core_laws.specs.Tasks.{Outcome as Came, WithValue, WithCycle, WithNothing}
-use Rattle.task_state.specs.declared.state.Stage.{Stage}
-use Rattle.task_state.specs.declared.state.Stage.TheVariants.{Ready, Out, Waiting}
 use Rattle.task_state.specs.declared.state.Outcome.{Outcome}
 use Rattle.task_state.specs.declared.state.Outcome.TheVariants.{Value, Cycle, Lost}
 use Rattle.task_state.specs.declared.state.TaskState.{TaskState}
 use Rattle.task_state.specs.declared.state.TaskState.TheVariants as state
-use Rattle.task_state.specs.States.{stage_of}
 
 -- a task by its name, and where it stands
 pub record Held (K V : Type 0) : Type 0 where

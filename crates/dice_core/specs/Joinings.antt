@@ -7,7 +7,7 @@ use Rattle.journal.specs.declared.event.Told.{Told}
 use Rattle.journal.specs.declared.event.Told.TheVariants.{Ask}
 use Rattle.journal.specs.Events.{Opened, open_at}
 use Rattle.versioned_graph.specs.Entries.{Stored}
-use Rattle.core_laws.specs.Tasks.{Standing, Ended, WithValue}
+use Rattle.core_laws.specs.Tasks.{Ended, WithValue}
 use Rattle.core_laws.specs.Desk.{World, ready_in}
 use Rattle.dice_core.specs.Helds.{Held}
 use Rattle.dice_core.specs.Hands.{DeskSeen, Stays, KeepsHands, KeepsDeskRoom}

@@ -1,21 +1,20 @@
 -- Tasks that are taken, put back, wait and go on.
-use Rattle.std.specs.Prelude.{◌≡◌, ◌⊎◌, ◌<◌, ◌≤◌, ◌+◌, ◌*◌, ℕ, Bool, true, false, cond, not, ◌&&◌, ◌||◌, List, [], ◌∷◌, ◌++◌, length, map, reverse, Option, Some, None}
-use Rattle.std.specs.Arc.{arc_value}
+use Rattle.std.specs.Prelude.{◌≡◌, ◌⊎◌, ◌<◌, ◌≤◌, ℕ, Bool, true, false, cond, not, ◌&&◌, ◌||◌, List, length, map, Some}
 use Rattle.std.specs.List.{list_any, AllZip}
-use Rattle.dice_key.specs.Meaning.{Meaning, Answered}
+use Rattle.dice_key.specs.Meaning.{Meaning}
 use Rattle.dice_key.specs.declared.universe.Kind.TheVariants.{Injected}
 use Rattle.dice_model.specs.Log.{Has, AreDistinct}
 use Rattle.dice_model.specs.Eval.{HasValue}
-use Rattle.dice_jobs.specs.Jobs.{Name, Assigned, Waits}
+use Rattle.dice_jobs.specs.Jobs.{Assigned, Waits}
 use Rattle.task_share.specs.Asked.{By, Tasked, WaitOf, Leads, is_by}
-use Rattle.task_share.specs.Seen.{Share, task_at, is_live, asks, asked_of, asker_room, wait_room, KeepsTasks, KeepsAsks, KeepsRoom}
+use Rattle.task_share.specs.Seen.{Share, task_at, is_live, asks, asked_of, asker_room, wait_room, KeepsAsks, KeepsRoom}
 use Rattle.journal.specs.declared.event.Told.{Told}
 use Rattle.journal.specs.Events.{commits_of}
 use Rattle.core_laws.specs.Tasks.{IsReady, IsOut, IsWaiting, value_of}
 use Rattle.core_laws.specs.Stands.{AsksNext}
-use Rattle.core_laws.specs.Desk.{World, Loses}
+use Rattle.core_laws.specs.Desk.{Loses}
 use Rattle.dice_core.specs.Helds.{Held, Ahead, FollowsOn, held_of, doing}
-use Rattle.dice_core.specs.Hands.{DeskSeen, tasks_of, Gains, Stays, Takes, Returns, Leaves, Readies, Working}
+use Rattle.dice_core.specs.Hands.{DeskSeen, tasks_of, Gains, Stays, Takes, Returns, Leaves, Readies}
 
 -- a list of out tasks follows its task p: it was out or not, and is
 abbrev pub OutTurns : {X : Type 0} → Bool → Bool → X → List X → List X → Type 0

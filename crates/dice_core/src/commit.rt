@@ -57,7 +57,10 @@ pub(crate) fn check_changes<'a, U: Universe>(
 }
 
 /// Adds a key to those that were seen; whether it is new there.
-pub(crate) fn note<K: Eq + Hash + Drop>(seen: &mut HashSet<Arc<K>>, key: &Arc<K>) -> Result<bool, NoMemory>
+pub(crate) fn note<K: Eq + Hash + Drop>(
+    seen: &mut HashSet<Arc<K>>,
+    key: &Arc<K>,
+) -> Result<bool, NoMemory>
     ensures added { IfOk result (λ is_new. is_new ≡ not (list_any (λ k. K.eq (arc_value key.now) (arc_value k)) seen.old.keys)) }
     ensures seen { OnOk result ((q : K) → list_any (λ k. K.eq q (arc_value k)) seen.new.keys ≡ (if K.eq (arc_value key.now) q then true else list_any (λ k. K.eq q (arc_value k)) seen.old.keys)) }
 {

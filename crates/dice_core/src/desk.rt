@@ -6,8 +6,8 @@ ghost use Rattle.journal.specs.Tell.{told};
 ghost use Rattle.dice_core.specs.Hands.{place_at, with_event, with_made, with_ended, with_told_next, KeepsHands, KeepsDeskRoom, HasDeskRoom, Takes, Returns, Leaves, Readies, Unreadies};
 ghost use Rattle.dice_core.specs.Shelves.{place_of};
 
-use dice_key::{KeyRef, NoMemory, Universe};
 use crate::shelf::{ReadyTask, Shelf, index_of, put_back, put_in, take_away, take_out};
+use dice_key::{KeyRef, NoMemory, Universe};
 use indexmap::IndexSet;
 use journal::{Event, Journal};
 use std::alloc::Global;
@@ -67,12 +67,7 @@ impl<U: Universe> Desk<U> {
 
     /// Makes room for `tasks` tasks to be made or to become ready; for two events for each task at work and each of these; and
     /// for `owed` and `more` events beside. Nothing else changes, also where memory is refused.
-    pub(crate) fn reserve(
-        &mut self,
-        owed: usize,
-        more: usize,
-        tasks: usize,
-    ) -> Result<(), NoMemory>
+    pub(crate) fn reserve(&mut self, owed: usize, more: usize, tasks: usize) -> Result<(), NoMemory>
         ensures same { KeepsHands self.old self.new }
         ensures room { KeepsDeskRoom self.old self.new }
         ensures ok { OnOk result (HasDeskRoom owed more tasks self.new) }

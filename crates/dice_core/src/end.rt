@@ -155,13 +155,8 @@ fn end_cyclic<U: Universe>(
     requires live { is_live U.Key.eq tasks.old (arc_value key.now) ≡ true }
     ensures ended { (h : Held U.Key U.Value) × ListsEnd U.Key.eq version (arc_value key.now) h (WithCycle (arc_value path)) (Cyclic version (arc_value key.now)) tasks.old tasks.new desk.old desk.new }
 {
-    let Some(Spare { first, second }) = end_task(
-        desk,
-        tasks,
-        version,
-        key,
-        Outcome::Cycle(path),
-    ) else {
+    let Some(Spare { first, second }) = end_task(desk, tasks, version, key, Outcome::Cycle(path))
+    else {
         return;
     };
     desk.push(Event::Cyclic(version, first));

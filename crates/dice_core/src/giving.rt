@@ -59,16 +59,7 @@ pub(crate) fn give_in<U: Universe>(
     let Some(tasks) = versions.get_mut(&version) else {
         return Ok(Gave::Stale(step));
     };
-    take_step::<U>(
-        alloc,
-        universe,
-        cells,
-        graph,
-        desk,
-        tasks,
-        owed,
-        step,
-    )
+    take_step::<U>(alloc, universe, cells, graph, desk, tasks, owed, step)
 }
 
 /// Whether the step is of the job of a task that is out.
@@ -107,28 +98,10 @@ fn take_step<U: Universe>(
 {
     laws_of::<U>();
     if asks::<U>(&step) {
-        ask_batch::<U>(
-            alloc,
-            universe,
-            cells,
-            graph,
-            desk,
-            tasks,
-            owed,
-            step,
-        )?;
+        ask_batch::<U>(alloc, universe, cells, graph, desk, tasks, owed, step)?;
         return Ok(Gave::Taken);
     }
-    match end_or_differ::<U>(
-        alloc,
-        universe,
-        cells,
-        graph,
-        desk,
-        tasks,
-        owed,
-        &step,
-    ) {
+    match end_or_differ::<U>(alloc, universe, cells, graph, desk, tasks, owed, &step) {
         Ok(()) => Ok(Gave::Taken),
         Err(refused) => Err((refused, step)),
     }
@@ -166,30 +139,10 @@ fn end_or_differ<U: Universe>(
     let key = step.assignment().name().key();
     match (step.report(), step.assignment().earlier()) {
         (Report::Done(value), _) => done::<U>(
-            alloc,
-            universe,
-            cells,
-            graph,
-            desk,
-            tasks,
-            owed,
-            version,
-            key,
-            step,
-            value,
+            alloc, universe, cells, graph, desk, tasks, owed, version, key, step, value,
         ),
         (Report::Same, Some(earlier)) => same::<U>(
-            alloc,
-            universe,
-            cells,
-            graph,
-            desk,
-            tasks,
-            owed,
-            version,
-            key,
-            step,
-            earlier,
+            alloc, universe, cells, graph, desk, tasks, owed, version, key, step, earlier,
         ),
         (Report::Differs(dep), Some(earlier)) => {
             differs::<U>(alloc, desk, tasks, owed, version, key, step, earlier, dep)

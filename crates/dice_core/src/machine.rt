@@ -221,12 +221,7 @@ impl<U: Universe> Core<U> {
         ensures tasks { DropsOnly U.Key.eq self.old self.new }
     {
         laws_of::<U>();
-        close_in(
-            &mut self.desk,
-            &mut self.versions,
-            &mut self.sessions,
-            tx,
-        );
+        close_in(&mut self.desk, &mut self.versions, &mut self.sessions, tx);
     }
 
     /// Leaves an ask, and drops the tasks that nobody asks for any more. It takes no memory.
@@ -236,12 +231,7 @@ impl<U: Universe> Core<U> {
         ensures tasks { DropsOnly U.Key.eq self.old self.new }
     {
         laws_of::<U>();
-        leave_ask(
-            &mut self.desk,
-            &mut self.versions,
-            &mut self.sessions,
-            ask,
-        );
+        leave_ask(&mut self.desk, &mut self.versions, &mut self.sessions, ask);
     }
 
     /// Takes the job of a ready task, the one that became ready last; `None` exactly where no task is ready. It takes no memory.

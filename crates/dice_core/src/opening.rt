@@ -90,14 +90,7 @@ pub(crate) fn leave_ask<U: Universe>(
     let Some(tasks) = versions.get_mut(&version) else {
         return;
     };
-    leave_promise::<U>(
-        desk,
-        tasks,
-        version,
-        asking.key(),
-        asking.by(),
-        ask,
-    );
+    leave_promise::<U>(desk, tasks, version, asking.key(), asking.by(), ask);
 }
 
 /// A seat asks for a key in an open transaction; the index of the event is the name of the ask. Where memory is refused all is as before.
@@ -130,16 +123,7 @@ pub(crate) fn ask_in<U: Universe>(
         return Err(NoMemory);
     };
     let index = ask_key::<U>(
-        alloc,
-        universe,
-        graph,
-        desk,
-        tasks,
-        owed,
-        version,
-        &key,
-        by,
-        tx,
+        alloc, universe, graph, desk, tasks, owed, version, &key, by, tx,
     )?;
     sessions.ask(index, by, tx, key);
     Ok(index)

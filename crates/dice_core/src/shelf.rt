@@ -38,7 +38,11 @@ impl<K: Eq + Hash> Equivalent<ReadyTask<K>> for (u64, &Arc<K>) {
 pub(crate) type Shelf<U> = IndexSet<ReadyTask<<U as Universe>::Key>>;
 
 /// The index of a task.
-pub(crate) fn index_of<U: Universe>(shelf: &Shelf<U>, version: u64, key: &KeyRef<U>) -> Option<usize>
+pub(crate) fn index_of<U: Universe>(
+    shelf: &Shelf<U>,
+    version: u64,
+    key: &KeyRef<U>,
+) -> Option<usize>
     ensures some { IfSome result (λ i. (x : Ready U.Key) × (slice_get shelf.now.keys i ≡ Some x) × (place_of x ≡ (version, arc_value key.now))) }
     ensures none { IfNone result (Has (map place_of shelf.now.keys) (version, arc_value key.now) → ⊥) }
 {

@@ -118,11 +118,7 @@ impl<U: Universe> Model for Task<U> {
 
 impl<U: Universe> Task<U> {
     /// A task that computes its key's value, ready to be taken.
-    pub(crate) fn run(
-        alloc: Global,
-        name: JobName<U>,
-        spare: Spare<U>,
-    ) -> Result<Task<U>, NoMemory>
+    pub(crate) fn run(alloc: Global, name: JobName<U>, spare: Spare<U>) -> Result<Task<U>, NoMemory>
         requires kind { U.meaning.kind name.key ≢ Injected }
         requires spare { AreCopies name.key spare }
         ensures { IfOk result (λ t. t ≡ held_of (record { name = name; answered = []; work = Computes }) IsReady) }

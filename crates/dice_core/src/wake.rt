@@ -86,12 +86,7 @@ pub(crate) fn wake<U: Universe>(
 }
 
 /// Wakes one task that waited for a key. It takes no memory.
-fn wake_one<U: Universe>(
-    desk: &mut Desk<U>,
-    tasks: &mut Tasks<U>,
-    key: &KeyRef<U>,
-    woken: Woken<U>,
-)
+fn wake_one<U: Universe>(desk: &mut Desk<U>, tasks: &mut Tasks<U>, key: &KeyRef<U>, woken: Woken<U>)
     requires waits { (h : Held U.Key U.Value) × (task_at U.Key.eq tasks.old woken.place.1 ≡ Some h) × FollowsOn h woken.ahead }
     requires ready { Has desk.old.ready woken.place → ⊥ }
     requires out { Has desk.old.out woken.place → ⊥ }

@@ -1,4 +1,4 @@
-use Rattle.std.proofs.Common.{◌≡◌, ◌+◌, ℕ, refl, sym, ap, ◌∙◌, subst}
+use Rattle.std.proofs.Common.{◌+◌, refl, sym, ap, ◌∙◌, subst}
 use Rattle.std.specs.Arc.{arc_value}
 use Rattle.journal.specs.declared.event.Told.TheVariants.{Ask}
 use Rattle.dice_core.specs.AtHand.{AtHand}
@@ -17,8 +17,8 @@ returns-then-is_injected-clause-kept g c w s h =
     let told = c.push.ensures ∙ ap (λ j. with_event d (Ask c.args.by c.args.tx j)) c.in_ok-event.ensures in
     subst (λ z. AtHand eq m c.args.version w (c.args.owed + 1) ps z c.args.graph.now s) (sym told)
     (hand_injected eq c.laws_of.ensures.keys m c.laws_of.ensures.lawful c.args.version c.args.by c.args.tx k ps ps c.args.desk.now d c.reserve.ensures.same (λ q. refl) (λ q. refl) w c.args.owed c.args.graph.now s
-        (record { hands = c.reserve.ensures.same; room = c.reserve.ensures.room; tasks = λ q. refl; live = λ q. refl; asks = λ q a. refl }) (record { tasks = λ q. refl; live = λ q. refl; count = refl })
-        (c.is_injected.ensures.yes c.if-is_injected.true) c.requires.opened c.in_ok-reserve.ensures.ok h)
+    (record { hands = c.reserve.ensures.same; room = c.reserve.ensures.room; tasks = λ q. refl; live = λ q. refl; asks = λ q a. refl }) (record { tasks = λ q. refl; live = λ q. refl; count = refl })
+    (c.is_injected.ensures.yes c.if-is_injected.true) c.requires.opened c.in_ok-reserve.ensures.ok h)
 
 pub make-requires-clause-room : goal.make-requires-clause-room
 make-requires-clause-room g c κs within =

@@ -1,12 +1,12 @@
-use Rattle.std.proofs.Common.{◌≡◌, ◌+◌, ◌++◌, ◌∷◌, [], ℕ, Bool, List, not, cond, ◌&&◌, map, reverse, true, Some, None, refl, sym, ap, ◌∙◌, subst, append_assoc}
+use Rattle.std.proofs.Common.{◌≡◌, ◌++◌, ◌∷◌, [], not, cond, ◌&&◌, map, reverse, Some, None, sym, ap, ◌∙◌, subst, append_assoc}
 use Rattle.std.specs.Arc.{arc_value}
 use Rattle.std.specs.List.{list_any}
-use Rattle.task_share.specs.Asked.{By, Promised, is_by}
+use Rattle.task_share.specs.Asked.{Promised, is_by}
 use Rattle.task_share.specs.Seen.{asks}
 use Rattle.journal.specs.declared.event.Told.TheVariants.{Leave, Drop}
 use Rattle.journal.specs.Events.{ended_at}
 use Rattle.core_laws.proofs.Shapes.{both_parts}
-use Rattle.dice_core.specs.Hands.{DeskSeen, with_event, Cleaning}
+use Rattle.dice_core.specs.Hands.{DeskSeen, Cleaning}
 use Rattle.dice_core.specs.Endings.{DropsTasks}
 use Rattle.dice_core.proofs.AskingLemmas.{left_cleaning, left_tasked, in_hand_again}
 use Rattle.dice_core.proofs.EntriesLemmas.{stand_leave}
@@ -26,11 +26,13 @@ cascade-requires-clause-after g c κs within =
 
 pub returns-clause-log : goal.returns-clause-log
 returns-clause-log g c =
-    let d = c.cascade.ensures.dropped in
-    (d.0, record {
-      events = d.1.events ∙ (ap (λ (z : DeskSeen g.row.U-Key.Denot g.row.U-Value.Denot). z.events ++ map (Drop c.args.version) d.0) c.push.ensures ∙ append_assoc c.args.desk.now.events (Leave c.args.by c.args.ask ∷ []) (map (Drop c.args.version) d.0));
-      tasks = λ q. d.1.tasks q ∙ ap (λ o. cond (list_any (g.U.Key.PartialEq.eq q) d.0) None o) (c.leave.ensures.tasks.tasks q);
-    })
+    let d = c.cascade.ensures.dropped in (
+      d.0,
+      record {
+        events = d.1.events ∙ (ap (λ (z : DeskSeen g.row.U-Key.Denot g.row.U-Value.Denot). z.events ++ map (Drop c.args.version) d.0) c.push.ensures ∙ append_assoc c.args.desk.now.events (Leave c.args.by c.args.ask ∷ []) (map (Drop c.args.version) d.0));
+        tasks = λ q. d.1.tasks q ∙ ap (λ o. cond (list_any (g.U.Key.PartialEq.eq q) d.0) None o) (c.leave.ensures.tasks.tasks q);
+      },
+    )
 
 pub returns-clause-kept : goal.returns-clause-kept
 returns-clause-kept g c = λ w owed es s h.
@@ -40,8 +42,8 @@ returns-clause-kept g c = λ w owed es s h.
     let keep = left_cleaning eq c.laws_of.ensures.keys m c.laws_of.ensures.lawful c.args.version (arc_value c.args.key.now) c.args.by c.args.ask owed _ c.leave.new.self _ c.leave.ensures.tasks c.leave.ensures.asks c.requires.asked w h.working in
     let cleaning = subst (λ z. Cleaning eq m c.args.version w owed c.leave.new.self z) (sym c.push.ensures) keep.0 in
     in_hand_again eq c.laws_of.ensures.keys m c.laws_of.ensures.lawful c.args.version (Leave c.args.by c.args.ask) d.0 owed c.leave.new.self c.cascade.new.tasks c.args.desk.now c.cascade.new.desk es s w
-        (subst (λ z. DropsTasks eq c.args.version d.0 c.leave.new.self c.cascade.new.tasks z c.cascade.new.desk) c.push.ensures d.1) h.told (stand_leave eq m (reverse c.args.desk.now.events) es h.entries c.args.by c.args.ask)
-        (record { are = h.cells.are; newest = h.cells.newest }) h.opened
-        (c.cascade.ensures.kept w owed cleaning)
-        (c.cascade.ensures.tasked (left_tasked eq c.laws_of.ensures.keys m c.laws_of.ensures.lawful c.args.version _ c.leave.new.self c.leave.ensures.tasks (λ q a i. (both_parts (asks eq c.args.tasks.now q a) (not (eq (arc_value c.args.key.now) q && is_by eq (Promised c.args.ask) a)) (sym (c.leave.ensures.asks q a) ∙ i)).0) h.tasked))
-        c.cascade.ensures.done
+    (subst (λ z. DropsTasks eq c.args.version d.0 c.leave.new.self c.cascade.new.tasks z c.cascade.new.desk) c.push.ensures d.1) h.told (stand_leave eq m (reverse c.args.desk.now.events) es h.entries c.args.by c.args.ask)
+    (record { are = h.cells.are; newest = h.cells.newest }) h.opened
+    (c.cascade.ensures.kept w owed cleaning)
+    (c.cascade.ensures.tasked (left_tasked eq c.laws_of.ensures.keys m c.laws_of.ensures.lawful c.args.version _ c.leave.new.self c.leave.ensures.tasks (λ q a i. (both_parts (asks eq c.args.tasks.now q a) (not (eq (arc_value c.args.key.now) q && is_by eq (Promised c.args.ask) a)) (sym (c.leave.ensures.asks q a) ∙ i)).0) h.tasked))
+    c.cascade.ensures.done

@@ -1,6 +1,6 @@
-use Rattle.std.proofs.Common.{◌≡◌, ◌∙◌, sym, ap}
+use Rattle.std.proofs.Common.{◌∙◌, sym, ap}
 use Rattle.dice_jobs.specs.Jobs.{Name, Assigned}
-use Rattle.dice_core.proofs.PlanLemmas.{at_hand_kept, takes_from, parked_so, wanting_same, plan_as, takes_as, hand_as}
+use Rattle.dice_core.proofs.PlanLemmas.{at_hand_kept, takes_from, parked_so, plan_as, takes_as, hand_as}
 use Rattle.dice_core.proofs.batch.ask_batch.Goals as goal
 
 pub returns-in-Err-clause-kept : goal.returns-in-Err-clause-kept

@@ -1,4 +1,4 @@
-use Rattle.std.proofs.Common.{◌≡◌, ◌∙◌, ap, subst, reverse, Some, sym}
+use Rattle.std.proofs.Common.{◌∙◌, ap, reverse}
 use Rattle.std.specs.Arc.{arc_value}
 use Rattle.journal.specs.Events.{ended_at}
 use Rattle.dice_core.specs.Endings.{path_of}

@@ -1,4 +1,4 @@
-use Rattle.std.proofs.Common.{◌≡◌, ◌∙◌, ◌++◌, [], ap, subst, arith}
+use Rattle.std.proofs.Common.{◌∙◌, ◌++◌, ap, subst, arith}
 use Rattle.std.specs.Prelude.{IsSome, option_to_list}
 use Rattle.dice_core.proofs.ParkLemmas.{none_left}
 use Rattle.dice_core.proofs.MakesLemmas.{next_part, next_room, room_next, makes_next, on_next, makes_end, on_end}

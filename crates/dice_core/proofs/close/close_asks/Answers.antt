@@ -1,12 +1,9 @@
-use Rattle.std.proofs.Common.{◌≡◌, ◌≤◌, ◌+◌, ◌++◌, ◌∷◌, [], ℕ, List, reverse, Some, refl, sym, ap, ◌∙◌, subst, arith}
+use Rattle.std.proofs.Common.{◌≡◌, reverse, Some, refl, sym, ap, ◌∙◌, subst}
 use Rattle.journal.specs.declared.event.Told.TheVariants.{Close}
 use Rattle.journal.specs.Events.{ended_at}
-use Rattle.core_laws.specs.Desk.{World}
 use Rattle.core_laws.proofs.Shapes.{both_parts}
-use Rattle.dice_core.specs.AtHand.{AtHand}
-use Rattle.dice_core.specs.Closings.{TakesPromises}
 use Rattle.dice_core.specs.Sessions.{owed}
-use Rattle.dice_core.specs.Hands.{DeskSeen, with_event, Working, Cleaning}
+use Rattle.dice_core.specs.Hands.{DeskSeen, with_event, Cleaning}
 use Rattle.dice_core.specs.Endings.{DropsTasks}
 use Rattle.dice_core.proofs.AskingLemmas.{left_tasked}
 use Rattle.dice_core.proofs.CloseLemmas.{promised_here, closed_cleaning, closed_log, closed_sessions, closed_counts, left_again}
@@ -36,9 +33,11 @@ pub returns-clause-log : goal.returns-clause-log
 returns-clause-log g c =
     let eq = g.U.Key.PartialEq.eq in
     let d = c.cascade.ensures.dropped in
-    let told = c.push.ensures ∙ ap (λ b. with_event c.args.desk.now (Close b c.args.tx)) c.by-by.ensures in
-    (d.0, closed_log eq c.laws_of.ensures.keys g.U.Universe.meaning c.laws_of.ensures.lawful c.args.version (Close c.args.session.by c.args.tx) d.0 _ _ _ c.args.desk.now _ c.take_promises.ensures.tasks
-        (subst (λ z. DropsTasks eq c.args.version d.0 c.take_promises.new.tasks c.cascade.new.tasks z c.cascade.new.desk) told d.1))
+    let told = c.push.ensures ∙ ap (λ b. with_event c.args.desk.now (Close b c.args.tx)) c.by-by.ensures in (
+      d.0,
+      closed_log eq c.laws_of.ensures.keys g.U.Universe.meaning c.laws_of.ensures.lawful c.args.version (Close c.args.session.by c.args.tx) d.0 _ _ _ c.args.desk.now _ c.take_promises.ensures.tasks
+          (subst (λ z. DropsTasks eq c.args.version d.0 c.take_promises.new.tasks c.cascade.new.tasks z c.cascade.new.desk) told d.1),
+    )
 
 pub returns-clause-sessions : goal.returns-clause-sessions
 returns-clause-sessions g c =

@@ -1,4 +1,4 @@
-use Rattle.std.proofs.Common.{◌≡◌, ◌≤◌, ℕ, List, length}
+use Rattle.std.proofs.Common.{◌≤◌, ℕ, List, length}
 use Rattle.task_share.specs.Seen.{KeepsTasks}
 use Rattle.journal.specs.declared.event.Told.{Told}
 use Rattle.dice_core.specs.Sessions.{owed, Closing}

@@ -1,4 +1,4 @@
-use Rattle.std.proofs.Common.{[], ◌∷◌, ◌++◌, refl, sym, subst, reverse, Some, ◌≡◌}
+use Rattle.std.proofs.Common.{[], ◌∷◌, ◌++◌, sym, subst, reverse, Some, ◌≡◌}
 use Rattle.journal.specs.Events.{ended_at}
 use Rattle.dice_core.specs.Hands.{DeskSeen, Working}
 use Rattle.dice_core.proofs.CascadeLemmas.{drops_none, drops_more, drops_same, drops_fewer, done_same}

@@ -1,9 +1,7 @@
-use Rattle.std.proofs.Common.{◌≡◌, ◌⊎◌, inl, inr, ◌+◌, ◌*◌, ◌<◌, ℕ, List, [], ◌∷◌, ◌++◌, length, reverse, refl, sym, ap, subst}
+use Rattle.std.proofs.Common.{◌≡◌, inl, inr, ◌+◌, ◌*◌, ◌<◌, [], ◌∷◌, ◌++◌, length, sym, subst}
 use Rattle.std.specs.Arc.{arc_value}
-use Rattle.dice_model.specs.Log.{Has}
-use Rattle.core_laws.specs.Tasks.{Outcome}
-use Rattle.dice_core.specs.Hands.{DeskSeen, Working}
-use Rattle.dice_core.specs.Endings.{Telling, EndsTasks, path_of}
+use Rattle.dice_core.specs.Hands.{DeskSeen}
+use Rattle.dice_core.specs.Endings.{path_of}
 use Rattle.dice_core.proofs.EndsLemmas.{working_knows}
 use Rattle.dice_core.proofs.TellLemmas.{begins_telling, listed, asker_ended, last_told, asker_fewer, told_fewer, ends_telling}
 use Rattle.dice_core.proofs.AllLemmas.{all_first, all_more, all_told, listed_first, listed_more, listed_told}

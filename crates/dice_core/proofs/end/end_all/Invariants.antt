@@ -1,4 +1,4 @@
-use Rattle.std.proofs.Common.{◌≡◌, ◌+◌, ◌*◌, ℕ, List, [], length}
+use Rattle.std.proofs.Common.{◌+◌, ◌*◌, ℕ, List, [], length}
 use Rattle.std.specs.Arc.{arc_value}
 use Rattle.dice_model.specs.Log.{Has}
 use Rattle.core_laws.specs.Tasks.{Outcome}

@@ -32,9 +32,11 @@ take_step-requires-clause-hand g c κs within =
     let v = j.name.version in
     let ps = c.in-Some.tasks.now in
     let at : c.version-version.result ≡ v = c.version-version.ensures ∙ ap (λ n. n.version) (c.name.ensures ∙ ap (λ a. a.name) c.assignment.ensures) in
-    let found : table_at ts v ≡ ps = table_found ts v ps (subst (λ n. lookup (nat_eq n) ts ≡ Some ps) at (sym c.get_mut.ensures.value ∙ ap option_copied_mut c.in-Some.is)) in
-    (world_of eq ts, subst (λ (n : ℕ). AtHand eq m v (world_of eq ts) n ps c.args.desk.now c.args.graph.now c.args.cells.now) (sym r.2)
-        (hand_there eq c.laws_of.ensures.keys m c.laws_of.ensures.lawful c.args.desk.now ts c.args.graph.now c.args.cells.now r.0 r.1 v j.name.key (held_of j IsOut) ps found (c.if-not-is_of_out.ensures.0 refl)))
+    let found : table_at ts v ≡ ps = table_found ts v ps (subst (λ n. lookup (nat_eq n) ts ≡ Some ps) at (sym c.get_mut.ensures.value ∙ ap option_copied_mut c.in-Some.is)) in (
+      world_of eq ts,
+      subst (λ (n : ℕ). AtHand eq m v (world_of eq ts) n ps c.args.desk.now c.args.graph.now c.args.cells.now) (sym r.2)
+          (hand_there eq c.laws_of.ensures.keys m c.laws_of.ensures.lawful c.args.desk.now ts c.args.graph.now c.args.cells.now r.0 r.1 v j.name.key (held_of j IsOut) ps found (c.if-not-is_of_out.ensures.0 refl)),
+    )
 
 pub returns-clause-kept : goal.returns-clause-kept
 returns-clause-kept g c =
@@ -51,8 +53,8 @@ returns-clause-kept g c =
     let found : table_at ts v ≡ ps = table_found ts v ps (subst (λ n. lookup (nat_eq n) ts ≡ Some ps) at mine) in
     let put = subst (λ n. PutsTable n qs ts (c.get_mut.follows.lender qs).entries) at ((c.get_mut.follows.holds qs).3 (subst IsSome (sym mine) refl)).0 in
     on_ok c.take_step.result _ _ (both_ok c.take_step.result _ _ (given_ok c.take_step.result (λ x. stale_of x) _ c.take_step.ensures.taken c.take_step.ensures.fresh) c.take_step.ensures.kept)
-        (λ h x owes st.
-          let hand = hand_there eq c.laws_of.ensures.keys m c.laws_of.ensures.lawful d ts c.args.graph.now c.args.cells.now x st v j.name.key (held_of j IsOut) ps found (c.if-not-is_of_out.ensures.0 refl) in
-          worked_stands eq c.laws_of.ensures.keys m c.laws_of.ensures.lawful d ts c.args.graph.now c.args.cells.now x st v _ qs c.take_step.new.desk c.take_step.new.graph put (gives_works eq v c.args.step ps qs d c.take_step.new.desk h.0)
-            (subst (λ (n : ℕ). AtHand eq m v (world_of eq ts) n qs c.take_step.new.desk c.take_step.new.graph c.args.cells.now) owes
-              (h.1 (world_of eq ts) (subst (λ (n : ℕ). AtHand eq m v (world_of eq ts) n ps d c.args.graph.now c.args.cells.now) (sym owes) hand))))
+    (λ h x owes st.
+    let hand = hand_there eq c.laws_of.ensures.keys m c.laws_of.ensures.lawful d ts c.args.graph.now c.args.cells.now x st v j.name.key (held_of j IsOut) ps found (c.if-not-is_of_out.ensures.0 refl) in
+    worked_stands eq c.laws_of.ensures.keys m c.laws_of.ensures.lawful d ts c.args.graph.now c.args.cells.now x st v _ qs c.take_step.new.desk c.take_step.new.graph put (gives_works eq v c.args.step ps qs d c.take_step.new.desk h.0)
+    (subst (λ (n : ℕ). AtHand eq m v (world_of eq ts) n qs c.take_step.new.desk c.take_step.new.graph c.args.cells.now) owes
+    (h.1 (world_of eq ts) (subst (λ (n : ℕ). AtHand eq m v (world_of eq ts) n ps d c.args.graph.now c.args.cells.now) (sym owes) hand))))

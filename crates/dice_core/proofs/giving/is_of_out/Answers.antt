@@ -15,11 +15,11 @@ returns-in-Some-task g c =
     let at : c.version.result ≡ c.args.step.now.job.name.version = c.version.ensures ∙ ap (λ n. n.version) (c.name-name.ensures ∙ ap (λ j. j.name) c.assignment.ensures) in
     let key = c.key.ensures ∙ ap (λ n. n.key) (c.name-name.ensures ∙ ap (λ j. j.name) c.assignment.ensures) in
     found_iff c.is_of.result _ c.in-Some-task.task.now (held_of c.args.step.now.job IsOut)
-        (held_found g.U.Key.PartialEq.eq c.args.versions.now.entries c.version.result c.args.step.now.job.name.version _ c.args.step.now.job.name.key c.in-Some.tasks.now _ at key (sym c.get.ensures.value ∙ ap option_copied c.in-Some.is) (sym c.task.ensures ∙ ap option_copied c.in-Some-task.is)) c.is_of.ensures
+    (held_found g.U.Key.PartialEq.eq c.args.versions.now.entries c.version.result c.args.step.now.job.name.version _ c.args.step.now.job.name.key c.in-Some.tasks.now _ at key (sym c.get.ensures.value ∙ ap option_copied c.in-Some.is) (sym c.task.ensures ∙ ap option_copied c.in-Some-task.is)) c.is_of.ensures
 
 pub returns-in-None : goal.returns-in-None
 returns-in-None g c =
     let at : c.version.result ≡ c.args.step.now.job.name.version = c.version.ensures ∙ ap (λ n. n.version) (c.name-name.ensures ∙ ap (λ j. j.name) c.assignment.ensures) in
     let key = c.key.ensures ∙ ap (λ n. n.key) (c.name-name.ensures ∙ ap (λ j. j.name) c.assignment.ensures) in
     none_iff _ (held_of c.args.step.now.job IsOut)
-        (held_found g.U.Key.PartialEq.eq c.args.versions.now.entries c.version.result c.args.step.now.job.name.version _ c.args.step.now.job.name.key c.in-Some.tasks.now _ at key (sym c.get.ensures.value ∙ ap option_copied c.in-Some.is) (sym c.task.ensures ∙ ap option_copied c.in-None.is))
+    (held_found g.U.Key.PartialEq.eq c.args.versions.now.entries c.version.result c.args.step.now.job.name.version _ c.args.step.now.job.name.key c.in-Some.tasks.now _ at key (sym c.get.ensures.value ∙ ap option_copied c.in-Some.is) (sym c.task.ensures ∙ ap option_copied c.in-None.is))

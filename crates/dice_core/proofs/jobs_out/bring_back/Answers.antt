@@ -34,7 +34,7 @@ returns-clause-kept g c = λ es s x st.
     let mine : lookup (nat_eq c.version-version.result) ts ≡ Some c.in-Some.tasks.now = sym c.get_mut.ensures.value ∙ ap option_copied_mut c.in-Some.is in
     let known : lookup (nat_eq v) ts ≡ Some c.in-Some.tasks.now = subst (λ n. lookup (nat_eq n) ts ≡ Some c.in-Some.tasks.now) at mine in
     back_stands g.U.Key.PartialEq.eq c.laws_of.ensures.keys g.U.Universe.meaning c.laws_of.ensures.lawful c.args.job c.args.desk.now c.put_back.new.desk ts _ es s x st c.in-Some.tasks.now c.put_back.new.tasks c.put_back.result (λ j. j ≡ c.args.job) (table_found ts v c.in-Some.tasks.now known)
-        (subst (λ n. PutsTable n c.put_back.new.tasks ts (c.get_mut.follows.lender c.put_back.new.tasks).entries) at ((c.get_mut.follows.holds c.put_back.new.tasks).3 (subst IsSome (sym mine) refl)).0) c.put_back.ensures.same c.put_back.ensures.back c.put_back.ensures.kept
+    (subst (λ n. PutsTable n c.put_back.new.tasks ts (c.get_mut.follows.lender c.put_back.new.tasks).entries) at ((c.get_mut.follows.holds c.put_back.new.tasks).3 (subst IsSome (sym mine) refl)).0) c.put_back.ensures.same c.put_back.ensures.back c.put_back.ensures.kept
 
 pub returns-clause-other : goal.returns-clause-other
 returns-clause-other g c =
@@ -44,7 +44,7 @@ returns-clause-other g c =
     let mine : lookup (nat_eq c.version-version.result) ts ≡ Some c.in-Some.tasks.now = sym c.get_mut.ensures.value ∙ ap option_copied_mut c.in-Some.is in
     let known : lookup (nat_eq v) ts ≡ Some c.in-Some.tasks.now = subst (λ n. lookup (nat_eq n) ts ≡ Some c.in-Some.tasks.now) at mine in
     back_same_core g.U.Key.PartialEq.eq c.args.job c.args.desk.now c.put_back.new.desk ts _ c.in-Some.tasks.now c.put_back.new.tasks c.put_back.result (λ j. j ≡ c.args.job) (table_found ts v c.in-Some.tasks.now known)
-        (subst (λ n. PutsTable n c.put_back.new.tasks ts (c.get_mut.follows.lender c.put_back.new.tasks).entries) at ((c.get_mut.follows.holds c.put_back.new.tasks).3 (subst IsSome (sym mine) refl)).0) c.put_back.ensures.same c.put_back.ensures.other
+    (subst (λ n. PutsTable n c.put_back.new.tasks ts (c.get_mut.follows.lender c.put_back.new.tasks).entries) at ((c.get_mut.follows.holds c.put_back.new.tasks).3 (subst IsSome (sym mine) refl)).0) c.put_back.ensures.same c.put_back.ensures.other
 
 pub returns-clause-back : goal.returns-clause-back
 returns-clause-back g c =
@@ -54,7 +54,7 @@ returns-clause-back g c =
     let mine : lookup (nat_eq c.version-version.result) ts ≡ Some c.in-Some.tasks.now = sym c.get_mut.ensures.value ∙ ap option_copied_mut c.in-Some.is in
     let known : lookup (nat_eq v) ts ≡ Some c.in-Some.tasks.now = subst (λ n. lookup (nat_eq n) ts ≡ Some c.in-Some.tasks.now) at mine in
     back_turned g.U.Key.PartialEq.eq g.U.Universe.meaning c.args.job c.args.desk.now c.put_back.new.desk ts _ c.in-Some.tasks.now c.put_back.new.tasks c.put_back.result (table_found ts v c.in-Some.tasks.now known)
-        (subst (λ n. PutsTable n c.put_back.new.tasks ts (c.get_mut.follows.lender c.put_back.new.tasks).entries) at ((c.get_mut.follows.holds c.put_back.new.tasks).3 (subst IsSome (sym mine) refl)).0) c.put_back.ensures.back
+    (subst (λ n. PutsTable n c.put_back.new.tasks ts (c.get_mut.follows.lender c.put_back.new.tasks).entries) at ((c.get_mut.follows.holds c.put_back.new.tasks).3 (subst IsSome (sym mine) refl)).0) c.put_back.ensures.back
 
 pub returns-clause-events : goal.returns-clause-events
 returns-clause-events g c =

@@ -35,12 +35,14 @@ returns-clause-failed g c = λ t.
     let qs = c.give_up.new.tasks in
     let known : lookup (nat_eq v) ts ≡ Some c.in-Some.tasks.now = sym c.get_mut.ensures.value ∙ ap option_copied_mut c.in-Some.is in
     let found : table_at ts n.version ≡ c.in-Some.tasks.now = subst (λ z. table_at ts z ≡ c.in-Some.tasks.now) at (table_found ts v c.in-Some.tasks.now known) in
-    let all = subst (λ z. GivesUpAll eq v None z c.in-Some.tasks.now qs c.args.desk.now c.give_up.new.desk) c.key.ensures c.give_up.ensures.ends in
-    (c.if-not-is_out_among.ensures.0 refl, record {
-      tasks = qs;
-      put = subst (λ z. PutsTable z qs ts (c.get_mut.follows.lender qs).entries) at ((c.get_mut.follows.holds qs).3 (subst IsSome (sym known) refl)).0;
-      turned = subst (λ a. GivesUpAll eq n.version None n.key a qs c.args.desk.now c.give_up.new.desk) (sym found) (subst (λ z. GivesUpAll eq z None n.key c.in-Some.tasks.now qs c.args.desk.now c.give_up.new.desk) at all);
-    })
+    let all = subst (λ z. GivesUpAll eq v None z c.in-Some.tasks.now qs c.args.desk.now c.give_up.new.desk) c.key.ensures c.give_up.ensures.ends in (
+      c.if-not-is_out_among.ensures.0 refl,
+      record {
+        tasks = qs;
+        put = subst (λ z. PutsTable z qs ts (c.get_mut.follows.lender qs).entries) at ((c.get_mut.follows.holds qs).3 (subst IsSome (sym known) refl)).0;
+        turned = subst (λ a. GivesUpAll eq n.version None n.key a qs c.args.desk.now c.give_up.new.desk) (sym found) (subst (λ z. GivesUpAll eq z None n.key c.in-Some.tasks.now qs c.args.desk.now c.give_up.new.desk) at all);
+      },
+    )
 
 pub returns-clause-kept : goal.returns-clause-kept
 returns-clause-kept g c = λ es s x st.
@@ -55,5 +57,5 @@ returns-clause-kept g c = λ es s x st.
     let found : table_at ts v ≡ c.in-Some.tasks.now = table_found ts v c.in-Some.tasks.now known in
     let there : task_at eq c.in-Some.tasks.now n.key ≡ Some (held_of out.0 IsOut) = ap (λ a. task_at eq a n.key) (sym found) ∙ (ap (λ z. task_at eq (table_at ts z) n.key) c.version-version.ensures ∙ out.1) in
     failed_stands eq c.laws_of.ensures.keys m c.laws_of.ensures.lawful c.args.desk.now c.give_up.new.desk ts _ es s x st v n.key (held_of out.0 IsOut) c.in-Some.tasks.now qs found
-        ((c.get_mut.follows.holds qs).3 (subst IsSome (sym known) refl)).0 there
-        (given_up_works eq m v None (arc_value c.key.result.now) c.in-Some.tasks.now qs c.args.desk.now c.give_up.new.desk c.give_up.ensures.ends) c.give_up.ensures.kept
+    ((c.get_mut.follows.holds qs).3 (subst IsSome (sym known) refl)).0 there
+    (given_up_works eq m v None (arc_value c.key.result.now) c.in-Some.tasks.now qs c.args.desk.now c.give_up.new.desk c.give_up.ensures.ends) c.give_up.ensures.kept

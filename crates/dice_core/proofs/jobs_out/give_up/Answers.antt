@@ -20,6 +20,6 @@ returns-clause-kept g c = λ w owed es s h.
     let d = c.cascade.ensures.dropped in
     let eq = g.U.Key.PartialEq.eq in
     given_up_hand eq g.U.Universe.meaning c.args.version (path_of c.args.how.now) (arc_value c.args.key.now) _ _ _ _ (record { ends = e.0; drops = d.0; tasks = _; desk = _; ended = e.1; dropped = d.1 }) w owed es s h
-        c.end_all.ensures.ended
-        (c.cascade.ensures.kept w owed (cleaning_of eq c.laws_of.ensures.keys g.U.Universe.meaning c.laws_of.ensures.lawful c.args.version w owed _ _ (c.end_all.ensures.kept w owed h.working)))
-        (c.cascade.ensures.tasked (c.end_all.ensures.tasked h.tasked)) c.cascade.ensures.done
+    c.end_all.ensures.ended
+    (c.cascade.ensures.kept w owed (cleaning_of eq c.laws_of.ensures.keys g.U.Universe.meaning c.laws_of.ensures.lawful c.args.version w owed _ _ (c.end_all.ensures.kept w owed h.working)))
+    (c.cascade.ensures.tasked (c.end_all.ensures.tasked h.tasked)) c.cascade.ensures.done

@@ -5,7 +5,7 @@ use Rattle.std.specs.Option.{option_copied_mut}
 use Rattle.std.specs.Arc.{arc_value}
 use Rattle.dice_core.specs.Hands.{Working, AreNamed}
 use Rattle.dice_core.specs.Sessions.{owed}
-use Rattle.dice_core.specs.Cores.{world_of, table_at}
+use Rattle.dice_core.specs.Cores.{world_of}
 use Rattle.dice_core.proofs.CoreLemmas.{working_in}
 use Rattle.dice_core.proofs.JobsLemmas.{table_found, none_found, next_open, take_turned, take_stands}
 use Rattle.dice_core.proofs.jobs_out.take_next.Goals as goal
@@ -28,10 +28,16 @@ take-requires-after_bounds g c κs within =
     let ts = c.args.versions.now.entries in
     let v = c.in-Some.ready.now.version in
     let n = c.in-Some.ensures.some in
-    let known : lookup (nat_eq v) ts ≡ Some c.in-Some-get_mut.tasks.now = sym c.get_mut.ensures.value ∙ ap option_copied_mut c.in-Some-get_mut.is in
-    (v, arc_value c.in-Some.ready.now.key, n.0, world_of eq ts, owed r.2, n.1,
-        subst (λ ps. Working eq m v [] (world_of eq ts) (owed r.2) ps c.args.desk.now) (table_found ts v c.in-Some-get_mut.tasks.now known)
-            (working_in eq c.laws_of.ensures.keys m c.laws_of.ensures.lawful _ r.3 v))
+    let known : lookup (nat_eq v) ts ≡ Some c.in-Some-get_mut.tasks.now = sym c.get_mut.ensures.value ∙ ap option_copied_mut c.in-Some-get_mut.is in (
+      v,
+      arc_value c.in-Some.ready.now.key,
+      n.0,
+      world_of eq ts,
+      owed r.2,
+      n.1,
+      subst (λ ps. Working eq m v [] (world_of eq ts) (owed r.2) ps c.args.desk.now) (table_found ts v c.in-Some-get_mut.tasks.now known)
+          (working_in eq c.laws_of.ensures.keys m c.laws_of.ensures.lawful _ r.3 v),
+    )
 
 pub returns-clause-some : goal.returns-clause-some
 returns-clause-some g c =
@@ -41,7 +47,7 @@ returns-clause-some g c =
     let known : lookup (nat_eq v) ts ≡ Some c.in-Some-get_mut.tasks.now = sym c.get_mut.ensures.value ∙ ap option_copied_mut c.in-Some-get_mut.is in
     let found = table_found ts v c.in-Some-get_mut.tasks.now known in
     take_turned eq g.U.Universe.meaning ts _ v c.in-Some-get_mut.tasks.now c.take.new.tasks c.args.desk.now c.take.new.desk c.take.result found
-        ((c.get_mut.follows.holds c.take.new.tasks).3 (subst IsSome (sym known) refl)).0 (subst (AreNamed eq v) found (c.requires.stands.3.named v)) c.take.ensures.taken
+    ((c.get_mut.follows.holds c.take.new.tasks).3 (subst IsSome (sym known) refl)).0 (subst (AreNamed eq v) found (c.requires.stands.3.named v)) c.take.ensures.taken
 
 pub returns-clause-kept : goal.returns-clause-kept
 returns-clause-kept g c = λ es s x st.
@@ -50,4 +56,4 @@ returns-clause-kept g c = λ es s x st.
     let v = c.in-Some.ready.now.version in
     let known : lookup (nat_eq v) ts ≡ Some c.in-Some-get_mut.tasks.now = sym c.get_mut.ensures.value ∙ ap option_copied_mut c.in-Some-get_mut.is in
     take_stands eq c.laws_of.ensures.keys g.U.Universe.meaning c.laws_of.ensures.lawful c.args.desk.now c.take.new.desk ts _ es s x st v c.in-Some-get_mut.tasks.now c.take.new.tasks c.take.result (table_found ts v c.in-Some-get_mut.tasks.now known)
-        ((c.get_mut.follows.holds c.take.new.tasks).3 (subst IsSome (sym known) refl)).0 c.take.ensures.taken c.take.ensures.kept c.take.ensures.some
+    ((c.get_mut.follows.holds c.take.new.tasks).3 (subst IsSome (sym known) refl)).0 c.take.ensures.taken c.take.ensures.kept c.take.ensures.some

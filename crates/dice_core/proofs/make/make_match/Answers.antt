@@ -1,4 +1,4 @@
-use Rattle.std.proofs.Common.{refl, ap, ◌∙◌}
+use Rattle.std.proofs.Common.{ap, ◌∙◌}
 use Rattle.std.specs.Arc.{arc_value}
 use Rattle.journal.specs.declared.event.Told.TheVariants.{Keep}
 use Rattle.dice_core.specs.Hands.{with_event}

@@ -1,6 +1,6 @@
 use Rattle.std.specs.Arc.{arc_value}
 use Rattle.std.proofs.lemmas.Result.{IfOk-weaker}
-use Rattle.versioned_graph.specs.Looks.{Matches, Computes, Checks}
+use Rattle.versioned_graph.specs.Looks.{Matches, Computes}
 use Rattle.dice_core.specs.Makings.{IsMaking, IsMakingFor}
 use Rattle.dice_core.proofs.MakeLemmas.{making_of}
 use Rattle.dice_core.proofs.make.prepare.Goals as goal

@@ -1,15 +1,14 @@
-use Rattle.std.proofs.Common.{◌≡◌, ◌+◌, nat_eq, reverse, length, true, Some, None, refl, sym, ap, ◌∙◌, subst}
+use Rattle.std.proofs.Common.{◌≡◌, ◌+◌, nat_eq, reverse, Some, refl, sym, ap, ◌∙◌, subst}
 use Rattle.std.specs.Prelude.{IsSome}
 use Rattle.std.specs.Map.{lookup}
 use Rattle.std.specs.Option.{option_copied, option_copied_mut}
 use Rattle.std.specs.Arc.{arc_value}
 use Rattle.std.proofs.lemmas.List.{length-reverse}
-use Rattle.dice_core.specs.Sessions.{opened_of, session_at, owed}
-use Rattle.dice_core.specs.Cores.{world_of, table_at, core_of}
-use Rattle.dice_core.proofs.JobsLemmas.{table_found, unchanged}
+use Rattle.dice_core.specs.Sessions.{opened_of, session_at}
+use Rattle.dice_core.specs.Cores.{world_of}
+use Rattle.dice_core.proofs.JobsLemmas.{table_found}
 use Rattle.dice_core.proofs.SessionLemmas.{fresh_ask, same_stands}
-use Rattle.dice_core.proofs.OpeningLemmas.{as_before}
-use Rattle.dice_core.proofs.TurnLemmas.{session_open, hand_open, asked_in_stands, asked_turned, kept_core}
+use Rattle.dice_core.proofs.TurnLemmas.{session_open, hand_open, asked_in_stands, asked_turned}
 use Rattle.dice_core.proofs.opening.ask_in.Goals as goal
 
 pub ask_key-requires-clause-hand : goal.ask_key-requires-clause-hand
@@ -19,9 +18,11 @@ ask_key-requires-clause-hand g c κs within =
     let v = c.version-version.result in
     let z : session_at c.args.sessions.now c.args.tx ≡ Some c.in-Some.session.now = sym c.session.ensures ∙ ap option_copied c.in-Some.is in
     let w = session_open (reverse c.args.desk.now.events) c.args.sessions.now c.args.tx c.in-Some.session.now v r.1.sessions z c.version-version.ensures in
-    let table : lookup (nat_eq v) ts ≡ Some c.in-Some-get_mut.tasks.now = sym c.get_mut.ensures.value ∙ ap option_copied_mut c.in-Some-get_mut.is in
-    (world_of g.U.Key.PartialEq.eq ts, r.0,
-        hand_open g.U.Key.PartialEq.eq c.laws_of.ensures.keys g.U.Universe.meaning c.laws_of.ensures.lawful c.args.desk.now ts c.args.graph.now r.0 c.args.sessions.now r.1 v c.args.tx (opened_of c.in-Some.session.now) w.0 w.1 c.in-Some-get_mut.tasks.now (table_found ts v c.in-Some-get_mut.tasks.now table) c.owed-owed.result (c.owed-owed.ensures ∙ c.reserve_ask.ensures.same.owed))
+    let table : lookup (nat_eq v) ts ≡ Some c.in-Some-get_mut.tasks.now = sym c.get_mut.ensures.value ∙ ap option_copied_mut c.in-Some-get_mut.is in (
+      world_of g.U.Key.PartialEq.eq ts,
+      r.0,
+      hand_open g.U.Key.PartialEq.eq c.laws_of.ensures.keys g.U.Universe.meaning c.laws_of.ensures.lawful c.args.desk.now ts c.args.graph.now r.0 c.args.sessions.now r.1 v c.args.tx (opened_of c.in-Some.session.now) w.0 w.1 c.in-Some-get_mut.tasks.now (table_found ts v c.in-Some-get_mut.tasks.now table) c.owed-owed.result (c.owed-owed.ensures ∙ c.reserve_ask.ensures.same.owed),
+    )
 
 pub ask_key-requires-clause-opened : goal.ask_key-requires-clause-opened
 ask_key-requires-clause-opened g c κs within =
@@ -37,7 +38,7 @@ returns-clause-asked g c =
     let w = session_open (reverse c.args.desk.now.events) c.args.sessions.now c.args.tx c.in-Some.session.now v c.requires.stands.1.sessions z c.version-version.ensures in
     let table : lookup (nat_eq v) ts ≡ Some c.in-Some-get_mut.tasks.now = sym c.get_mut.ensures.value ∙ ap option_copied_mut c.in-Some-get_mut.is in
     asked_turned g.U.Key.PartialEq.eq g.U.Universe.meaning (reverse c.args.desk.now.events) c.args.desk.now c.ask_key.new.desk ts _ v c.args.by c.args.tx (arc_value c.args.key) (opened_of c.in-Some.session.now) c.in-Some-get_mut.tasks.now c.ask_key.new.tasks w.0 w.1 (table_found ts v c.in-Some-get_mut.tasks.now table)
-        ((c.get_mut.follows.holds c.ask_key.new.tasks).3 (subst IsSome (sym table) refl)).0 c.in_ok-index.ensures.asked
+    ((c.get_mut.follows.holds c.ask_key.new.tasks).3 (subst IsSome (sym table) refl)).0 c.in_ok-index.ensures.asked
 
 pub returns-clause-kept : goal.returns-clause-kept
 returns-clause-kept g c = λ s st.
@@ -48,9 +49,9 @@ returns-clause-kept g c = λ s st.
     let table : lookup (nat_eq v) ts ≡ Some c.in-Some-get_mut.tasks.now = sym c.get_mut.ensures.value ∙ ap option_copied_mut c.in-Some-get_mut.is in
     let R = reverse c.args.desk.now.events in
     asked_in_stands g.U.Key.PartialEq.eq c.laws_of.ensures.keys g.U.Universe.meaning c.laws_of.ensures.lawful c.args.desk.now ts c.args.graph.now s c.args.sessions.now st v c.args.tx (opened_of c.in-Some.session.now) w.0 w.1 c.in-Some-get_mut.tasks.now (table_found ts v c.in-Some-get_mut.tasks.now table) c.owed-owed.result (c.owed-owed.ensures ∙ c.reserve_ask.ensures.same.owed)
-        _ c.ask_key.new.tasks c.ask_key.new.desk c.ask_key.new.graph c.args.by (arc_value c.args.key) c.ask.new.self ((c.get_mut.follows.holds c.ask_key.new.tasks).3 (subst IsSome (sym table) refl)).0 c.in_ok-index.ensures.asked
-        (c.ask.ensures.exact.owed ∙ ap (λ n. n + 1) (sym c.owed-owed.ensures)) (c.in_ok-index.ensures.kept (world_of g.U.Key.PartialEq.eq ts) s)
-        (c.ask.ensures.stands R (same_stands R c.args.sessions.now c.reserve_ask.new.self c.reserve_ask.ensures.same st.sessions) (length-reverse c.args.desk.now.events ∙ sym c.in_ok-index.ensures.index))
+    _ c.ask_key.new.tasks c.ask_key.new.desk c.ask_key.new.graph c.args.by (arc_value c.args.key) c.ask.new.self ((c.get_mut.follows.holds c.ask_key.new.tasks).3 (subst IsSome (sym table) refl)).0 c.in_ok-index.ensures.asked
+    (c.ask.ensures.exact.owed ∙ ap (λ n. n + 1) (sym c.owed-owed.ensures)) (c.in_ok-index.ensures.kept (world_of g.U.Key.PartialEq.eq ts) s)
+    (c.ask.ensures.stands R (same_stands R c.args.sessions.now c.reserve_ask.new.self c.reserve_ask.ensures.same st.sessions) (length-reverse c.args.desk.now.events ∙ sym c.in_ok-index.ensures.index))
 
 pub ask-requires-clause-fresh : goal.ask-requires-clause-fresh
 ask-requires-clause-fresh g c κs within =

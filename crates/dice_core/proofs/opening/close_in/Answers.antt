@@ -8,7 +8,7 @@ use Rattle.dice_core.specs.Cores.{world_of, table_at}
 use Rattle.dice_core.proofs.SessionLemmas.{close_fits}
 use Rattle.dice_core.proofs.JobsLemmas.{table_found, none_found}
 use Rattle.dice_core.proofs.TurnLemmas.{opened_some}
-use Rattle.dice_core.proofs.ClosedLemmas.{closing_at, closing_hand, closed_on, closed_away, closed_tasks, thrown_tasks, put_away}
+use Rattle.dice_core.proofs.ClosedLemmas.{closing_at, closing_hand, closed_on, closed_away, thrown_tasks, put_away}
 use Rattle.dice_core.proofs.opening.close_in.Goals as goal
 
 pub close-requires-after_bounds : goal.close-requires-after_bounds
@@ -80,7 +80,7 @@ returns-then-open_count-ne0-clause-kept g c = λ es s st.
     let put = ((c.get_mut.follows.holds qs).3 (subst IsSome (sym table) refl)).0 in
     let left = c.close_asks.ensures.kept (world_of eq ts) es s (closing_hand eq c.laws_of.ensures.keys m c.laws_of.ensures.lawful c.args.desk.now ts es s c.args.sessions.now st v c.args.tx o op refl ps found (owed c.close.new.self + 1) c.in-Some.ensures.some.owed) in
     closed_on eq c.laws_of.ensures.keys m c.laws_of.ensures.lawful c.args.desk.now ts _ es s c.args.sessions.now c.close_asks.new.sessions st v c.args.tx o op refl ps qs found put c.close_asks.new.desk c.close_asks.ensures.sessions c.close_asks.ensures.counts left
-        c.open_count.result c.open_count.ensures c.if-open_count-ne0.true
+    c.open_count.result c.open_count.ensures c.if-open_count-ne0.true
 
 pub returns-clause-log : goal.returns-clause-log
 returns-clause-log g c =
@@ -126,4 +126,4 @@ returns-clause-kept g c = λ es s st.
     let put = ((c.get_mut.follows.holds qs).3 (subst IsSome (sym table) refl)).0 in
     let left = c.close_asks.ensures.kept (world_of eq ts) es s (closing_hand eq c.laws_of.ensures.keys m c.laws_of.ensures.lawful c.args.desk.now ts es s c.args.sessions.now st v c.args.tx o op refl ps found (owed c.close.new.self + 1) c.in-Some.ensures.some.owed) in
     closed_away eq c.laws_of.ensures.keys m c.laws_of.ensures.lawful c.args.desk.now ts _ es s c.args.sessions.now c.close_asks.new.sessions st v c.args.tx o op refl ps qs found put c.close_asks.new.desk c.close_asks.ensures.sessions c.close_asks.ensures.counts left
-        _ c.remove.ensures.updates.0 c.open_count.result c.open_count.ensures c.if-open_count-ne0.false
+    _ c.remove.ensures.updates.0 c.open_count.result c.open_count.ensures c.if-open_count-ne0.false

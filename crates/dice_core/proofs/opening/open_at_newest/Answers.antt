@@ -1,6 +1,5 @@
-use Rattle.std.proofs.Common.{◌≡◌, ◌<◌, ◌∷◌, reverse, length, refl, sym, ap, ◌∙◌, subst}
+use Rattle.std.proofs.Common.{◌<◌, reverse, sym, ◌∙◌, subst}
 use Rattle.std.proofs.lemmas.List.{length-reverse}
-use Rattle.journal.specs.declared.event.Told.TheVariants.{Open}
 use Rattle.dice_core.specs.Hands.{HasDeskRoom}
 use Rattle.dice_core.specs.Cores.{CoreStands, core_of}
 use Rattle.dice_core.proofs.SessionLemmas.{fresh_transaction, open_fits}
@@ -25,7 +24,7 @@ returns-clause-kept g c = λ es s st newest.
     let us = c.place_table.new.versions.entries in
     let R = reverse c.args.desk.now.events in
     subst (λ d. CoreStands eq m (core_of d us es s c.open.new.self)) (sym c.push.ensures)
-        (opened_stands eq c.laws_of.ensures.keys m c.laws_of.ensures.lawful c.args.by c.args.newest c.in_ok-index.index c.args.desk.now c.reserve.new.self ts us es s c.args.sessions.now c.open.new.self st c.reserve.ensures.same
-            (subst (λ n. HasDeskRoom n 2 0 c.reserve.new.self) c.owed.ensures c.in_ok-reserve.ensures.ok)
-            (same_tables eq c.laws_of.ensures.keys m c.laws_of.ensures.lawful ts us c.place_table.ensures.same) c.place_table.ensures.same c.place_table.ensures.stays c.in_ok-place_table.ensures.ok
-            c.in_ok-open.ensures.ok.owed (c.in_ok-open.ensures.stands R st.sessions (length-reverse c.args.desk.now.events ∙ sym c.in_ok-index.ensures.0)) newest)
+    (opened_stands eq c.laws_of.ensures.keys m c.laws_of.ensures.lawful c.args.by c.args.newest c.in_ok-index.index c.args.desk.now c.reserve.new.self ts us es s c.args.sessions.now c.open.new.self st c.reserve.ensures.same
+    (subst (λ n. HasDeskRoom n 2 0 c.reserve.new.self) c.owed.ensures c.in_ok-reserve.ensures.ok)
+    (same_tables eq c.laws_of.ensures.keys m c.laws_of.ensures.lawful ts us c.place_table.ensures.same) c.place_table.ensures.same c.place_table.ensures.stays c.in_ok-place_table.ensures.ok
+    c.in_ok-open.ensures.ok.owed (c.in_ok-open.ensures.stands R st.sessions (length-reverse c.args.desk.now.events ∙ sym c.in_ok-index.ensures.0)) newest)

@@ -1,5 +1,4 @@
-use Rattle.std.proofs.Common.{ℕ, arith, ap, ◌∙◌, length, map, subst}
-use Rattle.std.specs.Prelude.{IfNone}
+use Rattle.std.proofs.Common.{ℕ, arith, ap, ◌∙◌, length, map}
 use Rattle.std.specs.Arc.{arc_value}
 use Rattle.std.proofs.lemmas.List.Edits.{length-swap}
 use Rattle.dice_model.specs.Log.{AreDistinct}

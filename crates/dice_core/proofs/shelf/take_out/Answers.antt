@@ -1,4 +1,4 @@
-use Rattle.std.proofs.Common.{ℕ, ◌≡◌, ◌<◌, ◌+◌, arith, ap, ◌∙◌, sym, Some, get_or, slice_get, length, map, subst}
+use Rattle.std.proofs.Common.{ℕ, ◌≡◌, ◌<◌, ◌+◌, arith, ap, ◌∙◌, Some, get_or, slice_get, length, map}
 use Rattle.std.specs.Arc.{arc_value}
 use Rattle.std.specs.List.{swap_remove}
 use Rattle.std.proofs.lemmas.Option.{slice_get-get_or}

@@ -1,4 +1,4 @@
-use Rattle.std.proofs.Common.{◌≡◌, ◌++◌, ◌∷◌, [], refl, subst, ap, ◌∙◌, arith}
+use Rattle.std.proofs.Common.{◌++◌, refl, subst, ap, ◌∙◌, arith}
 use Rattle.std.specs.Prelude.{IsSome, option_to_list}
 use Rattle.dice_core.proofs.ParkLemmas.{room_more, asks_more, asks_none, fits_asker, fits_wait, none_left}
 use Rattle.dice_core.proofs.wait.add_waits.Goals as goal

@@ -6,7 +6,7 @@ use Rattle.dice_core.proofs.wait.put_back.Goals as goal
 pub returns-in_default-clause-other : goal.returns-in_default-clause-other
 returns-in_default-clause-other g c =
     not_out g.U.Key.PartialEq.eq c.laws_of.ensures.keys c.args.job.name.version c.args.tasks.now c.args.desk.now c.requires.known c.args.job c.version.result (arc_value c.key.result.now)
-        (c.version.ensures ∙ ap (λ n. n.version) c.name.ensures) (c.key.ensures ∙ ap (λ n. n.key) c.name-2.ensures) c.in_default.ensures.none
+    (c.version.ensures ∙ ap (λ n. n.version) c.name.ensures) (c.key.ensures ∙ ap (λ n. n.key) c.name-2.ensures) c.in_default.ensures.none
 
 pub returns-clause-same : goal.returns-clause-same
 returns-clause-same g c =

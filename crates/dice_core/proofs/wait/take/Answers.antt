@@ -1,7 +1,6 @@
 use Rattle.std.proofs.Common.{[]}
-use Rattle.std.specs.Arc.{arc_value}
 use Rattle.dice_core.specs.Shelves.{place_of}
-use Rattle.dice_core.proofs.TakeLemmas.{next_ready_is, takes_so, some_last}
+use Rattle.dice_core.proofs.TakeLemmas.{next_ready_is, takes_so}
 use Rattle.dice_core.proofs.WaitLemmas.{takes_on}
 use Rattle.dice_core.proofs.wait.take.Goals as goal
 

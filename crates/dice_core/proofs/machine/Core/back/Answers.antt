@@ -11,4 +11,4 @@ pub returns-clause-other : goal.returns-clause-other
 returns-clause-other g c =
     let s = c.self.inside in
     subst (λ (v : CoreSeen g.row.U-Key.Denot g.row.U-Value.Denot). IfSome c.bring_back.result (λ j. (j ≡ c.args.job) × IsAsBefore g.U.Key.PartialEq.eq v (core_of c.bring_back.new.desk c.bring_back.new.versions.entries s.graph s.cells s.sessions) × (IsJobOut g.U.Key.PartialEq.eq v c.args.job → ⊥))) c.self.view_is
-        (some_map c.bring_back.result _ _ c.bring_back.ensures.other (λ j h. (h.0, h.1 s.graph s.cells s.sessions, h.2)))
+    (some_map c.bring_back.result _ _ c.bring_back.ensures.other (λ j h. (h.0, h.1 s.graph s.cells s.sessions, h.2)))

@@ -1,9 +1,7 @@
-use Rattle.std.proofs.Common.{sym, subst, reverse}
-use Rattle.std.specs.Prelude.{OnOk, OnErr}
-use Rattle.std.specs.List.{AllByRecursion}
+use Rattle.std.proofs.Common.{sym, subst}
+use Rattle.std.specs.Prelude.{OnErr}
 use Rattle.dice_model.specs.Log.{pairs_of}
-use Rattle.journal.specs.Law.{IsAllowed}
-use Rattle.dice_core.specs.Commits.{Commits, differing_of, event_of}
+use Rattle.dice_core.specs.Commits.{differing_of}
 use Rattle.dice_core.specs.Cores.{CoreSeen, CoreStands, IsAsBefore, core_of}
 use Rattle.dice_core.proofs.ResultLemmas.{either_way, both_ok, on_err, newest_below, uncommitted, committed_stands}
 use Rattle.dice_core.proofs.CoreLemmas.{stands_same}
@@ -22,8 +20,8 @@ invariant_of-self g c =
     let left = differing_of eq g.U.Value.PartialEq.eq m s.cells (pairs_of c.args.changes.now) in
     subst (λ gs. CoreStands eq m (core_of c.commit.new.desk s.versions.entries gs c.commit.new.cells s.sessions)) (sym c.commit.ensures.graph)
     (either_way c.commit.result _ _ _ (both_ok c.commit.result _ _ c.commit.ensures.ok c.commit.ensures.allowed) c.commit.ensures.err
-        (λ w. committed_stands eq c.laws_of.ensures.keys m c.laws_of.ensures.lawful s.desk c.commit.new.desk s.versions.entries s.graph s.cells c.commit.new.cells s.sessions c.self.invariant c.commit.ensures.hands cells c.args.by left w.0 (w.1 c.self.invariant.cells))
-        (λ b. stands_same eq c.laws_of.ensures.keys m c.laws_of.ensures.lawful _ _ (uncommitted eq c.laws_of.ensures.keys m c.laws_of.ensures.lawful s.desk c.commit.new.desk s.versions.entries s.graph s.cells c.commit.new.cells s.sessions c.self.invariant c.commit.ensures.hands cells b.events b.sets b.last) c.self.invariant))
+    (λ w. committed_stands eq c.laws_of.ensures.keys m c.laws_of.ensures.lawful s.desk c.commit.new.desk s.versions.entries s.graph s.cells c.commit.new.cells s.sessions c.self.invariant c.commit.ensures.hands cells c.args.by left w.0 (w.1 c.self.invariant.cells))
+    (λ b. stands_same eq c.laws_of.ensures.keys m c.laws_of.ensures.lawful _ _ (uncommitted eq c.laws_of.ensures.keys m c.laws_of.ensures.lawful s.desk c.commit.new.desk s.versions.entries s.graph s.cells c.commit.new.cells s.sessions c.self.invariant c.commit.ensures.hands cells b.events b.sets b.last) c.self.invariant))
 
 pub returns-clause-err : goal.returns-clause-err
 returns-clause-err g c =
@@ -33,4 +31,4 @@ returns-clause-err g c =
     let cells = c.commit.ensures.kept c.self.invariant.cells in
     subst (λ (v : CoreSeen g.row.U-Key.Denot g.row.U-Value.Denot). OnErr c.commit.result (IsAsBefore eq v (core_of c.commit.new.desk s.versions.entries c.commit.new.graph c.commit.new.cells s.sessions))) c.self.view_is
     (subst (λ gs. OnErr c.commit.result (IsAsBefore eq (core_of s.desk s.versions.entries s.graph s.cells s.sessions) (core_of c.commit.new.desk s.versions.entries gs c.commit.new.cells s.sessions))) (sym c.commit.ensures.graph)
-        (on_err c.commit.result _ _ c.commit.ensures.err (λ b. uncommitted eq c.laws_of.ensures.keys m c.laws_of.ensures.lawful s.desk c.commit.new.desk s.versions.entries s.graph s.cells c.commit.new.cells s.sessions c.self.invariant c.commit.ensures.hands cells b.events b.sets b.last)))
+    (on_err c.commit.result _ _ c.commit.ensures.err (λ b. uncommitted eq c.laws_of.ensures.keys m c.laws_of.ensures.lawful s.desk c.commit.new.desk s.versions.entries s.graph s.cells c.commit.new.cells s.sessions c.self.invariant c.commit.ensures.hands cells b.events b.sets b.last)))

@@ -1,4 +1,4 @@
-use Rattle.std.proofs.Common.{◌≡◌, ◌↔◌, ◌++◌, IsTrue, List, Some, map, subst}
+use Rattle.std.proofs.Common.{◌≡◌, ◌↔◌, ◌++◌, IsTrue, List, map, subst}
 use Rattle.dice_model.specs.Log.{Has}
 use Rattle.journal.specs.declared.event.Told.TheVariants.{Lost, Drop}
 use Rattle.dice_core.specs.Cores.{CoreSeen, IsNameOut, GivesUpOnly, core_of, events_of}
@@ -15,7 +15,7 @@ returns-clause-out g c =
     let eq = g.U.Key.PartialEq.eq in
     let n = c.args.name.now in
     subst (λ (v : CoreSeen g.row.U-Key.Denot g.row.U-Value.Denot). IsTrue c.fail_named.result ↔ IsNameOut eq v n) c.self.view_is
-        (named_iff c.fail_named.result (IsJobNamed eq n (table_at c.self.inside.versions.entries n.version)) (λ f. (c.fail_named.ensures.other f).0) (λ t. (c.fail_named.ensures.failed t).0))
+    (named_iff c.fail_named.result (IsJobNamed eq n (table_at c.self.inside.versions.entries n.version)) (λ f. (c.fail_named.ensures.other f).0) (λ t. (c.fail_named.ensures.failed t).0))
 
 pub returns-clause-log : goal.returns-clause-log
 returns-clause-log g c = λ t.
@@ -23,7 +23,7 @@ returns-clause-log g c = λ t.
     let f = (c.fail_named.ensures.failed t).1 in
     let n = c.args.name.now in
     subst (λ (v : CoreSeen g.row.U-Key.Denot g.row.U-Value.Denot). (ls ks : List g.row.U-Key.Denot) × Has ls n.key × (c.fail_named.new.desk.events ≡ events_of v ++ (map (Lost n.version) ls ++ map (Drop n.version) ks))) c.self.view_is
-        (lost_log g.U.Key.PartialEq.eq c.laws_of.ensures.keys g.U.Universe.meaning c.laws_of.ensures.lawful s.desk c.fail_named.new.desk s.versions.entries c.fail_named.new.versions.entries s.graph s.graph s.cells s.sessions s.sessions n.version n.key f.tasks f.put f.turned)
+    (lost_log g.U.Key.PartialEq.eq c.laws_of.ensures.keys g.U.Universe.meaning c.laws_of.ensures.lawful s.desk c.fail_named.new.desk s.versions.entries c.fail_named.new.versions.entries s.graph s.graph s.cells s.sessions s.sessions n.version n.key f.tasks f.put f.turned)
 
 pub returns-clause-tasks : goal.returns-clause-tasks
 returns-clause-tasks g c = λ t.
@@ -31,4 +31,4 @@ returns-clause-tasks g c = λ t.
     let f = (c.fail_named.ensures.failed t).1 in
     let n = c.args.name.now in
     subst (λ (v : CoreSeen g.row.U-Key.Denot g.row.U-Value.Denot). GivesUpOnly g.U.Key.PartialEq.eq v (core_of c.fail_named.new.desk c.fail_named.new.versions.entries s.graph s.cells s.sessions)) c.self.view_is
-        (gives_up_only g.U.Key.PartialEq.eq c.laws_of.ensures.keys g.U.Universe.meaning c.laws_of.ensures.lawful s.desk c.fail_named.new.desk s.versions.entries c.fail_named.new.versions.entries s.graph s.graph s.cells s.sessions s.sessions n.version n.key f.tasks f.put f.turned)
+    (gives_up_only g.U.Key.PartialEq.eq c.laws_of.ensures.keys g.U.Universe.meaning c.laws_of.ensures.lawful s.desk c.fail_named.new.desk s.versions.entries c.fail_named.new.versions.entries s.graph s.graph s.cells s.sessions s.sessions n.version n.key f.tasks f.put f.turned)

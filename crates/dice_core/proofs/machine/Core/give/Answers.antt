@@ -1,5 +1,5 @@
 use Rattle.std.proofs.Common.{subst}
-use Rattle.std.specs.Prelude.{OnOk, OnErr}
+use Rattle.std.specs.Prelude.{OnErr}
 use Rattle.dice_core.specs.Cores.{CoreSeen, IsJobOut, IsAsBefore, core_of}
 use Rattle.dice_core.proofs.CoreLemmas.{stands_same}
 use Rattle.dice_core.proofs.ResultLemmas.{either_way, on_err}
@@ -8,11 +8,11 @@ use Rattle.dice_core.proofs.machine.Core.give.Goals as goal
 pub invariant_of-self : goal.invariant_of-self
 invariant_of-self g c =
     either_way c.give_in.result _ _ _ c.give_in.ensures.kept c.give_in.ensures.err
-        (λ k. k c.self.inside.sessions c.owed-owed.ensures c.self.invariant)
-        (λ b. stands_same g.U.Key.PartialEq.eq c.laws_of.ensures.keys g.U.Universe.meaning c.laws_of.ensures.lawful _ _ (b.1 c.self.inside.sessions) c.self.invariant)
+    (λ k. k c.self.inside.sessions c.owed-owed.ensures c.self.invariant)
+    (λ b. stands_same g.U.Key.PartialEq.eq c.laws_of.ensures.keys g.U.Universe.meaning c.laws_of.ensures.lawful _ _ (b.1 c.self.inside.sessions) c.self.invariant)
 
 pub returns-clause-err : goal.returns-clause-err
 returns-clause-err g c =
     let s = c.self.inside in
     subst (λ (v : CoreSeen g.row.U-Key.Denot g.row.U-Value.Denot). OnErr c.give_in.result (IsJobOut g.U.Key.PartialEq.eq v c.args.step.job × IsAsBefore g.U.Key.PartialEq.eq v (core_of c.give_in.new.desk c.give_in.new.versions.entries c.give_in.new.graph s.cells s.sessions))) c.self.view_is
-        (on_err c.give_in.result _ _ c.give_in.ensures.err (λ b. (b.0, b.1 s.sessions)))
+    (on_err c.give_in.result _ _ c.give_in.ensures.err (λ b. (b.0, b.1 s.sessions)))

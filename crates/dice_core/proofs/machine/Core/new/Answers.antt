@@ -11,5 +11,5 @@ invariant_of-result g c =
     let s = c.new-cells.result in
     let x = c.new-sessions.result in
     subst (λ d. CoreStands eq m (core_of d ts c.new-graph.result s x)) (sym c.new-desk.ensures)
-        (subst (λ es. CoreStands eq m (core_of _ ts es s x)) (sym c.new-graph.ensures)
-        (core_first eq c.laws_of.ensures.keys m c.laws_of.ensures.lawful ts s x c.new-versions.ensures.empty c.new-cells.ensures.sets c.new-cells.ensures.last c.new-sessions.ensures.owed c.new-sessions.ensures.stands))
+    (subst (λ es. CoreStands eq m (core_of _ ts es s x)) (sym c.new-graph.ensures)
+    (core_first eq c.laws_of.ensures.keys m c.laws_of.ensures.lawful ts s x c.new-versions.ensures.empty c.new-cells.ensures.sets c.new-cells.ensures.last c.new-sessions.ensures.owed c.new-sessions.ensures.stands))

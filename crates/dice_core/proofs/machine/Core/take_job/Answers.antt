@@ -11,4 +11,4 @@ pub returns-clause-some : goal.returns-clause-some
 returns-clause-some g c =
     let s = c.self.inside in
     subst (λ (v : CoreSeen g.row.U-Key.Denot g.row.U-Value.Denot). IfSome c.take_next.result (λ j. TakesOut g.U.Key.PartialEq.eq j v (core_of c.take_next.new.desk c.take_next.new.versions.entries s.graph s.cells s.sessions))) c.self.view_is
-        (some_out g.U.Key.PartialEq.eq c.laws_of.ensures.keys g.U.Universe.meaning c.laws_of.ensures.lawful s.desk c.take_next.new.desk s.versions.entries c.take_next.new.versions.entries s.graph s.graph s.cells s.sessions s.sessions c.take_next.result c.take_next.ensures.some)
+    (some_out g.U.Key.PartialEq.eq c.laws_of.ensures.keys g.U.Universe.meaning c.laws_of.ensures.lawful s.desk c.take_next.new.desk s.versions.entries c.take_next.new.versions.entries s.graph s.graph s.cells s.sessions s.sessions c.take_next.result c.take_next.ensures.some)

@@ -1,7 +1,5 @@
 use Rattle.std.proofs.Common.{◌≡◌, Bool, true, false, not, ◌∙◌, refl, sym, rules}
 use Rattle.std.proofs.lemmas.Bool.{false≢true}
-use Rattle.core_laws.specs.Tasks.{IsOut}
-use Rattle.dice_core.specs.Helds.{held_of}
 use Rattle.dice_core.specs.declared.task.Load.TheVariants.{Away}
 use Rattle.dice_core.proofs.Tasks.{back_loaded, same_out, kept_away}
 use Rattle.dice_core.proofs.task.Task.back.Goals as goal

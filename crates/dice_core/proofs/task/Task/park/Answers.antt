@@ -1,8 +1,6 @@
-use Rattle.std.proofs.Common.{sym, subst, ◌∙◌}
+use Rattle.std.proofs.Common.{◌∙◌}
 use Rattle.core_laws.specs.Tasks.{IsWaiting}
-use Rattle.dice_core.specs.Loads.{IsLoaded}
-use Rattle.dice_core.specs.declared.task.Load.TheVariants.{Parked}
-use Rattle.dice_core.proofs.Tasks.{away_is, held_is, loaded_parked}
+use Rattle.dice_core.proofs.Tasks.{away_is, held_is}
 use Rattle.dice_core.proofs.task.Task.park.Goals as goal
 
 pub given-requires : goal.given-requires
