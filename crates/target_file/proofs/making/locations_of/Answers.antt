@@ -1,4 +1,5 @@
-use Rattle.std.proofs.Common.{◌≡◌, ◌∙◌, sym, subst, refl, arith}
+use Rattle.std.proofs.Common.{◌∙◌, sym, ap, subst, List, ℕ}
+use Rattle.std.specs.declared.vec.Vec.{Vec}
 use Rattle.buck_label.specs.Labels.{IsSomeLabel}
 use Rattle.target_file.proofs.Judging.{located_is}
 use Rattle.target_file.proofs.Gathering.{opened, label_more, label_same, command_more}
@@ -16,8 +17,11 @@ pub loop-i-preserved : goal.loop-i-preserved
 loop-i-preserved c = record {
   so_far = elim c.if-opens.branch [
     | then-opens+in_ok-of+in_ok-push w ↦
-        ?
-    | else-opens w ↦ ?
+        label_more c.args.text.now c.loop-i.i c.opens.result c.loop-i.labels.items c.if-opens.labels.items w.in_ok-of.field-0 c.loop-i-test.true c.loop-i.invariant.so_far c.opens.ensures w.if-opens.true
+        (ap (λ (v : Vec (List ℕ) _). v.items) w.labels-is ∙ w.in_ok-push.ensures.items) (w.in_ok-of.ensures ∙ w.label_in.ensures)
+    | else-opens w ↦
+        label_same c.args.text.now c.loop-i.i c.opens.result c.loop-i.labels.items c.if-opens.labels.items c.loop-i-test.true c.loop-i.invariant.so_far c.opens.ensures w.if-opens.false
+        (ap (λ (v : Vec (List ℕ) _). v.items) w.labels-is)
   ];
   command = command_more c.args.text.now c.loop-i.i c.loop-i-test.true c.loop-i.invariant.command;
 }
