@@ -89,10 +89,10 @@ other_says b x g = elim (bool_cases (nat_eq b 47)) [
       rw t (alike_say (is_slashed x) ((n : Name) × IsLabel (b ∷ x) n) (IsSomeLabel (b ∷ x)) (λ l. (l.0, inl l.1)) (absolute_only b x g) s)
   | inr f ↦
       rw f (λ l.
-          let a = absolute_only b x g l in
-          let r = two_slashes (b ∷ x) a.0 a.1 in
-          let e : b ≡ 47 = let i = r.1 in cc in
-          let k : nat_eq 47 47 ≡ false = subst (λ (c : ℕ). nat_eq c 47 ≡ false) e f in cc)
+      let a = absolute_only b x g l in
+      let r = two_slashes (b ∷ x) a.0 a.1 in
+      let e : b ≡ 47 = let i = r.1 in cc in
+      let k : nat_eq 47 47 ≡ false = subst (λ (c : ℕ). nat_eq c 47 ≡ false) e f in cc)
 ]
 
 pub label_says : (x : List ℕ) → Says (is_some_label x) (IsSomeLabel x)

@@ -103,9 +103,9 @@ default r a v xs e n =
     let f : default_of r a (text_in (given Name xs)) ≡ Some v = subst (λ (m : List ℕ). default_of r a m ≡ Some v) (name_is r xs) e in
     let k : given Name (xs ++ Given a v ∷ []) ≡ given Name xs = name_kept xs a v (no_default r (text_in (given Name xs)) a v f) in
     by_values r (xs ++ Given a v ∷ []) xs (λ b.
-        ap (λ (o : Option Value). option_or (given b (xs ++ Given a v ∷ [])) (default_of r b (text_in o))) k
-        ∙ ap (λ (o : Option Value). option_or o (default_of r b (text_in (given Name xs)))) (given_end b xs (Given a v))
-        ∙ written r (text_in (given Name xs)) a b v (given b xs) (same_attribute b a) (same_says b a) f (λ h. not_given b xs (λ m. n (subst (Has (attributes xs)) (sym h) m))))
+    ap (λ (o : Option Value). option_or (given b (xs ++ Given a v ∷ [])) (default_of r b (text_in o))) k
+    ∙ ap (λ (o : Option Value). option_or o (default_of r b (text_in (given Name xs)))) (given_end b xs (Given a v))
+    ∙ written r (text_in (given Name xs)) a b v (given b xs) (same_attribute b a) (same_says b a) f (λ h. not_given b xs (λ m. n (subst (Has (attributes xs)) (sym h) m))))
 
 -- the names of calls are those of their targets
 calls_names : (cs : List Call) → AllByRecursion IsFine cs → names cs ≡ names_of (map located cs)
