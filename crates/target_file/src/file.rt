@@ -57,7 +57,7 @@ impl File {
         self.targets.as_slice()
     }
 
-    /// The target of this name, found by its hash.
+    /// The target of this name, in logarithmic time.
     pub fn target(&self, name: &[u8]) -> Option<&Arc<Target>>
         ensures { option_map (λ t. arc_value t.now) result ≡ target_named name.now self.now }
     {

@@ -51,7 +51,7 @@ pub fn is_command(text: &[u8]) -> bool
 fn is_fine(rest: &[u8]) -> bool
     ensures { (result ≡ true) ↔ (starts_with nat_eq rest.now opener ≡ true → IsLocated (drop 11 rest.now)) }
 {
-    !rest.starts_with(b"$(location ") || is_located(&rest[11..])
+    !opens(rest) || is_located(&rest[11..])
 }
 
 /// Whether a label and a closing parenthesis stand in front. (A label has at most 513 bytes.)
