@@ -1,5 +1,5 @@
 -- What is found in arguments, lists and commands, one after the other.
-use Rattle.std.proofs.Common.{◌≡◌, ◌<◌, ◌+◌, ◌-◌, ◌∙◌, sym, ap, refl, subst, ℕ, zero, suc, Bool, true, false, if◌then◌else◌, nat_eq, List, [], ◌∷◌, ◌++◌, append_assoc, length, take, drop, get_or, Option, Some, None, map, arith}
+use Rattle.std.proofs.Common.{◌≡◌, ◌<◌, ◌+◌, ◌-◌, ◌∙◌, sym, ap, refl, subst, ℕ, zero, suc, Bool, true, false, if◌then◌else◌, nat_eq, List, [], ◌∷◌, ◌++◌, append_assoc, length, take, drop, get_or, Option, Some, None, arith}
 use Rattle.std.specs.List.{AllByRecursion, starts_with}
 use Rattle.std.specs.Option.{option_or}
 use Rattle.std.specs.declared.vec.Vec.{Vec}
@@ -18,7 +18,7 @@ use Rattle.target_file.specs.Files.{Has, attributes}
 use Rattle.target_file.specs.Targets.{given, text_in, list_in}
 use Rattle.target_file.proofs.Saying.{Says}
 use Rattle.target_file.proofs.Deciding.{same_says}
-use Rattle.target_file.proofs.Locations.{FineAt, NoClose, cut_close, slice_is, command_step}
+use Rattle.target_file.proofs.Locations.{NoClose, cut_close, slice_is, command_step}
 use Rattle.target_file.proofs.Judging.{before_is}
 use Rattle.target_file.proofs.Meaning.{Fits, Tested, Whole, given_fits, has_given, path_in, path_there, path_name, sources_in}
 

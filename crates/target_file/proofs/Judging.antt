@@ -1,5 +1,5 @@
 -- Whether a text is a label, a source or a command.
-use Rattle.std.proofs.Common.{◌≡◌, ◌≢◌, ◌⊎◌, ◌<◌, ◌≤◌, ◌+◌, ◌∙◌, sym, ap, refl, subst, inl, inr, ℕ, suc, Bool, true, false, not, if◌then◌else◌, ◌&&◌, ◌||◌, nat_eq, nat_lt, List, [], ◌∷◌, ◌++◌, length, take, drop, codes, arith}
+use Rattle.std.proofs.Common.{◌≡◌, ◌⊎◌, ◌≤◌, ◌∙◌, sym, ap, refl, subst, inl, inr, ℕ, suc, Bool, true, false, not, if◌then◌else◌, ◌&&◌, ◌||◌, nat_eq, nat_lt, List, [], ◌∷◌, ◌++◌, length, take, drop, arith}
 use Rattle.std.specs.List.{list_all, AllByRecursion, starts_with}
 use Rattle.std.specs.Str.{bytes_eq}
 use borrow.Author.Tests.{ltb-true, ltb-false}
@@ -11,7 +11,7 @@ use Rattle.target_file.specs.Strings.{source_is, is_label_like, IsSource, IsLoca
 use Rattle.target_file.specs.Contents.{is_path, is_absolute, is_slashed, is_some_label, is_source, has_close, is_located, is_command}
 use Rattle.target_file.proofs.Fresh.{bool_cases}
 use Rattle.target_file.proofs.Locations.{NoClose}
-use Rattle.target_file.proofs.Saying.{Says, both_say, number_says, bytes_say, path_says}
+use Rattle.target_file.proofs.Saying.{Says, both_say, bytes_say, path_says}
 
 pub alike_say : (b : Bool) (P Q : Type 0) → (P → Q) → (Q → P) → Says b P → Says b Q
 alike_say true P Q f g s = f s

@@ -5,18 +5,17 @@ use Rattle.std.specs.List.{AllByRecursion, list_any}
 use Rattle.std.specs.Str.{bytes_eq}
 use Rattle.std.specs.Cmp.Lexicographic.{pointwise}
 use Rattle.buck_label.specs.Paths.{IsPath}
-use Rattle.buck_label.specs.Labels.{IsSomeLabel}
 use Rattle.target_file.specs.declared.table.Rule.{Rule}
 use Rattle.target_file.specs.declared.table.Rule.TheVariants as rule
 use Rattle.target_file.specs.declared.table.Attribute.{Attribute}
-use Rattle.target_file.specs.declared.table.Attribute.TheVariants.{Name, Visibility, Labels, Src, Srcs, Out, Content, Cmd}
+use Rattle.target_file.specs.declared.table.Attribute.TheVariants.{Name, Src, Srcs, Out, Cmd}
 use Rattle.target_file.specs.declared.table.Form.{Form}
 use Rattle.target_file.specs.declared.table.Form.TheVariants as form
 use Rattle.target_file.specs.Table.{same_attribute, form_of, needed}
 use Rattle.target_file.specs.Strings.{source_is, is_label_like, IsSource, IsCommand}
 use Rattle.target_file.specs.Calls.{Value, One, Many, Argument, Call}
 use Rattle.target_file.specs.Files.{Has, AreDistinct, Belongs, IsFine, attributes, name_in, names_in}
-use Rattle.target_file.specs.Targets.{Located, IsSourceText, IsSound, source_of, text_in, list_in, given, default_of, action_by, value_of, target_of, located, target_named}
+use Rattle.target_file.specs.Targets.{Located, IsSourceText, IsSound, source_of, text_in, list_in, given, action_by, value_of, target_of, located, target_named}
 use Rattle.target_file.specs.Names.{is_named, number_from}
 use Rattle.target_file.specs.Lent.{number_at}
 use Rattle.target_file.proofs.Fresh.{bool_cases}

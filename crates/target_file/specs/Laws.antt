@@ -1,5 +1,5 @@
 -- Equality of targets and of files is exact.
-use Rattle.std.specs.Prelude.{◌≡◌, ◌&&◌, ℕ, Bool, true, false, nat_eq, List, refl}
+use Rattle.std.specs.Prelude.{◌≡◌, ◌&&◌, ℕ, true, nat_eq, List, refl}
 use Rattle.std.specs.Bool.{Decides}
 use Rattle.std.specs.Str.{bytes_eq}
 use Rattle.std.specs.Cmp.{IsEquivalence, decided, unsigned_Decides}

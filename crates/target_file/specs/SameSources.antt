@@ -1,5 +1,5 @@
 -- Equality of sources is exact.
-use Rattle.std.specs.Prelude.{◌≡◌, Bool, true, nat_eq, List, refl}
+use Rattle.std.specs.Prelude.{◌≡◌, Bool, true, List, refl}
 use Rattle.std.specs.Bool.{Decides}
 use Rattle.std.specs.Cmp.{IsEquivalence, decided}
 use Rattle.std.specs.Cmp.Lexicographic.{pointwise, bytes_decides, pointwise_decides}

@@ -1,4 +1,4 @@
-use Rattle.std.proofs.Common.{◌∙◌, sym, ap, rules, Some}
+use Rattle.std.proofs.Common.{◌∙◌, sym, rules}
 use denote.Enum.Bare.{same_true, same_false}
 use Rattle.target_file.specs.contracts.table.Attribute.{the_type}
 use Rattle.target_file.proofs.Having.{drop_item}

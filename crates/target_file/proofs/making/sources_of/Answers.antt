@@ -1,4 +1,4 @@
-use Rattle.std.proofs.Common.{ap, subst, sym}
+use Rattle.std.proofs.Common.{subst, sym}
 use Rattle.target_file.specs.Strings.{IsSource}
 use Rattle.target_file.proofs.Gathering.{source_at}
 use Rattle.target_file.proofs.making.sources_of.Goals as goal
