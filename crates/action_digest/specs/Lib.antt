@@ -1,3 +1,4 @@
+pub mod Written
 pub mod Actions
 pub mod Buck
 pub mod Same

@@ -2,11 +2,11 @@
 #![tactic(auto)]
 
 mod action;
+mod asked;
 mod buck;
 mod fault;
 mod fronts;
 mod key;
-mod laws;
 mod rule;
 mod run;
 mod value;
@@ -15,10 +15,9 @@ pub use buck::Buck;
 pub use fault::Fault;
 pub use fronts::{ActionKey, DigestKey, PackageKey, RuleKey, SourceKey};
 pub use key::Key;
-pub use laws::every_key_has_a_value;
 pub use rule::Rule;
 pub use run::Run;
-pub use value::Value;
+pub use value::{ActionText, Value};
 
 #[cfg(test)]
 mod tests;
