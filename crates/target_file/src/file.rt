@@ -20,7 +20,7 @@ use std::marker::Model;
 use std::sync::Arc;
 
 /// A target, with the line of its rule's name (1 for the first line).
-#[derive(Debug, Drop)]
+#[derive(Drop)]
 pub struct Located {
     pub line: u64,
     pub target: Arc<Target>,

@@ -1,11 +1,12 @@
 //! Laws of the grammar.
-ghost use Rattle.std.specs.Prelude.{◌≡◌, ◌<◌, ◌^◌, ◌↔◌, ℕ, List, [], length, codes};
-ghost use Rattle.target_file.specs.Calls.{Argument};
+ghost use Rattle.std.specs.Prelude.{◌≡◌, ◌<◌, ◌^◌, ◌↔◌, ◌++◌, ◌∷◌, ℕ, List, [], length, codes, Some};
+ghost use Rattle.target_file.specs.Calls.{Value, Argument};
 ghost use Rattle.target_file.specs.Files.{Has, AreDistinct, IsDead, IsBad, attributes};
-ghost use Rattle.target_file.specs.Targets.{Located, IsFile, names_of, target_of};
-ghost use Rattle.target_file.specs.Meaning.{AreSame, with_default};
+ghost use Rattle.target_file.specs.Targets.{Located, IsFile, names_of, default_of, target_of};
+ghost use Rattle.target_file.specs.Meaning.{AreSame};
 ghost use Rattle.target_file.specs.Rows.{w_text, w_file};
-ghost use Rattle.target_file.specs.declared.table.Attribute.TheVariants.{Out};
+ghost use Rattle.target_file.specs.declared.table.Attribute.{Attribute};
+ghost use Rattle.target_file.specs.declared.table.Rule.{Rule};
 ghost use Rattle.target_file.specs.Contents.{Holds, Fails, contents};
 
 /// The contents of a text, which are one value, are those of the grammar: a text is a file, and then one list
@@ -15,11 +16,11 @@ pub fn contents_by_grammar()
     ensures bad { (text : List ℕ) (line : ℕ) → length text < 2 ^ 64 → (contents text ≡ Fails line) ↔ IsBad text line }
 {}
 
-/// What does not count in a call: the order of its attributes, and whether the default of `out` is written. And
-/// no two targets of a file have the same name.
+/// What does not count in a call: the order of its attributes, and whether a default is written out. And no two
+/// targets of a file have the same name.
 pub fn calls_by_meaning()
-    ensures order { (xs ys : List Argument) → AreSame xs ys → target_of xs ≡ target_of ys }
-    ensures default { (xs : List Argument) → (Has (attributes xs) Out → ⊥) → target_of (with_default xs) ≡ target_of xs }
+    ensures order { (r : Rule) (xs ys : List Argument) → AreSame xs ys → target_of r xs ≡ target_of r ys }
+    ensures default { (r : Rule) (a : Attribute) (v : Value) (xs : List Argument) → default_of r a (target_of r xs).name ≡ Some v → (Has (attributes xs) a → ⊥) → target_of r (xs ++ record { attribute = a; value = v } ∷ []) ≡ target_of r xs }
     ensures names { (text : List ℕ) (file : List Located) → IsFile text file → AreDistinct (names_of file) }
 {}
 

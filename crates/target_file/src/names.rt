@@ -54,7 +54,7 @@ impl Names {
     {
         match attribute {
             Attribute::Name => self.add(Vec::from_slice(alloc, text)?, number),
-            Attribute::Out | Attribute::Content => Ok(()),
+            _ => Ok(()),
         }
     }
 }
