@@ -3,7 +3,11 @@ use Rattle.std.specs.Prelude.{◌≡◌, ℕ, Bool, true, false, List, [], ◌�
 use Rattle.std.specs.declared.vec.Vec.{Vec}
 use Rattle.hex.specs.Hex.{encode_lower}
 use Rattle.sha2.specs.Sha256.{sha256}
-use Rattle.target_file.specs.Targets.{Target}
+use Rattle.target_file.specs.Strings.{locations}
+use Rattle.target_file.specs.declared.source.Source.{Source}
+use Rattle.target_file.specs.declared.source.Source.TheVariants as source
+use Rattle.target_file.specs.declared.action.Action.{Action}
+use Rattle.target_file.specs.declared.action.Action.TheVariants as action
 use Rattle.action_digest.specs.declared.key.Key.{Key}
 use Rattle.action_digest.specs.declared.key.Key.TheVariants as key
 use Rattle.action_digest.specs.declared.value.Value.{Value}
@@ -11,7 +15,7 @@ use Rattle.action_digest.specs.declared.value.Value.TheVariants as value
 use Rattle.action_digest.specs.declared.value.ActionText.{ActionText}
 use Rattle.action_digest.specs.declared.fault.Fault.{Fault}
 use Rattle.action_digest.specs.declared.fault.Fault.TheVariants.{NoPackage, NoSource}
-use Rattle.action_digest.specs.Written.{Wanted, key_in}
+use Rattle.action_digest.specs.Written.{key_in}
 
 -- the lower-case hex of the SHA-256 of some bytes
 abbrev pub hex_digest : List ℕ → List ℕ
@@ -22,24 +26,40 @@ abbrev pub line : List ℕ → List ℕ
 line text = text ++ 10 ∷ []
 
 -- what a target asks for: its sources in order, then its locations in order
-abbrev pub wanted_by : Target → List Wanted
-wanted_by t = []
+abbrev pub wanted_by : Action → List Source
+wanted_by (action.ExportFile src out) = source.Path src ∷ []
+wanted_by (action.Filegroup srcs) = srcs
+wanted_by (action.WriteFile content out) = []
+wanted_by (action.Genrule srcs out cmd) = srcs ++ map source.Label (locations cmd)
+wanted_by (action.StampFile out) = []
 
 -- the keys that it asks, in the target file of a package
-abbrev pub asked_by : List ℕ → Target → List Key
-asked_by home t = map (key_in home) (wanted_by t)
+abbrev pub asked_by : List ℕ → Action → List Key
+asked_by home a = map (key_in home) (wanted_by a)
 
--- the lines before those of what was asked: the rule, its out, and the digest of a content or command; of a stamp the version
-abbrev pub head_of : ℕ → Target → List ℕ
-head_of v t = line (codes "write_file") ++ line t.out ++ line (hex_digest t.content)
+-- the lines before those of what was asked: the rule, its out, and the digest of a content or a command; of a stamp the version
+abbrev pub head_of : ℕ → Action → List ℕ
+head_of v (action.ExportFile src out) = line (codes "export_file") ++ line out
+head_of v (action.Filegroup srcs) = line (codes "filegroup")
+head_of v (action.WriteFile content out) = line (codes "write_file") ++ line out ++ line (hex_digest content)
+head_of v (action.Genrule srcs out cmd) = line (codes "genrule") ++ line out ++ line (hex_digest cmd)
+head_of v (action.StampFile out) = line (codes "stamp_file") ++ line out ++ line (decimal v)
 
--- whether the text holds the version
-abbrev pub is_stamp : Target → Bool
-is_stamp t = false
+-- whether the text holds the version: that of a stamp alone
+abbrev pub is_stamp : Action → Bool
+is_stamp (action.ExportFile src out) = false
+is_stamp (action.Filegroup srcs) = false
+is_stamp (action.WriteFile content out) = false
+is_stamp (action.Genrule srcs out cmd) = false
+is_stamp (action.StampFile out) = true
 
--- whether the line of a source begins with its path or label
-abbrev pub names_sources : Target → Bool
-names_sources t = true
+-- whether the line of a source begins with its path or label: not where a file is exported as it is
+abbrev pub names_sources : Action → Bool
+names_sources (action.ExportFile src out) = false
+names_sources (action.Filegroup srcs) = true
+names_sources (action.WriteFile content out) = true
+names_sources (action.Genrule srcs out cmd) = true
+names_sources (action.StampFile out) = true
 
 -- what answers another kind of key than was asked; no key is answered so
 abbrev pub nothing : Fault
@@ -88,13 +108,13 @@ lines_by named [] xs = Ok []
 lines_by named (k ∷ ks) [] = Ok []
 lines_by named (k ∷ ks) (x ∷ xs) = joined (line_by named k x) (lines_by named ks xs)
 
-abbrev pub text_with : ℕ → Target → Result (List ℕ) Fault → Result ActionText Fault
-text_with v t (Ok lines) = Ok (record { text = head_of v t ++ lines; holds_version = is_stamp t })
-text_with v t (Err e) = Err e
+abbrev pub text_with : ℕ → Action → Result (List ℕ) Fault → Result ActionText Fault
+text_with v a (Ok lines) = Ok (record { text = head_of v a ++ lines; holds_version = is_stamp a })
+text_with v a (Err e) = Err e
 
--- the action of a target at version v, where it asked these keys and they were answered so
-abbrev pub action_of : ℕ → Target → List Key → List Value → Result ActionText Fault
-action_of v t ks xs = text_with v t (lines_by (names_sources t) ks xs)
+-- the text of an action at version v, where it asked these keys and they were answered so, or the first fault
+abbrev pub action_of : ℕ → Action → List Key → List Value → Result ActionText Fault
+action_of v a ks xs = text_with v a (lines_by (names_sources a) ks xs)
 
 -- the lines behind a text, or the fault
 abbrev pub behind : List ℕ → Result (List ℕ) Fault → Result (List ℕ) Fault

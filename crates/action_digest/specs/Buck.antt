@@ -3,6 +3,7 @@ use Rattle.std.specs.Prelude.{ℕ, Bool, true, false, List, [], ◌∷◌, ◌++
 use Rattle.sha2.specs.Sha256.{sha256}
 use Rattle.buck_label.specs.Labels.{package_of, target_of, target_file_of, printed_package}
 use Rattle.target_file.specs.Targets.{Target, Located, target_named}
+use Rattle.target_file.specs.declared.action.Action.{Action}
 use Rattle.target_file.specs.Contents.{Contents, Holds, Fails, contents}
 use Rattle.dice_key.specs.Meaning.{Meaning, Answered, Step, Asks, Ends, answered_with}
 use Rattle.dice_key.specs.declared.universe.Kind.{Kind}
@@ -83,15 +84,15 @@ abbrev pub first_of : List Value → Option Value
 first_of [] = None
 first_of (x ∷ xs) = Some x
 
--- an action at version v, where it is known which keys its target asks: it asks them in one batch, unless there are none
-abbrev pub with_asked : ℕ → Target → List Key → List (Answered Key Value) → Step Key Value
-with_asked v t [] A = Ends (value.Action (action_of v t [] []))
-with_asked v t (k ∷ ks) [] = Asks (k ∷ ks)
-with_asked v t (k ∷ ks) (a ∷ A) = Ends (value.Action (action_of v t (k ∷ ks) a.values))
+-- an action at version v, where it is known which keys it asks: it asks them in one batch, unless there are none
+abbrev pub with_asked : ℕ → Action → List Key → List (Answered Key Value) → Step Key Value
+with_asked v a [] A = Ends (value.Action (action_of v a [] []))
+with_asked v a (k ∷ ks) [] = Asks (k ∷ ks)
+with_asked v a (k ∷ ks) (b ∷ A) = Ends (value.Action (action_of v a (k ∷ ks) b.values))
 
 -- an action after its rule was answered
 abbrev pub with_rule : ℕ → List ℕ → Result Target Fault → List (Answered Key Value) → Step Key Value
-with_rule v l (Ok t) A = with_asked v t (asked_by (package_of l) t) A
+with_rule v l (Ok t) A = with_asked v t.action (asked_by (package_of l) t.action) A
 with_rule v l (Err e) A = Ends (value.Action (Err e))
 
 -- the next move: a source is never run; each other key asks its base, and is done with what the answer makes of it; but an action
@@ -183,7 +184,7 @@ second_batch (Some xs) = record { keys = []; values = xs } ∷ []
 
 -- the keys of the second batch, by the answers to the first
 abbrev pub asked_with : List ℕ → Result Target Fault → List Key
-asked_with l (Ok t) = asked_by (package_of l) t
+asked_with l (Ok t) = asked_by (package_of l) t.action
 asked_with l (Err e) = []
 
 abbrev pub asked_second : Key → Option (List Value) → List Key

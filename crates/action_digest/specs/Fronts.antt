@@ -5,6 +5,7 @@ use Rattle.dice_key.specs.Meaning.{Answered, Step, Asks, Ends}
 use Rattle.dice_key.specs.Fronts.{ValuesAreOf}
 use Rattle.buck_label.specs.Labels.{package_of}
 use Rattle.target_file.specs.Targets.{Target, Located}
+use Rattle.target_file.specs.declared.action.Action.{Action}
 use Rattle.action_digest.specs.declared.key.Key.{Key}
 use Rattle.action_digest.specs.declared.key.Key.TheVariants as key
 use Rattle.action_digest.specs.declared.value.Value.{Value}
@@ -59,13 +60,13 @@ rule_ends p (a ∷ A) v x e = subst (λ y. IsSome (as_rule y)) (ends_same (rule_
 pub rule_front : (p : List ℕ) → ValuesAreOf buck (key.Rule p) as_rule
 rule_front p = record { absent = refl; ends = rule_ends p }
 
-asked_ends : (v : ℕ) (t : Target) (ks : List Key) (A : List (Answered Key Value)) (x : Value) → with_asked v t ks A ≡ Ends x → IsSome (as_action x)
-asked_ends v t [] A x e = subst (λ y. IsSome (as_action y)) (ends_same (value.Action (action_of v t [] [])) x (with_asked v t [] A) refl e) refl
-asked_ends v t (k ∷ ks) [] x e = absurd (asks_no_end (k ∷ ks) x (with_asked v t (k ∷ ks) []) refl e)
-asked_ends v t (k ∷ ks) (a ∷ A) x e = subst (λ y. IsSome (as_action y)) (ends_same (value.Action (action_of v t (k ∷ ks) a.values)) x (with_asked v t (k ∷ ks) (a ∷ A)) refl e) refl
+asked_ends : (v : ℕ) (a : Action) (ks : List Key) (A : List (Answered Key Value)) (x : Value) → with_asked v a ks A ≡ Ends x → IsSome (as_action x)
+asked_ends v a [] A x e = subst (λ y. IsSome (as_action y)) (ends_same (value.Action (action_of v a [] [])) x (with_asked v a [] A) refl e) refl
+asked_ends v a (k ∷ ks) [] x e = absurd (asks_no_end (k ∷ ks) x (with_asked v a (k ∷ ks) []) refl e)
+asked_ends v a (k ∷ ks) (b ∷ A) x e = subst (λ y. IsSome (as_action y)) (ends_same (value.Action (action_of v a (k ∷ ks) b.values)) x (with_asked v a (k ∷ ks) (b ∷ A)) refl e) refl
 
 with_rule_ends : (v : ℕ) (l : List ℕ) (r : Result Target Fault) (A : List (Answered Key Value)) (x : Value) → with_rule v l r A ≡ Ends x → IsSome (as_action x)
-with_rule_ends v l (Ok t) A x e = asked_ends v t (asked_by (package_of l) t) A x e
+with_rule_ends v l (Ok t) A x e = asked_ends v t.action (asked_by (package_of l) t.action) A x e
 with_rule_ends v l (Err f) A x e = subst (λ y. IsSome (as_action y)) (ends_same (value.Action (Err f)) x (with_rule v l (Err f) A) refl e) refl
 
 action_ends : (l : List ℕ) (A : List (Answered Key Value)) (v : ℕ) (x : Value) → buck_next (key.Action l) A v ≡ Ends x → IsSome (as_action x)

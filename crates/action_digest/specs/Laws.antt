@@ -6,6 +6,8 @@ use Rattle.dice_key.specs.Lawful.{IsLawful}
 use Rattle.dice_key.specs.declared.universe.Kind.TheVariants.{Projection}
 use Rattle.buck_label.specs.Labels.{package_of}
 use Rattle.target_file.specs.Targets.{Target}
+use Rattle.target_file.specs.declared.action.Action.{Action}
+use Rattle.target_file.specs.declared.action.Action.TheVariants as action
 use Rattle.action_digest.specs.declared.key.Key.{Key}
 use Rattle.action_digest.specs.declared.key.Key.TheVariants as key
 use Rattle.action_digest.specs.declared.value.Value.{Value}
@@ -18,48 +20,49 @@ use Rattle.action_digest.specs.Buck.{buck, buck_next, most_of, kind_of, base_of,
 -- ---- an action, after its rule was answered
 
 -- it ends after one batch more
-asked_ends : (v : ℕ) (t : Target) (ks : List Key) (a : Answered Key Value) (A : List (Answered Key Value)) → (x : Value) × (with_asked v t ks (a ∷ A) ≡ Ends x)
-asked_ends v t [] a A = (value.Action (action_of v t [] []), refl)
-asked_ends v t (k ∷ ks) a A = (value.Action (action_of v t (k ∷ ks) a.values), refl)
+asked_ends : (v : ℕ) (a : Action) (ks : List Key) (b : Answered Key Value) (A : List (Answered Key Value)) → (x : Value) × (with_asked v a ks (b ∷ A) ≡ Ends x)
+asked_ends v a [] b A = (value.Action (action_of v a [] []), refl)
+asked_ends v a (k ∷ ks) b A = (value.Action (action_of v a (k ∷ ks) b.values), refl)
 
-rule_ends : (v : ℕ) (l : List ℕ) (r : Result Target Fault) (a : Answered Key Value) (A : List (Answered Key Value)) → (x : Value) × (with_rule v l r (a ∷ A) ≡ Ends x)
-rule_ends v l (Ok t) a A = asked_ends v t (asked_by (package_of l) t) a A
-rule_ends v l (Err e) a A = (value.Action (Err e), refl)
+pub rule_ends : (v : ℕ) (l : List ℕ) (r : Result Target Fault) (b : Answered Key Value) (A : List (Answered Key Value)) → (x : Value) × (with_rule v l r (b ∷ A) ≡ Ends x)
+rule_ends v l (Ok t) b A = asked_ends v t.action (asked_by (package_of l) t.action) b A
+rule_ends v l (Err e) b A = (value.Action (Err e), refl)
 
 -- what it asks does not depend on the version
-asked_asks : (v w : ℕ) (t : Target) (ks : List Key) (A : List (Answered Key Value)) (js : List Key) → with_asked v t ks A ≡ Asks js → with_asked w t ks A ≡ Asks js
-asked_asks v w t [] A js e = cc
-asked_asks v w t (k ∷ ks) [] js e = e
-asked_asks v w t (k ∷ ks) (a ∷ A) js e = cc
+asked_asks : (v w : ℕ) (a : Action) (ks : List Key) (A : List (Answered Key Value)) (js : List Key) → with_asked v a ks A ≡ Asks js → with_asked w a ks A ≡ Asks js
+asked_asks v w a [] A js e = cc
+asked_asks v w a (k ∷ ks) [] js e = e
+asked_asks v w a (k ∷ ks) (b ∷ A) js e = cc
 
 rule_asks : (v w : ℕ) (l : List ℕ) (r : Result Target Fault) (A : List (Answered Key Value)) (js : List Key) → with_rule v l r A ≡ Asks js → with_rule w l r A ≡ Asks js
-rule_asks v w l (Ok t) A js e = asked_asks v w t (asked_by (package_of l) t) A js e
-rule_asks v w l (Err e') A js e = e
+rule_asks v w l (Ok t) A js e = asked_asks v w t.action (asked_by (package_of l) t.action) A js e
+rule_asks v w l (Err f) A js e = e
 
 -- only the text of a stamp depends on it
-head_alike : (v w : ℕ) (t : Target) → is_stamp t ≡ false → head_of v t ≡ head_of w t
-head_alike v w t e = refl
+head_alike : (v w : ℕ) (a : Action) → is_stamp a ≡ false → head_of v a ≡ head_of w a
+head_alike v w (action.ExportFile src out) e = refl
+head_alike v w (action.Filegroup srcs) e = refl
+head_alike v w (action.WriteFile content out) e = refl
+head_alike v w (action.Genrule srcs out cmd) e = refl
+head_alike v w (action.StampFile out) e = cc
 
-transient_stamp : (t : Target) (x : Value) (text : List ℕ) (b : Bool) → is_stamp t ≡ b → value.Action (Ok (record { text = text; holds_version = is_stamp t })) ≡ x → is_transient_value x ≡ false → is_stamp t ≡ false
-transient_stamp t x text b p e h = ap is_transient_value e ∙ h
+abbrev the_end : Value → Step Key Value
+the_end x = Ends x
 
-ends_value : (x y : Value) → Ends {K = Key} x ≡ Ends y → x ≡ y
-ends_value x y e = cc
+text_alike : (v w : ℕ) (a : Action) (r : Result (List ℕ) Fault) (x : Value) → the_end (value.Action (text_with v a r)) ≡ Ends x → is_transient_value x ≡ false → the_end (value.Action (text_with w a r)) ≡ Ends x
+text_alike v w a (Ok lines) x e h =
+    let f : value.Action (Ok (record { text = head_of v a ++ lines; holds_version = is_stamp a })) ≡ x = cc in
+    ap (λ (head : List ℕ). the_end (value.Action (Ok (record { text = head ++ lines; holds_version = is_stamp a })))) (head_alike w v a (ap is_transient_value f ∙ h)) ∙ e
+text_alike v w a (Err f) x e h = e
 
-text_alike : (v w : ℕ) (t : Target) (r : Result (List ℕ) Fault) (x : Value) → Ends {K = Key} (value.Action (text_with v t r)) ≡ Ends x → is_transient_value x ≡ false → Ends {K = Key} (value.Action (text_with w t r)) ≡ Ends x
-text_alike v w t (Ok lines) x e h =
-    let s : is_stamp t ≡ false = transient_stamp t x (head_of v t ++ lines) (is_stamp t) refl (ends_value _ x e) h in
-    ap (λ (head : List ℕ). Ends (value.Action (Ok (record { text = head ++ lines; holds_version = is_stamp t })))) (head_alike w v t s) ∙ e
-text_alike v w t (Err f) x e h = e
-
-asked_alike : (v w : ℕ) (t : Target) (ks : List Key) (A : List (Answered Key Value)) (x : Value) → with_asked v t ks A ≡ Ends x → is_transient_value x ≡ false → with_asked w t ks A ≡ Ends x
-asked_alike v w t [] A x e h = text_alike v w t (Ok []) x e h
-asked_alike v w t (k ∷ ks) [] x e h = cc
-asked_alike v w t (k ∷ ks) (a ∷ A) x e h = text_alike v w t (lines_by (names_sources t) (k ∷ ks) a.values) x e h
+asked_alike : (v w : ℕ) (a : Action) (ks : List Key) (A : List (Answered Key Value)) (x : Value) → with_asked v a ks A ≡ Ends x → is_transient_value x ≡ false → with_asked w a ks A ≡ Ends x
+asked_alike v w a [] A x e h = text_alike v w a (Ok []) x e h
+asked_alike v w a (k ∷ ks) [] x e h = cc
+asked_alike v w a (k ∷ ks) (b ∷ A) x e h = text_alike v w a (lines_by (names_sources a) (k ∷ ks) b.values) x e h
 
 rule_alike : (v w : ℕ) (l : List ℕ) (r : Result Target Fault) (A : List (Answered Key Value)) (x : Value) → with_rule v l r A ≡ Ends x → is_transient_value x ≡ false → with_rule w l r A ≡ Ends x
-rule_alike v w l (Ok t) A x e h = asked_alike v w t (asked_by (package_of l) t) A x e h
-rule_alike v w l (Err e') A x e h = e
+rule_alike v w l (Ok t) A x e h = asked_alike v w t.action (asked_by (package_of l) t.action) A x e h
+rule_alike v w l (Err f) A x e h = e
 
 -- ---- each key
 

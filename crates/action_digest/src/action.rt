@@ -1,5 +1,5 @@
 //! The texts of actions, and their digests.
-ghost use Rattle.std.specs.Prelude.{◌≡◌, ◌++◌, map, IfOk, OnOk};
+ghost use Rattle.std.specs.Prelude.{◌≡◌, ◌++◌, map, decimal, IfOk, OnOk};
 ghost use Rattle.std.specs.Arc.{arc_value};
 ghost use Rattle.action_digest.specs.Actions.{hex_digest, line, digest_line, line_by, lines_by, head_of, is_stamp, names_sources, action_of, behind, items_in, IsAppended};
 ghost use Rattle.hex.specs.Hex.{encode_lower};
@@ -10,10 +10,11 @@ use crate::key::Key;
 use crate::value::{ActionText, Value};
 use buck_label::Text;
 use dice_key::{NoMemory, Version};
+use itoa::Buffer;
 use sha2::{Digest, Sha256};
 use std::alloc::Global;
 use std::sync::Arc;
-use target_file::Target;
+use target_file::Action;
 
 /// How many bytes an action's text mostly has at most.
 const ROOM: usize = 320;
@@ -25,51 +26,75 @@ pub(crate) fn digest_of(bytes: &[u8]) -> [u8; 32]
     Sha256::digest(bytes)
 }
 
-/// The action of a target at this version, where it asked these keys and they were answered so: its text, or the first fault.
+/// The text of an action at this version, where it asked these keys and they were answered so; or the first fault.
 pub(crate) fn action_of(
     alloc: Global,
     version: Version,
-    target: &Target,
+    action: &Action,
     keys: &[Arc<Key>],
     values: &[Arc<Value>],
 ) -> Result<Result<ActionText, Fault>, NoMemory>
-    ensures { IfOk result (λ r. r ≡ action_of version target.now (map arc_value keys.now) (map arc_value values.now)) }
+    ensures { IfOk result (λ r. r ≡ action_of version action.now (map arc_value keys.now) (map arc_value values.now)) }
 {
     let mut text = Vec::with_capacity(alloc, ROOM)?;
-    push_head(&mut text, version, target)?;
-    match with_lines(text, names_sources(target), keys, values)? {
+    push_head(&mut text, version, action)?;
+    match with_lines(text, names_sources(action), keys, values)? {
         Ok(text) => Ok(Ok(ActionText {
             text: Text::new(alloc, text)?,
-            holds_version: is_stamp(target),
+            holds_version: is_stamp(action),
         })),
         Err(fault) => Ok(Err(fault)),
     }
 }
 
-/// Whether the text of a target's action holds the version.
-fn is_stamp(target: &Target) -> bool
-    ensures { result ≡ is_stamp target.now }
+/// Whether the text of an action holds the version.
+fn is_stamp(action: &Action) -> bool
+    ensures { result ≡ is_stamp action.now }
 {
-    let _ = target;
-    false
+    matches!(action, Action::StampFile { .. })
 }
 
 /// Whether the line of a source begins with its path or label.
-fn names_sources(target: &Target) -> bool
-    ensures { result ≡ names_sources target.now }
+fn names_sources(action: &Action) -> bool
+    ensures { result ≡ names_sources action.now }
 {
-    let _ = target;
-    true
+    !matches!(action, Action::ExportFile { .. })
 }
 
 /// Appends the lines before those of what was asked.
-fn push_head(text: &mut Vec<u8>, version: Version, target: &Target) -> Result<(), NoMemory>
-    ensures { OnOk result (text.new.items ≡ text.old.items ++ head_of version target.now) }
+fn push_head(text: &mut Vec<u8>, version: Version, action: &Action) -> Result<(), NoMemory>
+    ensures { OnOk result (text.new.items ≡ text.old.items ++ head_of version action.now) }
 {
-    let _ = version;
-    push_line(text, b"write_file")?;
-    push_line(text, target.out())?;
-    push_digest(text, target.content())
+    match action {
+        Action::ExportFile { out, .. } => {
+            push_line(text, b"export_file")?;
+            push_line(text, out.as_bytes())
+        }
+        Action::Filegroup { .. } => push_line(text, b"filegroup"),
+        Action::WriteFile { content, out } => {
+            push_line(text, b"write_file")?;
+            push_line(text, out.as_bytes())?;
+            push_digest(text, content.as_bytes())
+        }
+        Action::Genrule { out, cmd, .. } => {
+            push_line(text, b"genrule")?;
+            push_line(text, out.as_bytes())?;
+            push_digest(text, cmd.text())
+        }
+        Action::StampFile { out } => {
+            push_line(text, b"stamp_file")?;
+            push_line(text, out.as_bytes())?;
+            push_number(text, version)
+        }
+    }
+}
+
+/// Appends the line of a number in decimal.
+fn push_number(text: &mut Vec<u8>, number: u64) -> Result<(), NoMemory>
+    ensures { OnOk result (text.new.items ≡ text.old.items ++ line (decimal number)) }
+{
+    let mut buffer = Buffer::new();
+    push_line(text, buffer.format(number).as_bytes())
 }
 
 /// Appends a line and its line feed.

@@ -152,7 +152,7 @@ fn asked_second(
 {
     match (key, first_of(first.values())) {
         (Key::Action(label), Some(Value::Rule(Ok(rule)))) => {
-            asked_by(alloc, &label.package(alloc)?, rule.target())
+            asked_by(alloc, &label.package(alloc)?, rule.target().action())
         }
         _ => Ok(Vec::new(alloc)),
     }
@@ -192,11 +192,11 @@ impl Buck {
         run: &Run,
         rule: Option<&Value>,
     ) -> Result<Move<Key, Value>, NoMemory>
-        requires { map arc_value run.now.asked.items ≡ asked_with label.now (rule_in (option_copied rule.entry)) }
+        requires { map arc_value run.now.asked.items ≡ asked_with label.now (rule_in (option_copied rule)) }
         ensures { IfOk result (λ p. IsStep p (with_rule run.now.version label.now (rule_in (option_copied rule.entry)) (second_batch run.now.second))) }
     {
-        let target = match rule {
-            Some(Value::Rule(Ok(rule))) => rule.target(),
+        let action = match rule {
+            Some(Value::Rule(Ok(rule))) => rule.target().action(),
             Some(Value::Rule(Err(fault))) => {
                 return self.done(Value::Action(Err(fault.try_clone()?)));
             }
@@ -207,8 +207,8 @@ impl Buck {
             None if run.asked.is_empty() => &[],
             None => return self.ask_all(&run.asked),
         };
-        let action = action_of(self.alloc, run.version, target, &run.asked, values)?;
-        self.done(Value::Action(action))
+        let text = action_of(self.alloc, run.version, action, &run.asked, values)?;
+        self.done(Value::Action(text))
     }
 
     /// The next move of a run.

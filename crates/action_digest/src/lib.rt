@@ -7,6 +7,7 @@ mod buck;
 mod fault;
 mod fronts;
 mod key;
+mod laws;
 mod rule;
 mod run;
 mod value;
@@ -15,9 +16,8 @@ pub use buck::Buck;
 pub use fault::Fault;
 pub use fronts::{ActionKey, DigestKey, PackageKey, RuleKey, SourceKey};
 pub use key::Key;
+pub use laws::keys_are_settled;
 pub use rule::Rule;
 pub use run::Run;
 pub use value::{ActionText, Value};
 
-#[cfg(test)]
-mod tests;
