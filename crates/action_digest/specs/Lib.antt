@@ -4,3 +4,4 @@ pub mod Buck
 pub mod Same
 pub mod Laws
 pub mod Fronts
+pub mod Cycles

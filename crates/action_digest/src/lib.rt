@@ -4,6 +4,7 @@
 mod action;
 mod asked;
 mod buck;
+mod cycle;
 mod fault;
 mod fronts;
 mod key;
@@ -13,10 +14,11 @@ mod run;
 mod value;
 
 pub use buck::Buck;
+pub use cycle::labels_of_cycle;
 pub use fault::Fault;
 pub use fronts::{ActionKey, DigestKey, PackageKey, RuleKey, SourceKey};
 pub use key::Key;
-pub use laws::keys_are_settled;
+pub use laws::{cycles_are_of_labels, keys_are_settled};
 pub use rule::Rule;
 pub use run::Run;
 pub use value::{ActionText, Value};
