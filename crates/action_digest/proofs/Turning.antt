@@ -1,5 +1,5 @@
 -- The labels of a cycle, from the least on.
-use Rattle.std.proofs.Common.{◌≡◌, ◌<◌, ◌≤◌, ◌⊎◌, inl, inr, ℕ, zero, suc, Bool, true, false, List, [], ◌∷◌, ◌++◌, length, take, drop, get_or, refl, sym, ap, ◌∙◌, subst, arith}
+use Rattle.std.proofs.Common.{◌≡◌, ◌<◌, ◌≤◌, ◌⊎◌, inl, inr, ℕ, zero, suc, Bool, true, false, List, [], ◌∷◌, ◌++◌, length, take, drop, get_or, ◌+◌, add-one, refl, sym, ap, ◌∙◌, subst, arith}
 use Rattle.std.specs.Ordering.{nat_cmp, is_gt, is_lt, ordering_reverse}
 use Rattle.std.specs.declared.cmp.Ordering.{Ordering}
 use Rattle.std.specs.declared.cmp.Ordering.TheVariants.{Less, Equal, Greater}
@@ -51,15 +51,40 @@ all_more P Q [] f a = tt
 all_more P Q (x ∷ xs) f a = (f x a.0, all_more P Q xs f a.1)
 
 -- one label more is looked at: it is less than the least so far, or not
-pub less_more : (l m : List ℕ) (xs : List (List ℕ)) → is_lt (slice_cmp nat_cmp m l) ≡ true → AllByRecursion (IsAtMost l) xs → AllByRecursion (IsAtMost m) (xs ++ m ∷ [])
+less_more : (l m : List ℕ) (xs : List (List ℕ)) → is_lt (slice_cmp nat_cmp m l) ≡ true → AllByRecursion (IsAtMost l) xs → AllByRecursion (IsAtMost m) (xs ++ m ∷ [])
 less_more l m xs e a =
     all_append (IsAtMost m) xs (m ∷ []) (all_more (IsAtMost l) (IsAtMost m) xs (λ x h. upto nat_list_cmp_total m l x (less_is (slice_cmp nat_cmp m l) e) h) a) (at_most_itself m, tt)
 
-pub other_more : (l m : List ℕ) (xs : List (List ℕ)) → is_lt (slice_cmp nat_cmp m l) ≡ false → AllByRecursion (IsAtMost l) xs → AllByRecursion (IsAtMost l) (xs ++ m ∷ [])
+other_more : (l m : List ℕ) (xs : List (List ℕ)) → is_lt (slice_cmp nat_cmp m l) ≡ false → AllByRecursion (IsAtMost l) xs → AllByRecursion (IsAtMost l) (xs ++ m ∷ [])
 other_more l m xs e a =
     all_append (IsAtMost l) xs (m ∷ []) a (turned_order (slice_cmp nat_cmp l m) (sym (ap is_lt (nat_list_cmp_total.antisymm m l)) ∙ e), tt)
 
-pub begins : (ls : List (List ℕ)) (i : ℕ) → i < length ls → AllByRecursion (IsAtMost (get_or ls i [])) ls → BeginsWithLeast (drop i ls ++ take i ls)
+place : (ls : List (List ℕ)) (i : ℕ) (x : List ℕ) → i < length ls → x ≡ get_or ls i x → x ≡ get_or ls i []
+place [] i x h e = absurd (omega arith)
+place (l ∷ ls) zero x h e = e
+place (l ∷ ls) (suc i) x h e = place ls i x (omega arith) e
+
+take_next : (ls : List (List ℕ)) (i : ℕ) → i < length ls → take (suc i) ls ≡ take i ls ++ get_or ls i [] ∷ []
+take_next [] i h = absurd (omega arith)
+take_next (l ∷ []) zero h = refl
+take_next (l ∷ m ∷ ls) zero h = refl
+take_next (l ∷ ls) (suc i) h = ap (λ (ms : List (List ℕ)). l ∷ ms) (take_next ls i (omega arith))
+
+one_more : (ls : List (List ℕ)) (i : ℕ) (P : List (List ℕ) → Type 0) → i < length ls → P (take i ls ++ get_or ls i [] ∷ []) → P (take (i + 1) ls)
+one_more ls i P h a = subst P (sym (ap (λ (n : ℕ). take n ls) (add-one i) ∙ take_next ls i h)) a
+
+-- one place more of a list of labels is looked at
+module _ (ls : List (List ℕ)) (i n : ℕ) (x y : List ℕ) (in_i : i < length ls) (in_n : n < length ls) (x_is : x ≡ get_or ls i x) (y_is : y ≡ get_or ls n y) where
+  compared : (b : Bool) → is_lt (slice_cmp nat_cmp x y) ≡ b → is_lt (slice_cmp nat_cmp (get_or ls i []) (get_or ls n [])) ≡ b
+  compared b e = sym (ap (λ (z : List ℕ). is_lt (slice_cmp nat_cmp z y)) (place ls i x in_i x_is) ∙ ap (λ (z : List ℕ). is_lt (slice_cmp nat_cmp (get_or ls i []) z)) (place ls n y in_n y_is)) ∙ e
+
+  pub less_next : is_lt (slice_cmp nat_cmp x y) ≡ true → AllByRecursion (IsAtMost (get_or ls n [])) (take i ls) → AllByRecursion (IsAtMost (get_or ls i [])) (take (i + 1) ls)
+  less_next e a = one_more ls i (AllByRecursion (IsAtMost (get_or ls i []))) in_i (less_more (get_or ls n []) (get_or ls i []) (take i ls) (compared true e) a)
+
+  pub other_next : is_lt (slice_cmp nat_cmp x y) ≡ false → AllByRecursion (IsAtMost (get_or ls n [])) (take i ls) → AllByRecursion (IsAtMost (get_or ls n [])) (take (i + 1) ls)
+  other_next e a = one_more ls i (AllByRecursion (IsAtMost (get_or ls n []))) in_i (other_more (get_or ls n []) (get_or ls i []) (take i ls) (compared false e) a)
+
+begins : (ls : List (List ℕ)) (i : ℕ) → i < length ls → AllByRecursion (IsAtMost (get_or ls i [])) ls → BeginsWithLeast (drop i ls ++ take i ls)
 begins ls i h a =
     subst (λ (xs : List (List ℕ)). BeginsWithLeast (xs ++ take i ls)) (sym (drop-cons ls i [] h))
     (all_append (IsAtMost (get_or ls i [])) (drop (suc i) ls) (take i ls) (all_drop (IsAtMost (get_or ls i [])) (suc i) ls a) (all_take (IsAtMost (get_or ls i [])) i ls a))
@@ -117,7 +142,7 @@ module _ (C : List (List (Key × Value))) (v : ℕ) where
   some_labels (l ∷ ls) c = omega arith
 
   -- the labels of a cycle of keys, from the place of the least on
-  pub from_least : (ks : List Key) (ls : List (List ℕ)) (i : ℕ) → ls ≡ drop i (labels_of ks) ++ take i (labels_of ks) → (0 < length (labels_of ks) → i < length (labels_of ks)) → AllByRecursion (IsAtMost (get_or (labels_of ks) i [])) (labels_of ks) → Cycle C v ks → IsLabelCycle C v ls
+  from_least : (ks : List Key) (ls : List (List ℕ)) (i : ℕ) → ls ≡ drop i (labels_of ks) ++ take i (labels_of ks) → (0 < length (labels_of ks) → i < length (labels_of ks)) → AllByRecursion (IsAtMost (get_or (labels_of ks) i [])) (labels_of ks) → Cycle C v ks → IsLabelCycle C v ls
   from_least ks ls i e h a c =
       let d : Cycle C v (keys_of (labels_of ks)) = cycle_labels ks c in
       let g : Cycle C v (keys_of ls) = subst (λ (ms : List (List ℕ)). Cycle C v (keys_of ms)) (sym e) (from_place i (labels_of ks) d) in
@@ -127,5 +152,9 @@ module _ (C : List (List (Key × Value))) (v : ℕ) where
         least = subst BeginsWithLeast (sym e) (begins (labels_of ks) i (h (some_labels (labels_of ks) d)) a);
       }
 
-  pub leads_least : (a : Key) (ks : List Key) (ls : List (List ℕ)) (i : ℕ) → ls ≡ drop i (labels_of ks) ++ take i (labels_of ks) → Cycle C v ks → ReachesFirst C v a ks → ReachesFirst C v a (keys_of ls)
-  leads_least a ks ls i e c r = subst (λ (ms : List (List ℕ)). ReachesFirst C v a (keys_of ms)) (sym e) (lead_place a i (labels_of ks) (cycle_labels ks c) (lead_labels a ks c r))
+  pub from_least_of : (ks : List Key) (ls all : List (List ℕ)) (i : ℕ) → all ≡ labels_of ks → ls ≡ drop i all ++ take i all → (0 < length all → i < length all) → AllByRecursion (IsAtMost (get_or all i [])) all → Cycle C v ks → IsLabelCycle C v ls
+  from_least_of ks ls all i q e h a c =
+      from_least ks ls i (e ∙ ap (λ (xs : List (List ℕ)). drop i xs ++ take i xs) q) (subst (λ (xs : List (List ℕ)). 0 < length xs → i < length xs) q h) (subst (λ (xs : List (List ℕ)). AllByRecursion (IsAtMost (get_or xs i [])) xs) q a) c
+
+  pub leads_least : (a : Key) (ks : List Key) (ls : List (List ℕ)) (all : List (List ℕ)) (i : ℕ) → all ≡ labels_of ks → ls ≡ drop i all ++ take i all → Cycle C v ks → ReachesFirst C v a ks → ReachesFirst C v a (keys_of ls)
+  leads_least a ks ls all i q e c r = subst (λ (ms : List (List ℕ)). ReachesFirst C v a (keys_of ms)) (sym (e ∙ ap (λ (xs : List (List ℕ)). drop i xs ++ take i xs) q)) (lead_place a i (labels_of ks) (cycle_labels ks c) (lead_labels a ks c r))
