@@ -111,8 +111,13 @@ fresh_none cs q attribute.Name (One x) g f = elim (bool_cases (bytes_eq q x)) [
   | inr n ↦ let k : (bytes_eq q x || false) ≡ true = g in let m : false ≡ true = rw n at k in cc
 ]
 fresh_none cs q attribute.Name (Many xs) g f = cc
+fresh_none cs q attribute.Visibility v g f = cc
+fresh_none cs q attribute.Labels v g f = cc
+fresh_none cs q attribute.Src v g f = cc
+fresh_none cs q attribute.Srcs v g f = cc
 fresh_none cs q attribute.Out v g f = cc
 fresh_none cs q attribute.Content v g f = cc
+fresh_none cs q attribute.Cmd v g f = cc
 
 -- an argument more
 pub number_more : (q : List ℕ) (cs : List Call) (given : List Argument) (a : Attribute) (v : Value) → IsFresh cs a v → number_from 0 q cs (given ++ record { attribute = a; value = v } ∷ []) ≡ (if gives_name q a v then Some (length cs) else number_from 0 q cs given)
@@ -136,8 +141,13 @@ calls_length (c ∷ cs) = let h = calls_length cs in omega arith
 
 many_no_name : (q : List ℕ) (a : Attribute) (xs : List (List ℕ)) → gives_name q a (Many xs) ≡ false
 many_no_name q attribute.Name xs = refl
+many_no_name q attribute.Visibility xs = refl
+many_no_name q attribute.Labels xs = refl
+many_no_name q attribute.Src xs = refl
+many_no_name q attribute.Srcs xs = refl
 many_no_name q attribute.Out xs = refl
 many_no_name q attribute.Content xs = refl
+many_no_name q attribute.Cmd xs = refl
 
 pub list_kept : (q : List ℕ) (k : Option ℕ) (cs : List Call) (xs ys : List code.Argument) (x : code.Argument) (ts : List (List ℕ)) → ys ≡ xs ++ x ∷ [] → (argument_of x).value ≡ Many ts →
     k ≡ number_from 0 q cs (arguments_of xs) → k ≡ number_from 0 q cs (arguments_of ys)

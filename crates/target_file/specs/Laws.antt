@@ -1,10 +1,11 @@
 -- Equality of targets and of files is exact.
-use Rattle.std.specs.Prelude.{◌≡◌, ◌&&◌, Bool, true, false, nat_eq, List, refl}
+use Rattle.std.specs.Prelude.{◌≡◌, ◌&&◌, ℕ, Bool, true, false, nat_eq, List, refl}
 use Rattle.std.specs.Bool.{Decides}
 use Rattle.std.specs.Str.{bytes_eq}
 use Rattle.std.specs.Cmp.{IsEquivalence, decided, unsigned_Decides}
 use Rattle.std.specs.Cmp.Lexicographic.{bytes_decides, pointwise_decides}
-use Rattle.std.proofs.Common.{ap}
+use Rattle.std.proofs.Common.{ap, inl, inr}
+use Rattle.buck_label.specs.Labels.{Name, IsLabelIn, IsSomeLabel}
 use Rattle.target_file.specs.Same.{both, pair, same_texts, texts_decide, same_action, action_decides}
 use Rattle.target_file.specs.Targets.{Target, Located, same_target, same_located, same_file}
 
@@ -52,3 +53,8 @@ same_targets x y h = (target_decides x y).0 h
 
 pub same_files : (x y : List Located) → same_file x y ≡ true → x ≡ y
 same_files x y h = (file_decides x y).0 h
+
+-- a label as written names a target in every package
+pub label_in : (home text : List ℕ) → IsSomeLabel text → (n : Name) × IsLabelIn home text n
+label_in home text (n, inl l) = (n, inl l)
+label_in home text (n, inr l) = (record { home = home; target = n.target }, inr (record { text_is = l.text_is; home_is = refl; target = l.target }))

@@ -9,11 +9,19 @@ use buck_label::{Path, Text};
 #[derive(PartialEq, Eq, Drop)]
 pub enum Action {
     /// A file of the package as it is.
-    ExportFile { src: Path, out: Path },
+    ExportFile {
+        src: Path,
+        out: Path,
+    },
     /// Several inputs under one name.
-    Filegroup { srcs: Sources },
+    Filegroup {
+        srcs: Sources,
+    },
     /// A file with this content.
-    WriteFile { content: Text, out: Path },
+    WriteFile {
+        content: Text,
+        out: Path,
+    },
     /// What a command makes of its inputs.
     Genrule {
         srcs: Sources,
@@ -21,5 +29,7 @@ pub enum Action {
         cmd: Command,
     },
     /// A file that holds the version.
-    StampFile { out: Path },
+    StampFile {
+        out: Path,
+    },
 }

@@ -8,8 +8,8 @@ ghost use Rattle.target_file.specs.Machine.{HasItem};
 ghost use Rattle.target_file.specs.Seen.{arguments_of};
 
 use crate::call::Argument;
-use crate::table::{Attribute, Form, Rule, form_of, needed};
 use crate::strings::{is_command, is_source};
+use crate::table::{Attribute, Form, Rule, form_of, needed};
 use buck_label::is_path;
 
 /// Whether no attribute that has no default is missing.

@@ -4,7 +4,8 @@ ghost use Rattle.target_file.specs.Calls.{Value, Argument};
 ghost use Rattle.target_file.specs.Files.{Has, AreDistinct, IsDead, IsBad, attributes};
 ghost use Rattle.target_file.specs.Targets.{Located, IsFile, names_of, default_of, target_of};
 ghost use Rattle.target_file.specs.Meaning.{AreSame};
-ghost use Rattle.target_file.specs.Rows.{w_text, w_file};
+ghost use Rattle.target_file.specs.Rows.{w_text, w_file, g_text, g_file, g_command};
+ghost use Rattle.target_file.specs.Strings.{locations};
 ghost use Rattle.target_file.specs.declared.table.Attribute.{Attribute};
 ghost use Rattle.target_file.specs.declared.table.Rule.{Rule};
 ghost use Rattle.target_file.specs.Contents.{Holds, Fails, contents};
@@ -24,12 +25,19 @@ pub fn calls_by_meaning()
     ensures names { (text : List ℕ) (file : List Located) → IsFile text file → AreDistinct (names_of file) }
 {}
 
-/// Worked texts: the empty file, one target with the default of `out`, and prefixes with which no file begins.
+/// Worked texts: the empty file, one target with the default of `out`, one with sources and a location, prefixes
+/// with which no file begins, and texts that are no file: an unknown rule, a string without end, a comma before
+/// the first argument, a location without its parenthesis, and a list where a string is wanted.
 pub fn worked_texts()
     ensures empty { IsFile [] [] }
     ensures one { IsFile w_text w_file }
+    ensures sources { IsFile g_text g_file }
+    ensures locations { locations g_command ≡ codes ":w" ∷ [] }
     ensures byte { IsDead (codes "~") }
     ensures word { IsDead (codes "cxx_library(") }
     ensures line { IsBad (codes "cxx_library(") 1 }
     ensures unclosed { IsBad (codes "write_file(name = 'w") 1 }
+    ensures comma { IsBad (codes "filegroup(,") 1 }
+    ensures location { IsBad (codes "genrule(cmd='$(location :w'") 1 }
+    ensures list { IsBad (codes "stamp_file(name=[") 1 }
 {}

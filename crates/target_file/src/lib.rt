@@ -10,7 +10,7 @@ mod given;
 mod label_text;
 mod laws;
 mod locating;
-mod meaning;
+mod making;
 mod mode;
 mod names;
 mod place;

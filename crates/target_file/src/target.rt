@@ -10,7 +10,7 @@ ghost use Rattle.target_file.specs.Laws.{target_equiv};
 use crate::action::Action;
 use crate::call::Call;
 use crate::fault::NoMemory;
-use crate::meaning::{action_of, list_of, path_of, text_of, texts_of};
+use crate::making::{action_of, list_of, path_of, text_of, texts_of};
 use crate::table::Attribute;
 use buck_label::{Path, Text};
 use std::alloc::Global;
