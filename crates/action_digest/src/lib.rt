@@ -23,3 +23,5 @@ pub use rule::Rule;
 pub use run::Run;
 pub use value::{ActionText, Value};
 
+#[cfg(test)]
+mod tests;
