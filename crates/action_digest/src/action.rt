@@ -137,7 +137,12 @@ fn push_answer(
 {
     match (key, value) {
         (Key::Source(path), Value::Source(Some(bytes))) => {
-            push_named(text, named, path.as_bytes(), digest_of(bytes.as_bytes()).as_slice())?;
+            push_named(
+                text,
+                named,
+                path.as_bytes(),
+                digest_of(bytes.as_bytes()).as_slice(),
+            )?;
         }
         (Key::Source(path), _) => return Ok(Err(Fault::NoSource(path.try_clone()?))),
         (Key::Digest(label), Value::Digest(Ok(digest))) => {

@@ -98,11 +98,7 @@ fn digest_by(action: &Result<ActionText, Fault>) -> Result<Result<[u8; 32], Faul
 }
 
 /// The value of a package, by the answer for its target file.
-fn package_value(
-    alloc: Global,
-    home: &Package,
-    answer: Option<&Value>,
-) -> Result<Value, NoMemory>
+fn package_value(alloc: Global, home: &Package, answer: Option<&Value>) -> Result<Value, NoMemory>
     ensures { IfOk result (λ x. x ≡ package_value home.now (option_copied answer.entry)) }
 {
     let source = match answer {
@@ -143,11 +139,7 @@ fn first_of(values: &[Arc<Value>]) -> Option<&Value>
 }
 
 /// The keys of the second batch of a run, by the answers to its first.
-fn asked_second(
-    alloc: Global,
-    key: &Key,
-    first: &Answers<Value>,
-) -> Result<Vec<Arc<Key>>, NoMemory>
+fn asked_second(alloc: Global, key: &Key, first: &Answers<Value>) -> Result<Vec<Arc<Key>>, NoMemory>
     ensures { IfOk result (λ ks. map arc_value ks.items ≡ asked_second key.now (Some first.now)) }
 {
     match (key, first_of(first.values())) {

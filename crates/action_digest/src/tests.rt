@@ -101,11 +101,7 @@ fn log_of(alloc: Global, files: Files<'_>) -> Result<Commits<Buck>, NoMemory> {
 const DEPTH: u32 = 12;
 
 /// The value of a key from nothing, at the version of the whole log.
-fn value_of(
-    alloc: Global,
-    files: Files<'_>,
-    key: Key,
-) -> Result<Option<Arc<Value>>, NoMemory> {
+fn value_of(alloc: Global, files: Files<'_>, key: Key) -> Result<Option<Arc<Value>>, NoMemory> {
     let universe = Buck::new(alloc)?;
     let commits = log_of(alloc, files)?;
     let key = Arc::new(alloc, key)?;
@@ -142,10 +138,16 @@ fn action_text(alloc: Global, files: Files<'_>, name: &[u8]) -> Result<Vec<u8>, 
 }
 
 const EXPORT: &[u8] = b"export_file(name = \"f\")\n";
+
 const WRITE: &[u8] = b"write_file(name = \"w\", out = \"w.txt\", content = \"abc\")\n";
+
 const STAMP: &[u8] = b"stamp_file(name = \"s\")\n";
-const GENRULE: &[u8] = b"write_file(name = \"w\", content = \"a\")\ngenrule(name = \"g\", srcs = [\"f\"], out = \"o\", cmd = \"cat $(location :w)\")\n";
-const GENRULE_TEXT: &[u8] = b"genrule\no\n7336b594865fdb588b7d1a3a71d0007082c09057986f56bd174f12af6161e41d\na/f ca978112ca1bbdcafac231b39a23dc4da786eff8147c4e72b9807785afee48bb\n//a:w 2616f37868187e67866efe13f05998dff95cdcc62be7a43364a81274bc2a6a49\n";
+
+const GENRULE: &[u8] =
+    b"write_file(name = \"w\", content = \"a\")\ngenrule(name = \"g\", srcs = [\"f\"], out = \"o\", cmd = \"cat $(location :w)\")\n";
+
+const GENRULE_TEXT: &[u8] =
+    b"genrule\no\n7336b594865fdb588b7d1a3a71d0007082c09057986f56bd174f12af6161e41d\na/f ca978112ca1bbdcafac231b39a23dc4da786eff8147c4e72b9807785afee48bb\n//a:w 2616f37868187e67866efe13f05998dff95cdcc62be7a43364a81274bc2a6a49\n";
 
 #[test]
 fn actions_of_the_rules_from_nothing(rt: HostRuntime) -> Result<(), Fail> {
@@ -172,7 +174,11 @@ fn actions_of_the_rules_from_nothing(rt: HostRuntime) -> Result<(), Fail> {
             b"//a:s",
             b"stamp_file\ns\n2\n",
         ),
-        (&[(b"a/BUCK", GENRULE), (b"a/f", b"a")], b"//a:g", GENRULE_TEXT),
+        (
+            &[(b"a/BUCK", GENRULE), (b"a/f", b"a")],
+            b"//a:g",
+            GENRULE_TEXT,
+        ),
         (
             &[(b"BUCK", b"filegroup(name = \"e\")\n")],
             b"//:e",
@@ -190,10 +196,22 @@ fn actions_of_the_rules_from_nothing(rt: HostRuntime) -> Result<(), Fail> {
 fn faults_come_in_the_order_of_the_sources(rt: HostRuntime) -> Result<(), Fail> {
     let alloc = rt.alloc();
     let rows: [(&[u8], &[u8]); 6] = [
-        (b"filegroup(name = \"x\", srcs = [\"none\", \":b\"])\n", b"no-source a/none"),
-        (b"filegroup(name = \"x\", srcs = [\":b\", \"none\"])\n", b"no-target //a:b"),
-        (b"genrule(name = \"x\", srcs = [\"none\"], out = \"o\", cmd = \"$(location //b:b)\")\n", b"no-source a/none"),
-        (b"genrule(name = \"x\", out = \"o\", cmd = \"$(location //b)\")\n", b"no-package b"),
+        (
+            b"filegroup(name = \"x\", srcs = [\"none\", \":b\"])\n",
+            b"no-source a/none",
+        ),
+        (
+            b"filegroup(name = \"x\", srcs = [\":b\", \"none\"])\n",
+            b"no-target //a:b",
+        ),
+        (
+            b"genrule(name = \"x\", srcs = [\"none\"], out = \"o\", cmd = \"$(location //b:b)\")\n",
+            b"no-source a/none",
+        ),
+        (
+            b"genrule(name = \"x\", out = \"o\", cmd = \"$(location //b)\")\n",
+            b"no-package b",
+        ),
         (b"filegroup(name = \"y\")\n", b"no-target //a:x"),
         (b"filegroup(name = \"x\", srcs = [\"none\", \":x\"])\n", b""),
     ];
@@ -225,10 +243,15 @@ fn a_digest_is_that_of_the_text_and_a_stamp_is_transient(rt: HostRuntime) -> Res
         None => false,
     };
     assert!(rt; shown);
-    for (file, name, transient) in [
-        (WRITE, b"//a:w", false),
-        (STAMP, b"//a:s", true),
-    ] {
+    let path = Path::read(alloc, b"a/BUCK").map_err(|_| NoMemory)?;
+    let read = value_of(alloc, &[(b"a/BUCK", WRITE)], SourceKey { path }.wrap())?;
+    assert!(rt;
+        matches!(
+            read.as_ref().map(|x| SourceKey::read(x)),
+            Some(Some(Some(_)))
+        )
+    );
+    for (file, name, transient) in [(WRITE, b"//a:w", false), (STAMP, b"//a:s", true)] {
         let action = ActionKey {
             label: label(alloc, name)?,
         }
@@ -245,14 +268,19 @@ fn a_digest_is_that_of_the_text_and_a_stamp_is_transient(rt: HostRuntime) -> Res
 fn the_labels_of_a_cycle_begin_with_the_least(rt: HostRuntime) -> Result<(), Fail> {
     let alloc = rt.alloc();
     let mut keys = Vec::new(alloc);
-    for name in [b"//a:y", b"//b:x", b"//a:x"] {
-        keys.push(Arc::new(alloc, ActionKey { label: label(alloc, name)? }.wrap())?)?;
-        let next = match name {
-            b"//a:y" => b"//b:x",
-            b"//b:x" => b"//a:x",
-            _ => b"//a:y",
+    for (name, next) in [
+        (b"//a:y", b"//b:x"),
+        (b"//b:x", b"//a:x"),
+        (b"//a:x", b"//a:y"),
+    ] {
+        let action = ActionKey {
+            label: label(alloc, name)?,
         };
-        keys.push(Arc::new(alloc, DigestKey { label: label(alloc, next)? }.wrap())?)?;
+        let digest = DigestKey {
+            label: label(alloc, next)?,
+        };
+        keys.push(Arc::new(alloc, action.wrap())?)?;
+        keys.push(Arc::new(alloc, digest.wrap())?)?;
     }
     keys_are_settled();
     cycles_are_of_labels();

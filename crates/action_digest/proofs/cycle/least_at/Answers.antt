@@ -16,15 +16,15 @@ loop-i-preserved c =
     let e = sym (c.is_lt.ensures ∙ ap is_lt c.cmp.ensures) in
     elim c.if-is_lt.branch [
       | then-is_lt w ↦ record {
-          within = omega arith;
-          below = λ h. omega arith;
-          least = subst (λ (k : ℕ). AllByRecursion (IsAtMost (get_or ls k [])) (take (i + 1) ls)) (sym w.least-is)
-              (less_next ls i n c.index-labels-i.result c.index-labels-least.result in_i in_n c.index-labels-i.is c.index-labels-least.is (e ∙ w.if-is_lt.true) c.loop-i.invariant.least);
-        }
+        within = omega arith;
+        below = λ h. omega arith;
+        least = subst (λ (k : ℕ). AllByRecursion (IsAtMost (get_or ls k [])) (take (i + 1) ls)) (sym w.least-is)
+            (less_next ls i n c.index-labels-i.result c.index-labels-least.result in_i in_n c.index-labels-i.is c.index-labels-least.is (e ∙ w.if-is_lt.true) c.loop-i.invariant.least);
+      }
       | else-is_lt w ↦ record {
-          within = omega arith;
-          below = λ h. omega arith;
-          least = subst (λ (k : ℕ). AllByRecursion (IsAtMost (get_or ls k [])) (take (i + 1) ls)) (sym w.least-is)
-              (other_next ls i n c.index-labels-i.result c.index-labels-least.result in_i in_n c.index-labels-i.is c.index-labels-least.is (e ∙ w.if-is_lt.false) c.loop-i.invariant.least);
-        }
+        within = omega arith;
+        below = λ h. omega arith;
+        least = subst (λ (k : ℕ). AllByRecursion (IsAtMost (get_or ls k [])) (take (i + 1) ls)) (sym w.least-is)
+            (other_next ls i n c.index-labels-i.result c.index-labels-least.result in_i in_n c.index-labels-i.is c.index-labels-least.is (e ∙ w.if-is_lt.false) c.loop-i.invariant.least);
+      }
     ]

@@ -7,5 +7,5 @@ abbrev pub invariant-loop-i : goal.invariant-loop-i
 invariant-loop-i l = record {
   within : l.least ≤ l.i;
   below : 0 < l.i → l.least < l.i;
-  least : AllByRecursion (IsAtMost (get_or l.labels l.least [])) (take l.i l.labels)
+  least : AllByRecursion (IsAtMost (get_or l.labels l.least [])) (take l.i l.labels);
 }
