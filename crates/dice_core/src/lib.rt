@@ -33,6 +33,3 @@ pub use polled::Polled;
 
 /// The tasks of one version.
 pub(crate) type Tasks<U> = task_share::Table<<U as dice_key::Universe>::Key, crate::task::Task<U>>;
-
-#[cfg(test)]
-mod tests;
