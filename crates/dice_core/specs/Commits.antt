@@ -87,8 +87,3 @@ module _ {K V : Type 0} (eq : K → K → Bool) where
     pub events : I ≡ J
     pub last : t.last ≡ s.last
     pub sets : SameSets eq s t
-
-  -- the cells are those of the commits of R, a journal backwards, and the newest version is their number
-  pub record CellsStand (R : List (Told K V)) (s : Seen K V) : Type 0 where
-    pub are : AreOf eq (commits_of R) s
-    pub newest : s.last ≡ length (commits_of R)
