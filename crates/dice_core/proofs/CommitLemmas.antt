@@ -1,8 +1,8 @@
 -- The first fault among the keys of a commit, and what is set so far.
-use Rattle.std.proofs.Common.{◌≡◌, ◌<◌, ◌+◌, ◌⊎◌, inl, inr, ℕ, max, Bool, true, false, cond, ◌||◌, List, [], ◌∷◌, ◌++◌, length, get_or, take, drop, Some, None, refl, sym, ap, ◌∙◌, subst, arith, append_assoc, append-nil}
+use Rattle.std.proofs.Common.{◌≡◌, ◌<◌, ◌+◌, ◌⊎◌, inl, inr, ℕ, max, Bool, true, false, cond, List, [], ◌∷◌, ◌++◌, length, get_or, take, drop, Some, None, refl, sym, ap, ◌∙◌, subst, arith, append_assoc, append-nil}
 use Rattle.std.specs.Arc.{arc_value}
 use Rattle.std.specs.declared.sync.Arc.{Arc}
-use Rattle.std.specs.List.{AllByRecursion, list_any}
+use Rattle.std.specs.List.{AllByRecursion}
 use Rattle.std.specs.Map.{lookup, keys_of}
 use Rattle.std.proofs.lemmas.List.{map-append, map_more, take-append-drop}
 use Rattle.dice_key.specs.Meaning.{Meaning}
@@ -12,7 +12,7 @@ use Rattle.dice_model.specs.Log.{Has, AreDistinct, pair_of, pairs_of}
 use Rattle.injected.specs.History.{AllBelow}
 use Rattle.injected.specs.Seen.{Seen, sets_at, room_at}
 use Rattle.injected.specs.Inputs.{set_if}
-use Rattle.dice_steps.proofs.NotedLemmas.{AreSeen, any_has, has_any, seen_more, unequal, eq_turned}
+use Rattle.dice_steps.proofs.NotedLemmas.{unequal, eq_turned}
 use Rattle.dice_core.specs.Commits.{Fault, NotInjected, Twice, key_of, AreSettable, IsFault, IsFirstFault, HaveRoom, AreSet}
 
 -- ---- lists

@@ -1,5 +1,5 @@
 -- What stands along the events of tasks at one version.
-use Rattle.std.proofs.Common.{◌≡◌, inl, inr, ℕ, Bool, false, List, [], ◌∷◌, ◌++◌, map, reverse, Option, Some, None, refl, sym, ap, ◌∙◌, subst, append_assoc}
+use Rattle.std.proofs.Common.{◌≡◌, inl, inr, ℕ, Bool, false, List, [], ◌∷◌, ◌++◌, map, reverse, Option, Some, None, refl, sym, ◌∙◌, subst, append_assoc}
 use Rattle.std.proofs.lemmas.List.{append-nil}
 use Rattle.std.specs.List.{AllByRecursion}
 use Rattle.dice_key.specs.Meaning.{Meaning}
@@ -7,7 +7,7 @@ use Rattle.dice_model.specs.Log.{Has}
 use Rattle.injected.specs.Seen.{Seen}
 use Rattle.journal.specs.declared.event.Told.{Told}
 use Rattle.journal.specs.declared.event.Told.TheVariants.{Start, Keep, End, Cyclic, Drop, Lost}
-use Rattle.journal.specs.Events.{open_count, ended_at}
+use Rattle.journal.specs.Events.{open_count}
 use Rattle.versioned_graph.specs.Entries.{Stored}
 use Rattle.core_laws.specs.Tasks.{Outcome}
 use Rattle.dice_steps.specs.Cells.{CellsStand}

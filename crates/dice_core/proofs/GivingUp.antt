@@ -1,24 +1,16 @@
--- Tasks that are given up together, and the cascade after them, with their version in hand.
+-- What is told where tasks are given up together, and the cascade after them.
 use Rattle.std.specs.List.{AllByRecursion}
-use Rattle.dice_tasks.specs.Entries.{EntriesStand}
-use Rattle.std.proofs.Common.{◌≡◌, ◌<◌, inl, inr, ℕ, Bool, List, [], ◌∷◌, ◌++◌, map, reverse, Option, Some, sym, ap, ◌∙◌, subst, append_assoc}
+use Rattle.std.proofs.Common.{◌≡◌, ℕ, Bool, List, ◌++◌, map, Option, ap, ◌∙◌, append_assoc}
 use Rattle.dice_key.specs.Meaning.{Meaning}
-use Rattle.dice_model.specs.Log.{Has}
-use Rattle.task_share.specs.Asked.{IsDone}
-use Rattle.task_share.specs.Seen.{Share, asked_of}
-use Rattle.injected.specs.Seen.{Seen}
+use Rattle.task_share.specs.Seen.{Share}
 use Rattle.journal.specs.declared.event.Told.{Told}
 use Rattle.journal.specs.declared.event.Told.TheVariants.{Drop}
-use Rattle.journal.specs.Events.{ended_at}
-use Rattle.versioned_graph.specs.Entries.{Stored}
 use Rattle.core_laws.specs.Tasks.{Outcome}
-use Rattle.core_laws.specs.Desk.{World}
-use Rattle.dice_steps.specs.AtHand.{AtHand}
-use Rattle.dice_tasks.specs.Endings.{EndsTasks, GivesUpAll, AreTasked, told_end}
-use Rattle.dice_tasks.specs.Hands.{DeskSeen, Working}
+use Rattle.dice_tasks.specs.Endings.{GivesUpAll, told_end}
+use Rattle.dice_tasks.specs.Hands.{DeskSeen}
 use Rattle.dice_tasks.specs.Helds.{Held}
 use Rattle.dice_core.specs.Cores.{WorksOn}
-use Rattle.dice_core.proofs.EventLemmas.{GivesUp, all_tell, all_given_up, all_drops, all_both, all_works, ended_after, entries_given_up, cells_works, count_works}
+use Rattle.dice_core.proofs.EventLemmas.{GivesUp, all_tell, all_given_up, all_drops, all_both, all_works}
 
 module _ {K V : Type 0} (eq : K → K → Bool) (m : Meaning K V) (v : ℕ) (path : Option (List K)) (k : K) where
   module _ (ps qs : List (K × Share K (Held K V))) (d e : DeskSeen K V) (g : GivesUpAll eq v path k ps qs d e) where

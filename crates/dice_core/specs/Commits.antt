@@ -7,10 +7,9 @@ use Rattle.dice_key.specs.Meaning.{Meaning}
 use Rattle.dice_key.specs.declared.universe.Kind.TheVariants.{Injected}
 use Rattle.dice_model.specs.Log.{Has, AreDistinct}
 use Rattle.injected.specs.Seen.{Seen, sets_at, room_at, newest_at}
-use Rattle.injected.specs.Inputs.{AreOf, set_if}
+use Rattle.injected.specs.Inputs.{set_if}
 use Rattle.journal.specs.declared.event.Told.{Told}
 use Rattle.journal.specs.declared.event.Told.TheVariants.{Commit}
-use Rattle.journal.specs.Events.{commits_of}
 use Rattle.dice_core.specs.declared.commit.CommitRefusal.{CommitRefusal}
 use Rattle.dice_core.specs.declared.commit.CommitRefusal.TheVariants as refusal
 
