@@ -1,0 +1,5 @@
+pub mod Turned
+pub mod Indices
+pub mod Kept
+pub mod Adding
+pub mod Replying

@@ -1,0 +1,64 @@
+-- What the core has come to, and what is answered, is true of the journal.
+use Rattle.std.proofs.Common.{◌≡◌, ◌≢◌, ◌<◌, ◌⊎◌, inl, inr, ℕ, Bool, true, false, cond, nat_eq, List, [], ◌∷◌, length, Option, Some, None, refl, sym, ap, ◌∙◌, subst, arith}
+use Rattle.std.specs.Prelude.{reverse, is_some}
+use Rattle.dice_key.specs.Meaning.{Meaning}
+use Rattle.dice_key.specs.declared.universe.Kind.{Kind}
+use Rattle.dice_key.specs.declared.universe.Kind.TheVariants.{Injected, Computed, Projection}
+use Rattle.dice_model.specs.Eval.{HasValue}
+use Rattle.journal.specs.declared.event.Told.{Told}
+use Rattle.journal.specs.Events.{Decision, ByValue, ByCycle, decided, open_count}
+use Rattle.core_laws.specs.Stands.{CycleStands, lost_in_epoch}
+use Rattle.dice_core.specs.Cores.{Came, ToValue, ToCycle, ToNothing, Pending, Absent, decision_of, injected_to}
+use Rattle.dice_engine.specs.Turns.{log_of}
+use Rattle.dice_engine.specs.Replies.{Reply, NotLive, NotYet, TheValue, TheCycle, NoRoom, Tells, IsLiveIn, IsBusy, IsValued, MayRefuse, IsReply}
+
+module _ {K V : Type 0} where
+  -- where a transaction is open an injected key has its value
+  pub injected_value : (q : Kind) (n : ℕ) (x : V) (o : Came K V) → q ≡ Injected → 0 < n → injected_to q n x o ≡ ToValue x
+  injected_value q n x o e some = ap (λ k. injected_to k n x o) e ∙ by_count n some
+    where
+      by_count : (n : ℕ) → 0 < n → injected_to Injected n x o ≡ ToValue x
+      by_count 0 l = absurd (omega arith)
+      by_count (suc n) l = refl
+
+  no_length : {X : Type 0} (xs : List X) → length xs ≡ 0 → xs ≡ []
+  no_length [] e = refl
+  no_length (x ∷ xs) e = absurd (omega arith)
+
+module _ {K V A B : Type 0} (eq : K → K → Bool) (m : Meaning K V) (J : List (Told K V)) (v : ℕ) (k : K) (ask : ℕ) (ready : List A) (out : List B) (live : IsLiveIn J ask)
+  (came : Came K V)
+  (injected : m.kind k ≡ Injected → (x : V) × (came ≡ ToValue x))
+  (value : (x : V) → came ≡ ToValue x → HasValue eq m (log_of J) v k x)
+  (cycle : (p : List K) → came ≡ ToCycle p → CycleStands eq m (log_of J) v k p)
+  (decides : m.kind k ≢ Injected → decided eq (reverse J) v k ≡ decision_of came)
+  (lost : came ≡ ToNothing → lost_in_epoch eq (reverse J) v k ≡ true)
+  (quiet : ready ≡ [] → out ≡ [] → came ≢ Pending) where
+  valued : (x : V) → came ≡ ToValue x → IsValued eq m J v k
+  valued x e = by_kind (m.kind k) refl
+    where
+      by_kind : (q : Kind) → m.kind k ≡ q → IsValued eq m J v k
+      by_kind Injected h = inl h
+      by_kind Computed h = inr (decides (λ i. cc) ∙ ap decision_of e)
+      by_kind Projection h = inr (decides (λ i. cc) ∙ ap decision_of e)
+
+  may_refuse : (x : V) → IsValued eq m J v k → MayRefuse eq m J v k
+  may_refuse x (inl h) = inl h
+  may_refuse x (inr h) = inr (inl (ByValue, h))
+
+  -- what is told of what the core has come to
+  pub told_so : (c : Came K V) → came ≡ c → (r : Reply K V) → Tells c r → IsReply eq m J v k ask (length ready, length out, 0) r
+  told_so (ToValue x) e r (inl t) = subst (IsReply eq m J v k ask (length ready, length out, 0)) (sym t) (live, valued x e, value x e)
+  told_so (ToValue x) e r (inr t) = subst (IsReply eq m J v k ask (length ready, length out, 0)) (sym t) (live, may_refuse x (valued x e))
+  told_so (ToCycle p) e r t =
+      let computed : m.kind k ≢ Injected = λ i. (let h = (injected i).1 in cc) in
+      let d : decided eq (reverse J) v k ≡ Some ByCycle = decides computed ∙ ap decision_of e in
+      by_told t computed d
+    where
+      by_told : (r ≡ TheCycle p) ⊎ (r ≡ NoRoom) → m.kind k ≢ Injected → decided eq (reverse J) v k ≡ Some ByCycle → IsReply eq m J v k ask (length ready, length out, 0) r
+      by_told (inl t) computed d = subst (IsReply eq m J v k ask (length ready, length out, 0)) (sym t) (live, computed, d, cycle p e)
+      by_told (inr t) computed d = subst (IsReply eq m J v k ask (length ready, length out, 0)) (sym t) (live, inr (inl (ByCycle, d)))
+  told_so ToNothing e r t = subst (IsReply eq m J v k ask (length ready, length out, 0)) (sym t) (live, inr (inr (lost e)))
+  told_so Pending e r t =
+      let computed : m.kind k ≢ Injected = λ i. (let h = (injected i).1 in cc) in
+      subst (IsReply eq m J v k ask (length ready, length out, 0)) (sym t) (live, computed, decides computed ∙ ap decision_of e, λ a b. quiet (no_length ready a) (no_length out b) e)
+  told_so Absent e r t = absurd t

@@ -1,0 +1,151 @@
+-- What a turn comes to, from what the turnstile says of its begin and its end, and what was added in it.
+use Rattle.std.proofs.Common.{◌≡◌, ◌<◌, ◌≤◌, ℕ, ◌+◌, Bool, true, false, if◌then◌else◌, List, [], ◌∷◌, ◌++◌, length, Option, Some, None, refl, sym, ap, ◌∙◌, subst, arith, append_assoc, append-nil, eq-eqb}
+use Rattle.std.specs.List.{AllByRecursion}
+use Rattle.std.specs.Prelude.{Result, Ok, Err, IfOk, OnErr}
+use Rattle.dice_key.specs.Meaning.{Meaning}
+use Rattle.journal.specs.declared.event.Told.{Told}
+use Rattle.journal.specs.declared.event.Told.TheVariants.{Commit, Open, Close, Ask, Leave, Start, Keep, End, Cyclic, Drop, Lost}
+use Rattle.journal.specs.Tell.{event_by}
+use Rattle.dice_core.specs.Cores.{IsWorkAt}
+use Rattle.turnstile.specs.Events.{StartsWith, has_number, events_by, AllBelow, IsOwn, AllOwn, Grows}
+use Rattle.turnstile.specs.Seats.{SeatView, in_turn, IsAfterTurn, EachNote, NotedIn}
+use Rattle.turnstile.proofs.Events.{events_by-append}
+use Rattle.dice_engine.specs.Turns.{newest_in, AreBy, AreOfTasks, Adds, Later, Turn, Works, rests, works}
+
+module _ {K V : Type 0} where
+  -- events of tasks tell no number
+  of_task : (v : ℕ) (e : Told K V) → IsWorkAt v e → event_by e ≡ None
+  of_task v (Start w k c) h = refl
+  of_task v (Keep w k b) h = refl
+  of_task v (End w k) h = refl
+  of_task v (Cyclic w k) h = refl
+  of_task v (Drop w k) h = refl
+  of_task v (Lost w k) h = refl
+  of_task v (Commit by c) h = absurd h
+  of_task v (Open by w) h = absurd h
+  of_task v (Close by t) h = absurd h
+  of_task v (Ask by t k) h = absurd h
+  of_task v (Leave by a) h = absurd h
+
+  tasks_are_own : (n w v : ℕ) (es : List (Told K V)) → AllByRecursion (IsWorkAt v) es → AllOwn event_by n w es
+  tasks_are_own n w v [] a = tt
+  tasks_are_own n w v (e ∷ es) a = (subst (IsOwn n w) (sym (of_task v e a.0)) tt, tasks_are_own n w v es a.1)
+
+  then_tasks : (n w v : ℕ) (own work : List (Told K V)) → n < w → AreBy n own → AllByRecursion (IsWorkAt v) work → AllOwn event_by n w (own ++ work)
+  then_tasks n w v [] work below by a = tasks_are_own n w v work a
+  then_tasks n w v (e ∷ own) work below by a = (subst (IsOwn n w) (sym by.0) (refl, below), then_tasks n w v own work below by.1 a)
+
+  none_of_tasks : (n v : ℕ) (es : List (Told K V)) → AllByRecursion (IsWorkAt v) es → events_by event_by n es ≡ []
+  none_of_tasks n v [] a = refl
+  none_of_tasks n v (e ∷ es) a = ap (λ o. if has_number n o then e ∷ events_by event_by n es else events_by event_by n es) (of_task v e a.0) ∙ none_of_tasks n v es a.1
+
+  all_of_own : (n : ℕ) (es : List (Told K V)) → AreBy n es → events_by event_by n es ≡ es
+  all_of_own n [] a = refl
+  all_of_own n (e ∷ es) a =
+      ap (λ o. if has_number n o then e ∷ events_by event_by n es else events_by event_by n es) a.0
+      ∙ (ap (λ (b : Bool). if b then e ∷ events_by event_by n es else events_by event_by n es) (eq-eqb n n refl) ∙ ap (λ l. e ∷ l) (all_of_own n es a.1))
+
+  -- what a seat finds of its own, after what was added
+  mine_more : (n : ℕ) (J own work : List (Told K V)) → AreBy n own → AreOfTasks work → events_by event_by n (J ++ (own ++ work)) ≡ events_by event_by n J ++ own
+  mine_more n J own work by tasks =
+      events_by-append event_by n J (own ++ work)
+      ∙ ap (λ l. events_by event_by n J ++ l)
+      (events_by-append event_by n own work ∙ (ap (λ l. l ++ events_by event_by n work) (all_of_own n own by) ∙ (ap (λ l. own ++ l) (none_of_tasks n tasks.0 work tasks.1) ∙ append-nil own)))
+
+module _ {K V : Type 0} (eq : K → K → Bool) (m : Meaning K V) where
+  -- a writer may add its own events, and any seat those of tasks
+  pub grows : (n w : ℕ) (J I : List (Told K V)) (P : List (Told K V) → List (Told K V) → Type 0) → n < w → Adds eq m n J I P → Grows event_by n w J I
+  grows n w J I P below a = (a.own ++ a.work, a.journal, then_tasks n w a.of_tasks.0 a.own a.work below a.by a.of_tasks.1)
+
+  pub grows_by_tasks : (n w z : ℕ) (J I : List (Told K V)) (P : List (Told K V) → List (Told K V) → Type 0) → (a : Adds eq m z J I P) → a.own ≡ [] → Grows event_by n w J I
+  grows_by_tasks n w z J I P a none = (a.work, a.journal ∙ ap (λ l. J ++ (l ++ a.work)) none, tasks_are_own n w a.of_tasks.0 a.work a.of_tasks.1)
+
+  -- where no event of its own is added, it does not matter whose turn it is
+  pub of_any : (n z : ℕ) (J I : List (Told K V)) (P : List (Told K V) → List (Told K V) → Type 0) → (a : Adds eq m z J I P) → a.own ≡ [] → Adds eq m n J I P
+  of_any n z J I P a none = record {
+    own = a.own;
+    work = a.work;
+    journal = a.journal;
+    by = subst (AreBy n) (sym none) tt;
+    of_tasks = a.of_tasks;
+    lawful = a.lawful;
+    did = a.did;
+  }
+
+  pub did_so : (n : ℕ) (J I : List (Told K V)) (P Q : List (Told K V) → List (Told K V) → Type 0) → Adds eq m n J I P → ((own work : List (Told K V)) → P own work → Q own work) → Adds eq m n J I Q
+  did_so n J I P Q a f = record {
+    own = a.own;
+    work = a.work;
+    journal = a.journal;
+    by = a.by;
+    of_tasks = a.of_tasks;
+    lawful = a.lawful;
+    did = f a.own a.work a.did;
+  }
+
+  module _ (old mid new : SeatView (Told K V)) (J I : List (Told K V)) (P : List (Told K V) → List (Told K V) → List (Told K V) → Type 0) where
+    -- the turn of a seat
+    pub turned : mid ≡ in_turn old J → StartsWith J old.seen → events_by event_by old.number J ≡ old.mine → old.floor ≤ newest_in J
+        → new.seen ≡ I → new.mine ≡ events_by event_by new.number new.seen → new.turns ≡ mid.turns + 1 → (mid.floor ≤ new.floor) × (newest_in new.seen ≤ new.floor) → AllBelow event_by new.writers new.seen
+        → EachNote (NotedIn event_by new.seen) new.ended → IsAfterTurn mid new → Adds eq m old.number J I (P J) → Turn eq m old new P
+    turned is begins found floor seen mine turns floors below noted same a =
+        let after : IsAfterTurn old new = subst (λ s. IsAfterTurn s new) is same in
+        let number : new.number ≡ old.number = ap (λ (s : SeatView (Told K V)). s.number) after in
+        let count : new.turns ≡ old.turns + 1 = turns ∙ ap (λ (s : SeatView (Told K V)). s.turns + 1) is in
+        let all : new.seen ≡ J ++ (a.own ++ a.work) = seen ∙ a.journal in
+        let adds : Adds eq m old.number J new.seen (P J) = subst (λ l. Adds eq m old.number J l (P J)) (sym seen) a in record {
+          found = J;
+          begins = begins;
+          found_mine = found;
+          found_floor = floor;
+          adds = adds;
+          mine = mine ∙ (ap (λ n. events_by event_by n new.seen) number ∙ (ap (events_by event_by old.number) all ∙ (mine_more old.number J a.own a.work a.by a.of_tasks ∙ ap (λ l. l ++ a.own) found)));
+          turns = count;
+          later = record {
+            same = after;
+            turns = omega arith;
+            begins = (begins.0 ++ (a.own ++ a.work), all ∙ (ap (λ l. l ++ (a.own ++ a.work)) begins.1 ∙ append_assoc old.seen begins.0 (a.own ++ a.work)));
+            lawful = adds.lawful;
+            mine = mine;
+            noted = noted;
+            below = below;
+            floor = subst (λ (s : SeatView (Told K V)). s.floor ≤ new.floor) is floors.0;
+            newest = floors.1;
+          };
+        }
+
+module _ {K V : Type 0} (eq : K → K → Bool) (m : Meaning K V) where
+  pub turn_so : (old new : SeatView (Told K V)) (P Q : List (Told K V) → List (Told K V) → List (Told K V) → Type 0) → Turn eq m old new P
+      → ((found own work : List (Told K V)) → P found own work → Q found own work) → Turn eq m old new Q
+  turn_so old new P Q t f = record {
+    found = t.found;
+    begins = t.begins;
+    found_mine = t.found_mine;
+    found_floor = t.found_floor;
+    adds = did_so eq m old.number t.found new.seen (P t.found) (Q t.found) t.adds (f t.found);
+    mine = t.mine;
+    turns = t.turns;
+    later = t.later;
+  }
+
+  -- later than later
+  pub later_later : (a b c : SeatView (Told K V)) → Later eq m a b → Later eq m b c → Later eq m a c
+  later_later a b c p q = record {
+    same = q.same ∙ ap (λ (s : SeatView (Told K V)). record s { away = true; seen = c.seen; mine = c.mine; floor = c.floor; left = c.left; turns = c.turns }) p.same;
+    turns = (let x = p.turns in let y = q.turns in omega arith);
+    begins = (p.begins.0 ++ q.begins.0, q.begins.1 ∙ (ap (λ l. l ++ q.begins.0) p.begins.1 ∙ append_assoc a.seen p.begins.0 q.begins.0));
+    lawful = q.lawful;
+    mine = q.mine;
+    noted = q.noted;
+    below = q.below;
+    floor = (let x = p.floor in let y = q.floor in omega arith);
+    newest = q.newest;
+  }
+
+  same_mine : (mid new : SeatView (Told K V)) → Turn eq m mid new (λ found own work. own ≡ []) → new.mine ≡ mid.mine
+  same_mine mid new t = t.mine ∙ (ap (λ l. mid.mine ++ l) t.adds.did ∙ append-nil mid.mine)
+
+  -- one more turn of work
+  pub work_later : (old mid new : SeatView (Told K V)) → Works eq m old mid → Turn eq m mid new (λ found own work. own ≡ []) → Later eq m old new × (new.mine ≡ old.mine)
+  work_later old mid new rests t = (t.later, same_mine old new t)
+  work_later old mid new (works w u) t = let r = work_later old _ mid w u in (later_later old mid new r.0 t.later, same_mine mid new t ∙ r.1)
