@@ -17,11 +17,7 @@ use Rattle.dice_core.specs.Makings.{IsOfMake}
 use Rattle.dice_engine.specs.Turns.{log_of, newest_in, AreBy, AreOfTasks, Adds}
 use Rattle.dice_engine.specs.Calls.{AddsNothing, AreDrops, Opens, Closes, Asks, Leaves, differs_from, differing_from, Commits}
 
-module _ {K V : Type 0} where
-  commit_by : (n : ℕ) (c : List (K × V)) → AreBy n (event_of n c)
-  commit_by n [] = tt
-  commit_by n (p ∷ c) = (refl, tt)
-
+module _ {K : Type 0} (V : Type 0) where
   pub are_dropped : (v : ℕ) (ks : List K) → AllByRecursion (IsWorkAt {V = V} v) (map (Drop v) ks)
   are_dropped v [] = tt
   are_dropped v (k ∷ ks) = (refl, are_dropped v ks)
@@ -29,6 +25,11 @@ module _ {K V : Type 0} where
   pub are_lost : (v : ℕ) (ls ks : List K) → AllByRecursion (IsWorkAt {V = V} v) (map (Lost v) ls ++ map (Drop v) ks)
   are_lost v [] ks = are_dropped v ks
   are_lost v (l ∷ ls) ks = (refl, are_lost v ls ks)
+
+module _ {K V : Type 0} where
+  commit_by : (n : ℕ) (c : List (K × V)) → AreBy n (event_of n c)
+  commit_by n [] = tt
+  commit_by n (p ∷ c) = (refl, tt)
 
   made : (v : ℕ) (k : K) (e : Told K V) → IsOfMake v k e → IsWorkAt v e
   made v k (Start w q c) h = h.0
@@ -56,7 +57,7 @@ module _ {K V : Type 0} (eq : K → K → Bool) (m : Meaning K V) (J I : List (T
   opens n e = record { own = Open n (newest_in J) ∷ []; work = []; journal = e; by = (refl, tt); of_tasks = (0, tt); lawful = lawful; did = (refl, refl) }
 
   pub closes : (n t v : ℕ) (ks : List K) → I ≡ J ++ (Close n t ∷ map (Drop v) ks) → Adds eq m n J I (Closes n t v)
-  closes n t v ks e = record { own = Close n t ∷ []; work = map (Drop v) ks; journal = e; by = (refl, tt); of_tasks = (v, are_dropped v ks); lawful = lawful; did = (refl, (ks, refl)) }
+  closes n t v ks e = record { own = Close n t ∷ []; work = map (Drop v) ks; journal = e; by = (refl, tt); of_tasks = (v, are_dropped V v ks); lawful = lawful; did = (refl, (ks, refl)) }
 
   pub asks : (n t v : ℕ) (k : K) (made : List (Told K V)) → IsToldOfMake v k made → I ≡ J ++ (Ask n t k ∷ made) → Adds eq m n J I (Asks n t v k)
   asks n t v k made h e = record { own = Ask n t k ∷ []; work = made; journal = e; by = (refl, tt); of_tasks = (v, are_made v k made h); lawful = lawful; did = (refl, h) }
@@ -67,7 +68,7 @@ module _ {K V : Type 0} (eq : K → K → Bool) (m : Meaning K V) (J I : List (T
     work = map (Drop v) ks;
     journal = e;
     by = (refl, tt);
-    of_tasks = (v, are_dropped v ks);
+    of_tasks = (v, are_dropped V v ks);
     lawful = lawful;
     did = rw h (refl, (ks, refl));
   }

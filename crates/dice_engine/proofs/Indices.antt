@@ -21,6 +21,13 @@ abbrev pub back_get : {E : Type 0} → List E → ℕ → Option E
 back_get [] i = None
 back_get (e ∷ R) i = cond (eqb (length R) i) (Some e) (back_get R i)
 
+same_after : (n k : ℕ) → eqb (n + 1) (suc k) ≡ eqb n k
+same_after n k = by_test (eqb n k) refl
+  where
+    by_test : (b : Bool) → eqb n k ≡ b → eqb (n + 1) (suc k) ≡ b
+    by_test true e = eq-eqb (n + 1) (suc k) (let h = eqb-true n k e in omega arith)
+    by_test false e = ne_eqb (n + 1) (suc k) (λ h. (let q : n ≡ k = omega arith in let z : true ≡ false = sym (eq-eqb n k q) ∙ e in cc))
+
 module _ {E : Type 0} where
   pub back_below : (R : List E) (i : ℕ) (e : E) → back_get R i ≡ Some e → i < length R
   back_below [] i e h = absurd (none-some e h)
@@ -39,13 +46,10 @@ module _ {E : Type 0} where
   back_first (y ∷ R) x = back_more y (R ++ x ∷ []) 0 (omega (arith, length-append R (x ∷ []))) ∙ back_first R x
 
   back_later : (R : List E) (x : E) (i : ℕ) → back_get (R ++ x ∷ []) (suc i) ≡ back_get R i
-  back_later [] x i = refl
+  back_later [] x i = ap (λ b. cond b (Some x) None) (ne_eqb 0 (suc i) (λ h. omega arith))
   back_later (y ∷ R) x i =
       (λ j. cond (eqb (length-append R (x ∷ []) j) (suc i)) (Some y) (back_later R x i j))
-      ∙ ap (λ b. cond b (Some y) (back_get R i)) (same (length R) i)
-    where
-      same : (n k : ℕ) → eqb (n + 1) (suc k) ≡ eqb n k
-      same n k = refl
+      ∙ ap (λ b. cond b (Some y) (back_get R i)) (same_after (length R) i)
 
   -- the element of an index of a list is that of the reversed one, counted from its end
   pub from_front : (J : List E) (i : ℕ) → back_get (reverse J) i ≡ slice_get J i
@@ -86,12 +90,12 @@ module _ {E : Type 0} where
   -- the same elements stand in the reversed list
   pub has_reverse : (J : List E) (e : E) → Has (reverse J) e → Has J e
   has_reverse [] e h = h
-  has_reverse (x ∷ J) e h = by_part (has_front (reverse J) (x ∷ []) e (subst (λ l. Has l e) (reverse-append (x ∷ []) J) h))
+  has_reverse (x ∷ J) e h = by_part (λ a. has_reverse J e a) (has_front (reverse J) (x ∷ []) e (subst (λ l. Has l e) (reverse-append (x ∷ []) J) h))
     where
-      by_part : Has (reverse J) e ⊎ Has (x ∷ []) e → Has (x ∷ J) e
-      by_part (inl a) = inr (has_reverse J e a)
-      by_part (inr (inl p)) = inl p
-      by_part (inr (inr q)) = absurd q
+      by_part : (Has (reverse J) e → Has J e) → Has (reverse J) e ⊎ Has (x ∷ []) e → Has (x ∷ J) e
+      by_part again (inl a) = inr (again a)
+      by_part again (inr (inl p)) = inl p
+      by_part again (inr (inr q)) = absurd q
 
   pub has_reversed : (J : List E) (e : E) → Has J e → Has (reverse J) e
   has_reversed [] e h = h
@@ -214,11 +218,11 @@ module _ {K V : Type 0} where
       by_index : (b : Bool) → cond b (Some (record { by = by; version = v })) (open_at R i) ≡ Some o → (open_at R i ≡ Some o → back_get R i ≡ Some (Open o.by o.version)) → cond b (Some (Open by v)) (back_get R i) ≡ Some (Open o.by o.version)
       by_index true q again = ap (λ (o : Opened). Some (Open o.by o.version)) (same_Some _ _ q)
       by_index false q again = again q
-  open_stands (Close by t ∷ R) i o e = by_index (eqb t i) e
+  open_stands (Close by t ∷ R) i o e = by_index (eqb t i) e (λ q. open_stands R i o q)
     where
-      by_index : (b : Bool) → cond b None (open_at R i) ≡ Some o → back_get (Close by t ∷ R) i ≡ Some (Open o.by o.version)
-      by_index true q = absurd (none-some o q)
-      by_index false q = back_more (Close by t) R i (opened_below R i o q) ∙ open_stands R i o q
+      by_index : (b : Bool) → cond b None (open_at R i) ≡ Some o → (open_at R i ≡ Some o → back_get R i ≡ Some (Open o.by o.version)) → back_get (Close by t ∷ R) i ≡ Some (Open o.by o.version)
+      by_index true q again = absurd (none-some o q)
+      by_index false q again = back_more (Close by t) R i (opened_below R i o q) ∙ again q
   open_stands (Commit by c ∷ R) i o e = back_more (Commit by c) R i (opened_below R i o e) ∙ open_stands R i o e
   open_stands (Ask by t k ∷ R) i o e = back_more (Ask by t k) R i (opened_below R i o e) ∙ open_stands R i o e
   open_stands (Leave by a ∷ R) i o e = back_more (Leave by a) R i (opened_below R i o e) ∙ open_stands R i o e
@@ -236,11 +240,11 @@ module _ {K V : Type 0} where
       by_index : (b : Bool) → cond b (Some (record { by = by; opened = t; key = k })) (live_at R i) ≡ Some a → (live_at R i ≡ Some a → back_get R i ≡ Some (Ask a.by a.opened a.key)) → cond b (Some (Ask by t k)) (back_get R i) ≡ Some (Ask a.by a.opened a.key)
       by_index true q again = ap (λ (a : Asking K). Some (Ask a.by a.opened a.key)) (same_Some _ _ q)
       by_index false q again = again q
-  live_stands (Leave by j ∷ R) i a e = by_index (eqb j i) e
+  live_stands (Leave by j ∷ R) i a e = by_index (eqb j i) e (λ q. live_stands R i a q)
     where
-      by_index : (b : Bool) → cond b None (live_at R i) ≡ Some a → back_get (Leave by j ∷ R) i ≡ Some (Ask a.by a.opened a.key)
-      by_index true q = absurd (none-some a q)
-      by_index false q = back_more (Leave by j) R i (live_below R i a q) ∙ live_stands R i a q
+      by_index : (b : Bool) → cond b None (live_at R i) ≡ Some a → (live_at R i ≡ Some a → back_get R i ≡ Some (Ask a.by a.opened a.key)) → back_get (Leave by j ∷ R) i ≡ Some (Ask a.by a.opened a.key)
+      by_index true q again = absurd (none-some a q)
+      by_index false q again = back_more (Leave by j) R i (live_below R i a q) ∙ again q
   live_stands (Close by t ∷ R) i a e = let h = (still_live R t i a e).0 in back_more (Close by t) R i (live_below R i a h) ∙ live_stands R i a h
   live_stands (Commit by c ∷ R) i a e = back_more (Commit by c) R i (live_below R i a e) ∙ live_stands R i a e
   live_stands (Open by v ∷ R) i a e = back_more (Open by v) R i (live_below R i a e) ∙ live_stands R i a e
@@ -344,11 +348,11 @@ module _ {K V : Type 0} (eq : K → K → Bool) (m : Meaning K V) where
       at_close : (b : Bool) → b ≡ true → cond b None (open_at R i) ≡ Some o → ⊥
       at_close true t e = none-some o e
       at_close false t e = cc
-  open_unclosed (Close c t ∷ R) i o l e by (inr h) = at_close (eqb t i) e
+  open_unclosed (Close c t ∷ R) i o l e by (inr h) = at_close (eqb t i) e (λ q. open_unclosed R i o l.1 q by h)
     where
-      at_close : (b : Bool) → cond b None (open_at R i) ≡ Some o → ⊥
-      at_close true e = none-some o e
-      at_close false e = open_unclosed R i o l.1 e by h
+      at_close : (b : Bool) → cond b None (open_at R i) ≡ Some o → (open_at R i ≡ Some o → ⊥) → ⊥
+      at_close true q again = none-some o q
+      at_close false q again = again q
   open_unclosed (Commit b c ∷ R) i o l e by (inl p) = cc
   open_unclosed (Commit b c ∷ R) i o l e by (inr h) = open_unclosed R i o l.1 e by h
   open_unclosed (Ask b t k ∷ R) i o l e by (inl p) = cc

@@ -19,17 +19,17 @@ use Rattle.dice_engine.proofs.Indices.{back_get, back_below, from_front, get_lon
 
 -- parts of events
 module _ {K V : Type 0} where
-  by_of : Told K V → ℕ
+  abbrev by_of : Told K V → ℕ
   by_of (Open by v) = by
   by_of (Ask by t k) = by
   by_of _ = 0
 
-  number_in : Told K V → ℕ
+  abbrev number_in : Told K V → ℕ
   number_in (Open by v) = v
   number_in (Ask by t k) = t
   number_in _ = 0
 
-  key_in : K → Told K V → K
+  abbrev key_in : K → Told K V → K
   key_in d (Ask by t k) = k
   key_in d _ = d
 
@@ -51,7 +51,7 @@ module _ {K V : Type 0} (eq : K → K → Bool) (m : Meaning K V) (s : SeatView 
       → (a.opened ≡ t) × (a.key ≡ k) × ((o : Opened) → open_at (reverse J) a.opened ≡ Some o → o.version ≡ v)
   saw i t v k h a e =
       let p = same_asking (reverse J) i h.asker t k a (still_stands i (Ask h.asker t k) h.asked) e in
-      (p.1, p.2, λ o q. (same_opened (reverse J) t h.opener v o (still_stands t (Open h.opener v) h.open) (subst (λ x. open_at (reverse J) x ≡ Some o) p.1 q)).1)
+      (p.1, p.2, λ o q. (same_opened (reverse J) t h.opener v o (still_stands t (Open h.opener v) h.opening) (subst (λ x. open_at (reverse J) x ≡ Some o) p.1 q)).1)
 
   module _ (mine : events_by event_by s.number J ≡ s.mine) where
     -- no Close of a transaction of its own but those that it knows of
@@ -74,7 +74,7 @@ module _ {K V : Type 0} (eq : K → K → Bool) (m : Meaning K V) (s : SeatView 
 
     -- a transaction that it opened and has not closed is open
     pub has_open : (t v : ℕ) → HasOpen s t v → open_at (reverse J) t ≡ Some (record { by = s.number; version = v })
-    has_open t v h = stands_open (reverse J) t s.number v (still_stands t (Open s.number v) h.open) (unclosed t v h.open h.not_closed)
+    has_open t v h = stands_open (reverse J) t s.number v (still_stands t (Open s.number v) h.opening) (unclosed t v h.opening h.not_closed)
 
     -- an ask that it made and has not left is live, where its transaction is open
     pub ask_lives : (i t v : ℕ) (k : K) → HasAsk s i t v k → (o : Opened) → open_at (reverse J) t ≡ Some o → live_at (reverse J) i ≡ Some (record { by = s.number; opened = t; key = k })
@@ -83,7 +83,7 @@ module _ {K V : Type 0} (eq : K → K → Bool) (m : Meaning K V) (s : SeatView 
 
     pub leaves_open : (i t v : ℕ) (k : K) → HasAsk s i t v k → (o : Opened) → open_at (reverse J) t ≡ Some o → (a : Asking K) × (live_at (reverse J) i ≡ Some a) × (a.opened ≡ t) × (o.version ≡ v)
     leaves_open i t v k h o e =
-        (record { by = s.number; opened = t; key = k }, ask_lives i t v k h o e, refl, (same_opened (reverse J) t s.number v o (still_stands t (Open s.number v) h.open) e).1)
+        (record { by = s.number; opened = t; key = k }, ask_lives i t v k h o e, refl, (same_opened (reverse J) t s.number v o (still_stands t (Open s.number v) h.opening) e).1)
 
     pub leaves_closed : (i t v : ℕ) (k : K) → HasAsk s i t v k → (a : Asking K) → live_at (reverse J) i ≡ Some a → (a.opened ≡ t) × (o : Opened) × (open_at (reverse J) t ≡ Some o)
     leaves_closed i t v k h a e =

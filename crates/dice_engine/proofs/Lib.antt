@@ -3,3 +3,4 @@ pub mod Indices
 pub mod Kept
 pub mod Adding
 pub mod Replying
+pub mod Callers

@@ -1,6 +1,7 @@
 -- What the core has come to, and what is answered, is true of the journal.
-use Rattle.std.proofs.Common.{◌≡◌, ◌≢◌, ◌<◌, ◌⊎◌, inl, inr, ℕ, Bool, true, false, cond, nat_eq, List, [], ◌∷◌, length, Option, Some, None, refl, sym, ap, ◌∙◌, subst, arith}
+use Rattle.std.proofs.Common.{◌≡◌, ◌≢◌, ◌<◌, ◌⊎◌, inl, inr, ℕ, zero, suc, Bool, true, false, cond, nat_eq, List, [], ◌∷◌, length, Option, Some, None, refl, sym, ap, ◌∙◌, subst, arith}
 use Rattle.std.specs.Prelude.{reverse, is_some}
+use Rattle.std.proofs.lemmas.Bool.{ne_eqb}
 use Rattle.dice_key.specs.Meaning.{Meaning}
 use Rattle.dice_key.specs.declared.universe.Kind.{Kind}
 use Rattle.dice_key.specs.declared.universe.Kind.TheVariants.{Injected, Computed, Projection}
@@ -12,18 +13,18 @@ use Rattle.dice_core.specs.Cores.{Came, ToValue, ToCycle, ToNothing, Pending, Ab
 use Rattle.dice_engine.specs.Turns.{log_of}
 use Rattle.dice_engine.specs.Replies.{Reply, NotLive, NotYet, TheValue, TheCycle, NoRoom, Tells, IsLiveIn, IsBusy, IsValued, MayRefuse, IsReply}
 
+no_length : {X : Type 0} (xs : List X) → length xs ≡ 0 → xs ≡ []
+no_length [] e = refl
+no_length (x ∷ xs) e = absurd (omega arith)
+
 module _ {K V : Type 0} where
   -- where a transaction is open an injected key has its value
   pub injected_value : (q : Kind) (n : ℕ) (x : V) (o : Came K V) → q ≡ Injected → 0 < n → injected_to q n x o ≡ ToValue x
   injected_value q n x o e some = ap (λ k. injected_to k n x o) e ∙ by_count n some
     where
       by_count : (n : ℕ) → 0 < n → injected_to Injected n x o ≡ ToValue x
-      by_count 0 l = absurd (omega arith)
-      by_count (suc n) l = refl
-
-  no_length : {X : Type 0} (xs : List X) → length xs ≡ 0 → xs ≡ []
-  no_length [] e = refl
-  no_length (x ∷ xs) e = absurd (omega arith)
+      by_count zero l = absurd (omega arith)
+      by_count (suc n) l = ap (λ b. cond b o (ToValue x)) (ne_eqb (suc n) 0 (λ h. omega arith))
 
 module _ {K V A B : Type 0} (eq : K → K → Bool) (m : Meaning K V) (J : List (Told K V)) (v : ℕ) (k : K) (ask : ℕ) (ready : List A) (out : List B) (live : IsLiveIn J ask)
   (came : Came K V)

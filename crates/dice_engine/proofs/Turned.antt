@@ -5,6 +5,7 @@ use Rattle.std.specs.Prelude.{Result, Ok, Err, IfOk, OnErr}
 use Rattle.dice_key.specs.Meaning.{Meaning}
 use Rattle.journal.specs.declared.event.Told.{Told}
 use Rattle.journal.specs.declared.event.Told.TheVariants.{Commit, Open, Close, Ask, Leave, Start, Keep, End, Cyclic, Drop, Lost}
+use Rattle.journal.specs.Law.{IsLawfulJournal}
 use Rattle.journal.specs.Tell.{event_by}
 use Rattle.dice_core.specs.Cores.{IsWorkAt}
 use Rattle.turnstile.specs.Events.{StartsWith, has_number, events_by, AllBelow, IsOwn, AllOwn, Grows}
@@ -93,19 +94,27 @@ module _ {K V : Type 0} (eq : K → K → Bool) (m : Meaning K V) where
         let number : new.number ≡ old.number = ap (λ (s : SeatView (Told K V)). s.number) after in
         let count : new.turns ≡ old.turns + 1 = turns ∙ ap (λ (s : SeatView (Told K V)). s.turns + 1) is in
         let all : new.seen ≡ J ++ (a.own ++ a.work) = seen ∙ a.journal in
-        let adds : Adds eq m old.number J new.seen (P J) = subst (λ l. Adds eq m old.number J l (P J)) (sym seen) a in record {
+        let legal : IsLawfulJournal eq m new.seen = subst (IsLawfulJournal eq m) (sym seen) a.lawful in record {
           found = J;
           begins = begins;
           found_mine = found;
           found_floor = floor;
-          adds = adds;
+          adds = record {
+            own = a.own;
+            work = a.work;
+            journal = all;
+            by = a.by;
+            of_tasks = a.of_tasks;
+            lawful = legal;
+            did = a.did;
+          };
           mine = mine ∙ (ap (λ n. events_by event_by n new.seen) number ∙ (ap (events_by event_by old.number) all ∙ (mine_more old.number J a.own a.work a.by a.of_tasks ∙ ap (λ l. l ++ a.own) found)));
           turns = count;
           later = record {
             same = after;
             turns = omega arith;
             begins = (begins.0 ++ (a.own ++ a.work), all ∙ (ap (λ l. l ++ (a.own ++ a.work)) begins.1 ∙ append_assoc old.seen begins.0 (a.own ++ a.work)));
-            lawful = adds.lawful;
+            lawful = legal;
             mine = mine;
             noted = noted;
             below = below;
@@ -122,7 +131,15 @@ module _ {K V : Type 0} (eq : K → K → Bool) (m : Meaning K V) where
     begins = t.begins;
     found_mine = t.found_mine;
     found_floor = t.found_floor;
-    adds = did_so eq m old.number t.found new.seen (P t.found) (Q t.found) t.adds (f t.found);
+    adds = record {
+      own = t.adds.own;
+      work = t.adds.work;
+      journal = t.adds.journal;
+      by = t.adds.by;
+      of_tasks = t.adds.of_tasks;
+      lawful = t.adds.lawful;
+      did = f t.found t.adds.own t.adds.work t.adds.did;
+    };
     mine = t.mine;
     turns = t.turns;
     later = t.later;

@@ -6,7 +6,7 @@ use Rattle.journal.specs.declared.event.Told.{Told}
 use Rattle.journal.specs.Events.{commits_of}
 use Rattle.journal.specs.Tell.{event_by}
 use Rattle.journal.specs.Law.{IsLawfulJournal}
-use Rattle.dice_core.specs.Cores.{IsWorkAt}
+use Rattle.dice_core.specs.Cores.{CoreSeen, IsWorkAt}
 use Rattle.turnstile.specs.Events.{StartsWith, events_by, AllBelow}
 use Rattle.turnstile.specs.Seats.{SeatView, IsAfterTurn, EachNote, NotedIn}
 
@@ -19,6 +19,10 @@ module _ {K V : Type 0} where
   abbrev pub newest_in : List (Told K V) → ℕ
   newest_in J = length (log_of J)
 
+  -- how many tasks are ready, and how many jobs are out
+  abbrev pub left_of : CoreSeen K V → ℕ × ℕ × ℕ
+  left_of c = (length c.desk.ready, length c.desk.out, 0)
+
   -- each of the events tells the number n
   abbrev pub AreBy : ℕ → List (Told K V) → Type 0
   AreBy n es = AllByRecursion (λ e. event_by e ≡ Some n) es
@@ -26,6 +30,10 @@ module _ {K V : Type 0} where
   -- the events are of tasks at one version, and so tell no number
   abbrev pub AreOfTasks : List (Told K V) → Type 0
   AreOfTasks es = (v : ℕ) × AllByRecursion (IsWorkAt v) es
+
+  -- only events of tasks were added
+  abbrev pub WorksOn : List (Told K V) → List (Told K V) → Type 0
+  WorksOn J I = (es : List (Told K V)) × (I ≡ J ++ es) × AreOfTasks es
 
 module _ {K V : Type 0} (eq : K → K → Bool) (m : Meaning K V) where
   -- for the seat n the journal J became I: its own events were added, and then events of tasks; P says which

@@ -44,7 +44,7 @@ impl<U: Universe> Engine<U> {
         ensures { IfOk result (λ t. t.1 ≡ first_seat t.0 writers) }
     {
         let core = Core::new(alloc, Arc::try_clone(&universe)?)?;
-        match Turnstile::new(alloc, State { core }, writers) {
+        match Turnstile::new(alloc, State::new(core), writers) {
             Ok((stile, seat)) => Ok((Engine { stile, universe }, seat)),
             Err(_) => Err(NoMemory),
         }

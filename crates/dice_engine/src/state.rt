@@ -1,35 +1,38 @@
 //! The state that lies in the slot of the turnstile, and the core's calls on it: one of them in each turn.
-ghost use Rattle.std.specs.Prelude.{◌≡◌, ◌≢◌, ℕ, ◌×◌, [], true, length, reverse, is_some, Some, IfOk, IfErr, IfSome, IfNone, OnOk, OnErr, MatchResult};
+ghost use Rattle.std.specs.Prelude.{◌≡◌, ◌≢◌, ℕ, [], true, length, reverse, is_some, Some, IfOk, IfErr, IfSome, IfNone, OnOk, OnErr, MatchResult};
 ghost use Rattle.std.specs.Arc.{arc_value};
 ghost use Rattle.std.specs.Map.{keys_of};
 ghost use Rattle.journal.specs.Events.{Opened, Asking, open_at, live_at};
 ghost use Rattle.dice_core.specs.Commits.{Fault, fault_of, AreSettable, IsFirstFault};
+ghost use Rattle.journal.specs.Law.{IsLawfulJournal};
 ghost use Rattle.dice_core.specs.Cores.{events_of, poll_of};
-ghost use Rattle.dice_jobs.specs.Jobs.{Stepped};
-ghost use Rattle.dice_engine.specs.Turns.{newest_in, log_of, Adds};
+ghost use Rattle.dice_engine.specs.Turns.{newest_in, log_of, left_of, Adds, WorksOn};
 ghost use Rattle.dice_engine.specs.Calls.{AddsNothing, Opens, Closes, Asks, Leaves, Commits};
 ghost use Rattle.dice_engine.specs.Replies.{reply_of, Tells, IsLiveIn, IsReply};
 
 use crate::promise::{Answer, Promise, Transaction};
 use crate::updater::Updater;
-use dice_core::{CommitRefusal, Core, Gave, Job, JobName, Polled, Step};
+use dice_core::{CommitRefusal, Core, Job, JobName, Polled, Step};
 use dice_key::{KeyRef, NoMemory, Universe, Version};
 use injected::cells_are_the_inputs;
 use journal::Told;
 use std::sync::Arc;
 use turnstile::Tale;
 
-/// The state that the seats of an engine have in turns: its core.
+/// The state that the seats of an engine have in turns: its core, and what it tells of itself between two turns.
 #[derive(Drop)]
 pub struct State<U: Universe> {
-    pub(crate) core: Core<U>,
+    core: Core<U>,
+    left: (u64, u64, u64),
+    newest: u64,
+    ghost counted: { left ≡ left_of core },
+    ghost numbered: { newest ≡ newest_in (events_of core) },
 }
 
 impl<U: Universe> Tale for State<U> {
-    ghost use Rattle.std.specs.Prelude.{length};
     ghost use Rattle.journal.specs.Tell.{event_by};
     ghost use Rattle.dice_core.specs.Cores.{events_of};
-    ghost use Rattle.dice_engine.specs.Turns.{newest_in};
+    ghost use Rattle.dice_engine.specs.Turns.{newest_in, left_of};
     ghost use Rattle.dice_engine.specs.Rises.{newest_rises};
 
     type Event = Told<U::Key, U::Value>;
@@ -38,22 +41,40 @@ impl<U: Universe> Tale for State<U> {
 
     ghost by = { event_by };
 
-    ghost counts = { λ s. (length s.core.desk.ready, length s.core.desk.out, 0) };
+    ghost counts = { λ s. left_of s.core };
 
     ghost version = { newest_in };
 
     fn tally(&self) -> (u64, u64, u64) {
-        (self.core.ready(), self.core.out(), 0)
+        self.left
     }
 
     fn list_version(&self) -> u64 {
-        self.core.newest()
+        self.newest
     }
 
     ghost rises = { newest_rises };
 }
 
+/// What a core tells of itself: how many tasks are ready and how many jobs are out, and the newest version.
+fn standing<U: Universe>(core: &Core<U>) -> ((u64, u64, u64), u64)
+    ensures left { result.0 ≡ left_of core.now }
+    ensures newest { result.1 ≡ newest_in (events_of core.now) }
+    ensures lawful { IsLawfulJournal U.Key.eq U.meaning (events_of core.now) }
+{
+    core.in_order();
+    ((core.ready(), core.out(), 0), core.newest())
+}
+
 impl<U: Universe> State<U> {
+    /// A state with this core.
+    pub(crate) fn new(core: Core<U>) -> State<U>
+        ensures { result.core ≡ core }
+    {
+        let (left, newest) = standing(&core);
+        State { core, left, newest }
+    }
+
     /// Commits changes for a seat.
     pub(crate) fn commit<'a>(
         &mut self,
@@ -70,7 +91,9 @@ impl<U: Universe> State<U> {
         cells_are_the_inputs::<U>();
         self.core.in_order();
         let result = self.core.commit(by, updater.pairs());
-        self.core.in_order();
+        let (left, newest) = standing(&self.core);
+        self.left = left;
+        self.newest = newest;
         result
     }
 
@@ -80,9 +103,11 @@ impl<U: Universe> State<U> {
         ensures ok { OnOk result (Adds U.Key.eq U.meaning by (events_of self.old.core) (events_of self.new.core) (Opens by (events_of self.old.core))) }
         ensures err { OnErr result (Adds U.Key.eq U.meaning by (events_of self.old.core) (events_of self.new.core) AddsNothing) }
     {
-        let version = self.core.newest();
+        let version = self.newest;
         let opened = self.core.open(by);
-        self.core.in_order();
+        let (left, newest) = standing(&self.core);
+        self.left = left;
+        self.newest = newest;
         Ok(Transaction {
             version,
             opened: opened?,
@@ -95,7 +120,9 @@ impl<U: Universe> State<U> {
         ensures { (o : Opened) × (open_at (reverse (events_of self.old.core)) transaction.opened ≡ Some o) × Adds U.Key.eq U.meaning o.by (events_of self.old.core) (events_of self.new.core) (Closes o.by transaction.opened o.version) }
     {
         self.core.close(transaction.opened);
-        self.core.in_order();
+        let (left, newest) = standing(&self.core);
+        self.left = left;
+        self.newest = newest;
     }
 
     /// Asks for a key in a transaction, for a seat.
@@ -110,9 +137,13 @@ impl<U: Universe> State<U> {
         ensures ok { OnOk result (Adds U.Key.eq U.meaning by (events_of self.old.core) (events_of self.new.core) (Asks by transaction.now.opened transaction.now.version (arc_value key))) }
         ensures err { OnErr result (Adds U.Key.eq U.meaning by (events_of self.old.core) (events_of self.new.core) AddsNothing) }
     {
-        let asked = Arc::try_clone(&key)?;
-        let ask = self.core.ask(by, transaction.opened, asked);
-        self.core.in_order();
+        let ask = match Arc::try_clone(&key) {
+            Ok(asked) => self.core.ask(by, transaction.opened, asked),
+            Err(_) => Err(NoMemory),
+        };
+        let (left, newest) = standing(&self.core);
+        self.left = left;
+        self.newest = newest;
         Ok(Promise {
             version: transaction.version,
             opened: transaction.opened,
@@ -131,17 +162,19 @@ impl<U: Universe> State<U> {
         if self.core.stands(promise.ask) {
             self.core.leave(promise.ask);
         }
-        self.core.in_order();
+        let (left, newest) = standing(&self.core);
+        self.left = left;
+        self.newest = newest;
     }
 
     /// What a promise has come to.
     pub(crate) fn poll(&self, promise: &Promise<U>) -> Result<Answer<U>, NoMemory>
         requires { (a : Asking U.Key) → live_at (reverse (events_of self.now.core)) promise.now.ask ≡ Some a → (a.opened ≡ promise.now.opened) × (a.key ≡ arc_value promise.now.key) × ((o : Opened) → open_at (reverse (events_of self.now.core)) a.opened ≡ Some o → o.version ≡ promise.now.version) }
-        ensures reply { IsReply U.Key.eq U.meaning (events_of self.now.core) promise.now.version (arc_value promise.now.key) promise.now.ask (length self.now.core.desk.ready, length self.now.core.desk.out, 0) (reply_of result) }
+        ensures reply { IsReply U.Key.eq U.meaning (events_of self.now.core) promise.now.version (arc_value promise.now.key) promise.now.ask (left_of self.now.core) (reply_of result) }
 
         // Where the ask is live, what is answered is what the core has come to.
         ensures exact { IsLiveIn (events_of self.now.core) promise.now.ask → Tells (poll_of U.Key.eq U.meaning self.now.core promise.now.version (arc_value promise.now.key)) (reply_of result) }
-        ensures lawful { Adds U.Key.eq U.meaning 0 (events_of self.now.core) (events_of self.now.core) AddsNothing }
+        ensures lawful { IsLawfulJournal U.Key.eq U.meaning (events_of self.now.core) }
     {
         self.core.in_order();
         if !self.core.stands(promise.ask) {
@@ -162,7 +195,9 @@ impl<U: Universe> State<U> {
         ensures none { IfNone result (self.new.core.desk.ready ≡ []) }
     {
         let job = self.core.take_job();
-        self.core.in_order();
+        let (left, newest) = standing(&self.core);
+        self.left = left;
+        self.newest = newest;
         job
     }
 
@@ -171,25 +206,28 @@ impl<U: Universe> State<U> {
         ensures { Adds U.Key.eq U.meaning 0 (events_of self.old.core) (events_of self.new.core) (λ own work. own ≡ []) }
     {
         match came {
-            Ok(step) => self.give(step),
-            Err(name) => {
-                self.core.fail(&name);
-            }
+            Ok(step) => give(&mut self.core, step),
+            Err(name) => fail(&mut self.core, &name),
         }
-        self.core.in_order();
+        let (left, newest) = standing(&self.core);
+        self.left = left;
+        self.newest = newest;
     }
+}
 
-    // Gives a step. Where there is no memory for it, its job is given up.
-    fn give(&mut self, step: Step<U>)
-        ensures { Adds U.Key.eq U.meaning 0 (events_of self.old.core) (events_of self.new.core) (λ own work. own ≡ []) }
-    {
-        match self.core.give(step) {
-            Ok(Gave::Taken) => {}
-            Ok(Gave::Stale(_)) => {}
-            Err((NoMemory, step)) => {
-                self.core.fail(step.assignment().name());
-            }
-        }
-        self.core.in_order();
+/// Gives a step. Where there is no memory for it, its job is given up.
+fn give<U: Universe>(core: &mut Core<U>, step: Step<U>)
+    ensures { WorksOn (events_of core.old) (events_of core.new) }
+{
+    match core.give(step) {
+        Ok(gave) => drop(gave),
+        Err((NoMemory, step)) => fail(core, step.assignment().name()),
     }
+}
+
+/// Gives up the job of this name, where it is out.
+fn fail<U: Universe>(core: &mut Core<U>, name: &JobName<U>)
+    ensures { WorksOn (events_of core.old) (events_of core.new) }
+{
+    core.fail(name);
 }

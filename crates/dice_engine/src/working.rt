@@ -1,5 +1,5 @@
 //! The calls of an engine that do jobs.
-ghost use Rattle.std.specs.Prelude.{◌≡◌, ◌×◌, ◌<◌, ◌++◌, ◌→◌};
+ghost use Rattle.std.specs.Prelude.{◌≡◌, [], IfNone};
 ghost use Rattle.std.specs.Arc.{arc_value};
 ghost use Rattle.turnstile.specs.Seats.{IsSeatOf};
 ghost use Rattle.dice_engine.specs.declared.promise.Worked.TheVariants as worked;
