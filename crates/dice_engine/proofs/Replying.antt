@@ -1,13 +1,15 @@
 -- What the core has come to, and what is answered, is true of the journal.
-use Rattle.std.proofs.Common.{◌≡◌, ◌≢◌, ◌<◌, ◌⊎◌, inl, inr, ℕ, zero, suc, Bool, true, false, cond, nat_eq, List, [], ◌∷◌, length, Option, Some, None, refl, sym, ap, ◌∙◌, subst, arith}
+use Rattle.std.proofs.Common.{◌≡◌, ◌≢◌, ◌<◌, ◌⊎◌, inl, inr, ℕ, zero, suc, Bool, true, false, cond, nat_eq, eqb, List, [], ◌∷◌, length, Option, Some, None, refl, sym, ap, ◌∙◌, subst, arith}
 use Rattle.std.specs.Prelude.{reverse, is_some}
-use Rattle.std.proofs.lemmas.Bool.{ne_eqb}
+use Rattle.std.proofs.lemmas.Bool.{ne_eqb, eq-eqb}
 use Rattle.dice_key.specs.Meaning.{Meaning}
 use Rattle.dice_key.specs.declared.universe.Kind.{Kind}
 use Rattle.dice_key.specs.declared.universe.Kind.TheVariants.{Injected, Computed, Projection}
 use Rattle.dice_model.specs.Eval.{HasValue}
 use Rattle.journal.specs.declared.event.Told.{Told}
-use Rattle.journal.specs.Events.{Decision, ByValue, ByCycle, decided, open_count}
+use Rattle.journal.specs.Events.{Opened, Asking, Decision, ByValue, ByCycle, is_for, decided, open_at, opened_at, live_at, open_count}
+use Rattle.journal.specs.Law.{IsLawfulJournal}
+use Rattle.core_laws.proofs.Indices.{live_opened, opened_counts}
 use Rattle.core_laws.specs.Stands.{CycleStands, lost_in_epoch}
 use Rattle.dice_core.specs.Cores.{Came, ToValue, ToCycle, ToNothing, Pending, Absent, decision_of, injected_to}
 use Rattle.dice_engine.specs.Turns.{log_of}
@@ -25,6 +27,21 @@ module _ {K V : Type 0} where
       by_count : (n : ℕ) → 0 < n → injected_to Injected n x o ≡ ToValue x
       by_count zero l = absurd (omega arith)
       by_count (suc n) l = ap (λ b. cond b o (ToValue x)) (ne_eqb (suc n) 0 (λ h. omega arith))
+
+-- an ask that is live, whose transaction is at v
+module _ {K V : Type 0} (eq : K → K → Bool) (m : Meaning K V) (J : List (Told K V)) (lawful : IsLawfulJournal eq m J) (v ask : ℕ) where
+  pub asking_of : IsLiveIn J ask → (a : Asking K) × (live_at (reverse J) ask ≡ Some a)
+  asking_of live = by_option (live_at (reverse J) ask) refl live
+    where
+      by_option : (o : Option (Asking K)) → live_at (reverse J) ask ≡ o → is_some o ≡ true → (a : Asking K) × (live_at (reverse J) ask ≡ Some a)
+      by_option (Some a) e h = (a, e)
+      by_option None e h = absurd (cc)
+
+  pub opened_there : (a : Asking K) → live_at (reverse J) ask ≡ Some a → ((o : Opened) → open_at (reverse J) a.opened ≡ Some o → o.version ≡ v) → opened_at (reverse J) v a.opened ≡ true
+  opened_there a e f = let o = live_opened eq m (reverse J) ask a lawful e in ap (is_for (λ (o : Opened). eqb o.version v)) o.1 ∙ eq-eqb o.0.version v (f o.0 o.1)
+
+  pub some_open : (a : Asking K) → live_at (reverse J) ask ≡ Some a → ((o : Opened) → open_at (reverse J) a.opened ≡ Some o → o.version ≡ v) → 0 < open_count (reverse J) v
+  some_open a e f = opened_counts eq m (reverse J) v a.opened lawful (opened_there a e f)
 
 module _ {K V A B : Type 0} (eq : K → K → Bool) (m : Meaning K V) (J : List (Told K V)) (v : ℕ) (k : K) (ask : ℕ) (ready : List A) (out : List B) (live : IsLiveIn J ask)
   (came : Came K V)

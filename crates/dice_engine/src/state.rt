@@ -1,11 +1,14 @@
 //! The state that lies in the slot of the turnstile, and the core's calls on it: one of them in each turn.
-ghost use Rattle.std.specs.Prelude.{◌≡◌, ◌≢◌, ℕ, [], true, length, reverse, is_some, Some, IfOk, IfErr, IfSome, IfNone, OnOk, OnErr, MatchResult};
+ghost use Rattle.std.specs.Prelude.{◌≡◌, ◌≢◌, ℕ, List, [], ◌∷◌, ◌++◌, length, reverse, Some, IfOk, IfErr, IfSome, IfNone, OnOk, OnErr, MatchResult};
 ghost use Rattle.std.specs.Arc.{arc_value};
 ghost use Rattle.std.specs.Map.{keys_of};
 ghost use Rattle.journal.specs.Events.{Opened, Asking, open_at, live_at};
 ghost use Rattle.dice_core.specs.Commits.{Fault, fault_of, AreSettable, IsFirstFault};
+ghost use Rattle.journal.specs.declared.event.Told.{Told};
+ghost use Rattle.journal.specs.declared.event.Told.TheVariants.{Ask};
 ghost use Rattle.journal.specs.Law.{IsLawfulJournal};
-ghost use Rattle.dice_core.specs.Cores.{events_of, poll_of};
+ghost use Rattle.dice_core.specs.Cores.{Absent, came_of, events_of, poll_of};
+ghost use Rattle.dice_core.specs.Joinings.{IsToldOfMake};
 ghost use Rattle.dice_engine.specs.Turns.{newest_in, log_of, left_of, Adds, WorksOn};
 ghost use Rattle.dice_engine.specs.Calls.{AddsNothing, Opens, Closes, Asks, Leaves, Commits};
 ghost use Rattle.dice_engine.specs.Replies.{reply_of, Tells, IsLiveIn, IsReply};
@@ -137,10 +140,7 @@ impl<U: Universe> State<U> {
         ensures ok { OnOk result (Adds U.Key.eq U.meaning by (events_of self.old.core) (events_of self.new.core) (Asks by transaction.now.opened transaction.now.version (arc_value key))) }
         ensures err { OnErr result (Adds U.Key.eq U.meaning by (events_of self.old.core) (events_of self.new.core) AddsNothing) }
     {
-        let ask = match Arc::try_clone(&key) {
-            Ok(asked) => self.core.ask(by, transaction.opened, asked),
-            Err(_) => Err(NoMemory),
-        };
+        let ask = ask_again(&mut self.core, by, transaction.opened, &key);
         let (left, newest) = standing(&self.core);
         self.left = left;
         self.newest = newest;
@@ -180,13 +180,7 @@ impl<U: Universe> State<U> {
         if !self.core.stands(promise.ask) {
             return Ok(Answer::Gone);
         }
-        match self.core.poll(promise.version, &promise.key) {
-            Polled::Value(value) => Ok(Answer::Value(Arc::try_clone(value)?)),
-            Polled::Cycle(path) => Ok(Answer::Cycle(Arc::try_clone(path)?)),
-            Polled::Lost => Err(NoMemory),
-            Polled::Pending => Ok(Answer::Pending),
-            Polled::Absent => unreachable!(),
-        }
+        answer_of(self.core.poll(promise.version, &promise.key))
     }
 
     /// Takes the job of a task that is ready.
@@ -212,6 +206,35 @@ impl<U: Universe> State<U> {
         let (left, newest) = standing(&self.core);
         self.left = left;
         self.newest = newest;
+    }
+}
+
+/// Asks for a key, of which the caller keeps the reference.
+fn ask_again<U: Universe>(
+    core: &mut Core<U>,
+    by: u64,
+    opened: u64,
+    key: &KeyRef<U>,
+) -> Result<u64, NoMemory>
+    requires { (o : Opened) × (open_at (reverse (events_of core.old)) opened ≡ Some o) }
+    ensures index { IfOk result (λ i. i ≡ length (events_of core.old)) }
+    ensures ok { OnOk result ((o : Opened) × (made : List (Told U.Key U.Value)) × (open_at (reverse (events_of core.old)) opened ≡ Some o) × IsToldOfMake o.version (arc_value key.now) made × (events_of core.new ≡ events_of core.old ++ (Ask by opened (arc_value key.now) ∷ made))) }
+    ensures err { OnErr result (events_of core.new ≡ events_of core.old) }
+{
+    core.ask(by, opened, Arc::try_clone(key)?)
+}
+
+/// What is answered of what a key has come to.
+fn answer_of<U: Universe>(polled: Polled<'_, U>) -> Result<Answer<U>, NoMemory>
+    requires { came_of polled ≢ Absent }
+    ensures { Tells (came_of polled.entry) (reply_of result) }
+{
+    match polled {
+        Polled::Value(value) => Ok(Answer::Value(Arc::try_clone(value)?)),
+        Polled::Cycle(path) => Ok(Answer::Cycle(Arc::try_clone(path)?)),
+        Polled::Lost => Err(NoMemory),
+        Polled::Pending => Ok(Answer::Pending),
+        Polled::Absent => unreachable!(),
     }
 }
 
