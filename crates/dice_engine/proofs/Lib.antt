@@ -4,3 +4,4 @@ pub mod Kept
 pub mod Adding
 pub mod Replying
 pub mod Callers
+pub mod Begun

@@ -84,44 +84,75 @@ module _ {K V : Type 0} (eq : K → K → Bool) (m : Meaning K V) where
     did = f a.own a.work a.did;
   }
 
-  module _ (old mid new : SeatView (Told K V)) (J I : List (Told K V)) (P : List (Told K V) → List (Told K V) → List (Told K V) → Type 0) where
-    -- the turn of a seat
-    pub turned : mid ≡ in_turn old J → StartsWith J old.seen → events_by event_by old.number J ≡ old.mine → old.floor ≤ newest_in J
-        → new.seen ≡ I → new.mine ≡ events_by event_by new.number new.seen → new.turns ≡ mid.turns + 1 → (mid.floor ≤ new.floor) × (newest_in new.seen ≤ new.floor) → AllBelow event_by new.writers new.seen
-        → EachNote (NotedIn event_by new.seen) new.ended → IsAfterTurn mid new → Adds eq m old.number J I (P J) → Turn eq m old new P
-    turned is begins found floor seen mine turns floors below noted same a =
-        let after : IsAfterTurn old new = subst (λ s. IsAfterTurn s new) is same in
-        let number : new.number ≡ old.number = ap (λ (s : SeatView (Told K V)). s.number) after in
-        let count : new.turns ≡ old.turns + 1 = turns ∙ ap (λ (s : SeatView (Told K V)). s.turns + 1) is in
-        let all : new.seen ≡ J ++ (a.own ++ a.work) = seen ∙ a.journal in
-        let legal : IsLawfulJournal eq m new.seen = subst (IsLawfulJournal eq m) (sym seen) a.lawful in record {
-          found = J;
-          begins = begins;
-          found_mine = found;
-          found_floor = floor;
-          adds = record {
-            own = a.own;
-            work = a.work;
-            journal = all;
-            by = a.by;
-            of_tasks = a.of_tasks;
-            lawful = legal;
-            did = a.did;
-          };
-          mine = mine ∙ (ap (λ n. events_by event_by n new.seen) number ∙ (ap (events_by event_by old.number) all ∙ (mine_more old.number J a.own a.work a.by a.of_tasks ∙ ap (λ l. l ++ a.own) found)));
-          turns = count;
-          later = record {
-            same = after;
-            turns = omega arith;
-            begins = (begins.0 ++ (a.own ++ a.work), all ∙ (ap (λ l. l ++ (a.own ++ a.work)) begins.1 ∙ append_assoc old.seen begins.0 (a.own ++ a.work)));
-            lawful = legal;
-            mine = mine;
-            noted = noted;
-            below = below;
-            floor = subst (λ (s : SeatView (Told K V)). s.floor ≤ new.floor) is floors.0;
-            newest = floors.1;
-          };
-        }
+  -- a turn was begun, and the journal J was found
+  pub record Entered (old mid : SeatView (Told K V)) (J : List (Told K V)) : Type 0 where
+    pub is : mid ≡ in_turn old J
+    pub begins : StartsWith J old.seen
+    pub found : events_by event_by old.number J ≡ old.mine
+    pub floor : old.floor ≤ newest_in J
+
+  pub entered : (old mid : SeatView (Told K V)) (H J : List (Told K V)) → J ≡ H → mid ≡ in_turn old H → StartsWith H old.seen → events_by event_by old.number H ≡ old.mine → old.floor ≤ newest_in H → Entered old mid J
+  entered old mid H J e is begins found floor = subst (Entered old mid) (sym e) (record { is = is; begins = begins; found = found; floor = floor })
+
+  -- and ended, with the journal I
+  pub record Ended (mid new : SeatView (Told K V)) (I : List (Told K V)) : Type 0 where
+    pub seen : new.seen ≡ I
+    pub mine : new.mine ≡ events_by event_by new.number new.seen
+    pub turns : new.turns ≡ mid.turns + 1
+    pub floor : (mid.floor ≤ new.floor) × (newest_in new.seen ≤ new.floor)
+    pub below : AllBelow event_by new.writers new.seen
+    pub noted : EachNote (NotedIn event_by new.seen) new.ended
+    pub same : IsAfterTurn mid new
+
+  module _ (old mid : SeatView (Told K V)) (J I : List (Told K V)) where
+    -- the turn may end
+    pub may_leave : (n : ℕ) (P : List (Told K V) → List (Told K V) → Type 0) → Entered old mid J → old.number < old.writers → n ≡ old.number → Adds eq m n J I P → Grows event_by mid.number mid.writers mid.seen I
+    may_leave n P e below is a =
+        subst (λ (s : SeatView (Told K V)). Grows event_by s.number s.writers s.seen I) (sym e.is) (grows old.number old.writers J I P below (subst (λ n. Adds eq m n J I P) is a))
+
+    pub may_leave_tasks : (z : ℕ) (P : List (Told K V) → List (Told K V) → Type 0) → Entered old mid J → (a : Adds eq m z J I P) → a.own ≡ [] → Grows event_by mid.number mid.writers mid.seen I
+    may_leave_tasks z P e a none = subst (λ (s : SeatView (Told K V)). Grows event_by s.number s.writers s.seen I) (sym e.is) (grows_by_tasks old.number old.writers z J I P a none)
+
+    module _ (new : SeatView (Told K V)) (P : List (Told K V) → List (Told K V) → List (Told K V) → Type 0) where
+      -- the turn of a seat
+      pub turned : (n : ℕ) → Entered old mid J → Ended mid new I → n ≡ old.number → Adds eq m n J I (P J) → Turn eq m old new P
+      turned n e z is b =
+          let a : Adds eq m old.number J I (P J) = subst (λ n. Adds eq m n J I (P J)) is b in
+          let after : IsAfterTurn old new = subst (λ s. IsAfterTurn s new) e.is z.same in
+          let number : new.number ≡ old.number = ap (λ (s : SeatView (Told K V)). s.number) after in
+          let count : new.turns ≡ old.turns + 1 = z.turns ∙ ap (λ (s : SeatView (Told K V)). s.turns + 1) e.is in
+          let all : new.seen ≡ J ++ (a.own ++ a.work) = z.seen ∙ a.journal in
+          let legal : IsLawfulJournal eq m new.seen = subst (IsLawfulJournal eq m) (sym z.seen) a.lawful in record {
+            found = J;
+            begins = e.begins;
+            found_mine = e.found;
+            found_floor = e.floor;
+            adds = record {
+              own = a.own;
+              work = a.work;
+              journal = all;
+              by = a.by;
+              of_tasks = a.of_tasks;
+              lawful = legal;
+              did = a.did;
+            };
+            mine = z.mine ∙ (ap (λ n. events_by event_by n new.seen) number ∙ (ap (events_by event_by old.number) all ∙ (mine_more old.number J a.own a.work a.by a.of_tasks ∙ ap (λ l. l ++ a.own) e.found)));
+            turns = count;
+            later = record {
+              same = after;
+              turns = omega arith;
+              begins = (e.begins.0 ++ (a.own ++ a.work), all ∙ (ap (λ l. l ++ (a.own ++ a.work)) e.begins.1 ∙ append_assoc old.seen e.begins.0 (a.own ++ a.work)));
+              lawful = legal;
+              mine = z.mine;
+              noted = z.noted;
+              below = z.below;
+              floor = subst (λ (s : SeatView (Told K V)). s.floor ≤ new.floor) e.is z.floor.0;
+              newest = z.floor.1;
+            };
+          }
+
+      pub turned_any : (w : ℕ) → Entered old mid J → Ended mid new I → (a : Adds eq m w J I (P J)) → a.own ≡ [] → Turn eq m old new P
+      turned_any w e z a none = turned old.number e z refl (of_any old.number w J I (P J) a none)
 
 module _ {K V : Type 0} (eq : K → K → Bool) (m : Meaning K V) where
   pub turn_so : (old new : SeatView (Told K V)) (P Q : List (Told K V) → List (Told K V) → List (Told K V) → Type 0) → Turn eq m old new P

@@ -119,9 +119,10 @@ impl<U: Universe> State<U> {
 
     /// Closes a transaction.
     pub(crate) fn close(&mut self, transaction: Transaction)
-        requires { (o : Opened) × (open_at (reverse (events_of self.old.core)) transaction.opened ≡ Some o) }
+        requires { IsLawfulJournal U.Key.eq U.meaning (events_of self.old.core) → (o : Opened) × (open_at (reverse (events_of self.old.core)) transaction.opened ≡ Some o) }
         ensures { (o : Opened) × (open_at (reverse (events_of self.old.core)) transaction.opened ≡ Some o) × Adds U.Key.eq U.meaning o.by (events_of self.old.core) (events_of self.new.core) (Closes o.by transaction.opened o.version) }
     {
+        self.core.in_order();
         self.core.close(transaction.opened);
         let (left, newest) = standing(&self.core);
         self.left = left;
@@ -135,11 +136,12 @@ impl<U: Universe> State<U> {
         transaction: &Transaction,
         key: KeyRef<U>,
     ) -> Result<Promise<U>, NoMemory>
-        requires { (o : Opened) × (open_at (reverse (events_of self.old.core)) transaction.now.opened ≡ Some o) × (o.version ≡ transaction.now.version) }
+        requires { IsLawfulJournal U.Key.eq U.meaning (events_of self.old.core) → (o : Opened) × (open_at (reverse (events_of self.old.core)) transaction.now.opened ≡ Some o) × (o.version ≡ transaction.now.version) }
         ensures named { IfOk result (λ p. (p.version ≡ transaction.now.version) × (p.opened ≡ transaction.now.opened) × (p.ask ≡ length (events_of self.old.core)) × (arc_value p.key ≡ arc_value key)) }
         ensures ok { OnOk result (Adds U.Key.eq U.meaning by (events_of self.old.core) (events_of self.new.core) (Asks by transaction.now.opened transaction.now.version (arc_value key))) }
         ensures err { OnErr result (Adds U.Key.eq U.meaning by (events_of self.old.core) (events_of self.new.core) AddsNothing) }
     {
+        self.core.in_order();
         let ask = ask_again(&mut self.core, by, transaction.opened, &key);
         let (left, newest) = standing(&self.core);
         self.left = left;
@@ -154,9 +156,9 @@ impl<U: Universe> State<U> {
 
     /// Leaves an ask, where its transaction is still open.
     pub(crate) fn leave(&mut self, promise: Promise<U>)
-        requires open { (o : Opened) → open_at (reverse (events_of self.old.core)) promise.opened ≡ Some o → (a : Asking U.Key) × (live_at (reverse (events_of self.old.core)) promise.ask ≡ Some a) × (a.opened ≡ promise.opened) × (o.version ≡ promise.version) }
-        requires closed { (a : Asking U.Key) → live_at (reverse (events_of self.old.core)) promise.ask ≡ Some a → (a.opened ≡ promise.opened) × ((o : Opened) × (open_at (reverse (events_of self.old.core)) promise.opened ≡ Some o)) }
-        ensures { (n : ℕ) → ((a : Asking U.Key) → live_at (reverse (events_of self.old.core)) promise.ask ≡ Some a → a.by ≡ n) → Adds U.Key.eq U.meaning n (events_of self.old.core) (events_of self.new.core) (Leaves n promise.ask promise.opened promise.version (events_of self.old.core)) }
+        requires open { IsLawfulJournal U.Key.eq U.meaning (events_of self.old.core) → (o : Opened) → open_at (reverse (events_of self.old.core)) promise.opened ≡ Some o → (a : Asking U.Key) × (live_at (reverse (events_of self.old.core)) promise.ask ≡ Some a) × (a.opened ≡ promise.opened) × (o.version ≡ promise.version) }
+        requires closed { IsLawfulJournal U.Key.eq U.meaning (events_of self.old.core) → (a : Asking U.Key) → live_at (reverse (events_of self.old.core)) promise.ask ≡ Some a → (a.opened ≡ promise.opened) × ((o : Opened) × (open_at (reverse (events_of self.old.core)) promise.opened ≡ Some o)) }
+        ensures { (n : ℕ) → (IsLawfulJournal U.Key.eq U.meaning (events_of self.old.core) → (a : Asking U.Key) → live_at (reverse (events_of self.old.core)) promise.ask ≡ Some a → a.by ≡ n) → Adds U.Key.eq U.meaning n (events_of self.old.core) (events_of self.new.core) (Leaves n promise.ask promise.opened promise.version (events_of self.old.core)) }
     {
         self.core.in_order();
         if self.core.stands(promise.ask) {
@@ -169,7 +171,7 @@ impl<U: Universe> State<U> {
 
     /// What a promise has come to.
     pub(crate) fn poll(&self, promise: &Promise<U>) -> Result<Answer<U>, NoMemory>
-        requires { (a : Asking U.Key) → live_at (reverse (events_of self.now.core)) promise.now.ask ≡ Some a → (a.opened ≡ promise.now.opened) × (a.key ≡ arc_value promise.now.key) × ((o : Opened) → open_at (reverse (events_of self.now.core)) a.opened ≡ Some o → o.version ≡ promise.now.version) }
+        requires { IsLawfulJournal U.Key.eq U.meaning (events_of self.now.core) → (a : Asking U.Key) → live_at (reverse (events_of self.now.core)) promise.now.ask ≡ Some a → (a.opened ≡ promise.now.opened) × (a.key ≡ arc_value promise.now.key) × ((o : Opened) → open_at (reverse (events_of self.now.core)) a.opened ≡ Some o → o.version ≡ promise.now.version) }
         ensures reply { IsReply U.Key.eq U.meaning (events_of self.now.core) promise.now.version (arc_value promise.now.key) promise.now.ask (left_of self.now.core) (reply_of result) }
 
         // Where the ask is live, what is answered is what the core has come to.

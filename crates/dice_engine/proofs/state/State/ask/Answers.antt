@@ -15,7 +15,7 @@ returns-in_err-ask-clause-err g c =
 pub returns-clause-ok : goal.returns-clause-ok
 returns-clause-ok g c =
     let l = c.in_ok-ask.ensures.ok in
-    let o : l.0 ≡ c.requires.0 = same_Some _ _ (sym l.2 ∙ c.requires.1) in
-    let at : l.0.version ≡ c.args.transaction.now.version = ap (λ (x : Opened). x.version) o ∙ c.requires.2 in
+    let o : l.0 ≡ (c.requires c.in_order.ensures.lawful).0 = same_Some _ _ (sym l.2 ∙ (c.requires c.in_order.ensures.lawful).1) in
+    let at : l.0.version ≡ c.args.transaction.now.version = ap (λ (x : Opened). x.version) o ∙ (c.requires c.in_order.ensures.lawful).2 in
     asks g.U.Key.PartialEq.eq g.U.Universe.meaning _ _ c.standing-newest.ensures.lawful c.args.by c.args.transaction.now.opened c.args.transaction.now.version (arc_value c.args.key) l.1
     (subst (λ v. IsToldOfMake v (arc_value c.args.key) l.1) at l.3) l.4

@@ -14,7 +14,7 @@ answer_of-requires-after_bounds g c κs within = λ e.
     let J = events_of c.args.self.now.core in
     let p = c.args.promise.now in
     let a = asking_of eq m J c.in_order.ensures.lawful p.version p.ask (sym c.if-not-stands.ensures) in
-    let r = c.requires a.0 a.1 in
+    let r = c.requires c.in_order.ensures.lawful a.0 a.1 in
     c.poll.ensures.asked p.ask a.0 a.1 (opened_there eq m J c.in_order.ensures.lawful p.version p.ask a.0 a.1 r.2) r.1 e
 
 pub returns-clause-reply : goal.returns-clause-reply
@@ -27,7 +27,7 @@ returns-clause-reply g c =
     let k = arc_value p.key in
     let live = sym c.if-not-stands.ensures in
     let a = asking_of eq m J c.in_order.ensures.lawful p.version p.ask live in
-    let some = some_open eq m J c.in_order.ensures.lawful p.version p.ask a.0 a.1 (c.requires a.0 a.1).2 in
+    let some = some_open eq m J c.in_order.ensures.lawful p.version p.ask a.0 a.1 (c.requires c.in_order.ensures.lawful a.0 a.1).2 in
     let counted = subst (λ n. 0 < n) (sym (c.in_order.ensures.counts p.version)) some in
     told_so eq m J p.version k p.ask core.desk.ready core.desk.out live (came_of c.poll.result)
     (λ i. (cell_at eq m core.cells p.version k, c.poll.ensures.exact ∙ injected_value (m.kind k) _ (cell_at eq m core.cells p.version k) (held_to (held_in eq core p.version k)) i counted))
