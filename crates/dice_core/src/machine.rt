@@ -12,6 +12,7 @@ ghost use Rattle.task_share.specs.Seen.{task_at, asks};
 ghost use Rattle.journal.specs.Events.{Opened, Asking, commits_of, decided, open_at, open_count, opened_at, live_at};
 ghost use Rattle.injected.specs.Seen.{cell_at};
 ghost use Rattle.journal.specs.Law.{IsLawfulJournal};
+ghost use Rattle.version_epoch.specs.Standings.{open_count_of};
 ghost use Rattle.versioned_graph.specs.Sound.{AreTrue};
 ghost use Rattle.core_laws.specs.Stands.{CycleStands, lost_in_epoch};
 ghost use Rattle.dice_core.specs.Commits.{CellsStand, Fault, fault_of, AreSettable, IsFirstFault, differing_of, event_of};
@@ -97,6 +98,7 @@ impl<U: Universe> Core<U> {
         ensures lawful { IsLawfulJournal U.Key.eq U.meaning (events_of self.now) }
         ensures transactions { (i : ℕ) → transaction_at self.now.sessions i ≡ open_at (past_of self.now) i }
         ensures asks { (i : ℕ) → ask_at self.now.sessions i ≡ live_at (past_of self.now) i }
+        ensures counts { (v : ℕ) → open_count_of self.now.sessions.epochs v ≡ open_count (past_of self.now) v }
         ensures cells { CellsStand U.Key.eq (past_of self.now) self.now.cells }
 
         // Each entry holds true values at the versions that it is known for, up to the newest.

@@ -2,6 +2,7 @@
 #![tactic(auto)]
 
 mod append;
+mod client;
 mod driver;
 mod request;
 mod run_of;
