@@ -1,2 +1,9 @@
-pub mod Settled
 pub mod One
+pub mod Lists
+pub mod Endings
+pub mod Labels
+pub mod Asking
+pub mod Mentioned
+pub mod Reached
+pub mod Circles
+pub mod Turning

@@ -3,8 +3,9 @@ use Rattle.std.specs.Prelude.{ℕ, Bool, true, false, List, [], ◌∷◌, ◌++
 use Rattle.sha2.specs.Sha256.{sha256}
 use Rattle.buck_label.specs.Labels.{package_of, target_of, target_file_of, printed_package}
 use Rattle.target_file.specs.Targets.{Target, Located, target_named}
+use Rattle.target_file.specs.declared.action.Action.{Action}
 use Rattle.target_file.specs.Contents.{Contents, Holds, Fails, contents}
-use Rattle.dice_key.specs.Meaning.{Meaning, Answered, Step, Asks, Ends}
+use Rattle.dice_key.specs.Meaning.{Meaning, Answered, Step, Asks, Ends, answered_with}
 use Rattle.dice_key.specs.declared.universe.Kind.{Kind}
 use Rattle.dice_key.specs.declared.universe.Kind.TheVariants as kind
 use Rattle.action_digest.specs.declared.key.Key.{Key}
@@ -13,7 +14,8 @@ use Rattle.action_digest.specs.declared.value.Value.{Value}
 use Rattle.action_digest.specs.declared.value.Value.TheVariants as value
 use Rattle.action_digest.specs.declared.fault.Fault.{Fault}
 use Rattle.action_digest.specs.declared.fault.Fault.TheVariants.{NoPackage, BadFile, NoTarget}
-use Rattle.action_digest.specs.Actions.{action_text}
+use Rattle.action_digest.specs.declared.value.ActionText.{ActionText}
+use Rattle.action_digest.specs.Actions.{nothing, source_in, asked_by, action_of}
 
 abbrev pub kind_of : Key → Kind
 kind_of (key.Source p) = kind.Injected
@@ -22,7 +24,8 @@ kind_of (key.Rule l) = kind.Projection
 kind_of (key.Action l) = kind.Computed
 kind_of (key.Digest l) = kind.Projection
 
--- the one key that a key asks: of a package its target file, of a rule its package, of an action its rule, of a digest its action
+-- the one key that a key asks first: of a package its target file, of a rule its package, of an action its rule, of a digest its
+-- action
 abbrev pub base_of : Key → Key
 base_of (key.Source p) = key.Source p
 base_of (key.Package p) = key.Source (target_file_of p)
@@ -30,15 +33,7 @@ base_of (key.Rule l) = key.Package (package_of l)
 base_of (key.Action l) = key.Rule l
 base_of (key.Digest l) = key.Action l
 
--- what an answer of another kind stands for; no key is answered so
-abbrev pub nothing : Fault
-nothing = NoPackage []
-
--- what an answer says of a source, a package, a rule and an action
-abbrev pub source_in : Option Value → Option (List ℕ)
-source_in (Some (value.Source o)) = o
-source_in _ = None
-
+-- what an answer says of a package, a rule and an action
 abbrev pub package_in : Option Value → Result (List Located) Fault
 package_in (Some (value.Package r)) = r
 package_in _ = Err nothing
@@ -47,7 +42,7 @@ abbrev pub rule_in : Option Value → Result Target Fault
 rule_in (Some (value.Rule r)) = r
 rule_in _ = Err nothing
 
-abbrev pub action_in : Option Value → Result (List ℕ) Fault
+abbrev pub action_in : Option Value → Result ActionText Fault
 action_in (Some (value.Action r)) = r
 action_in _ = Err nothing
 
@@ -70,32 +65,56 @@ abbrev pub rule_by : List ℕ → Result (List Located) Fault → Result Target 
 rule_by l (Ok f) = found_by l (target_named (target_of l) f)
 rule_by l (Err e) = Err e
 
--- the text of an action, by its rule; a digest, by the text
-abbrev pub action_by : Result Target Fault → Result (List ℕ) Fault
-action_by (Ok t) = Ok (action_text t)
-action_by (Err e) = Err e
-
-abbrev pub digest_by : Result (List ℕ) Fault → Result (List ℕ) Fault
-digest_by (Ok text) = Ok (sha256 text)
+-- the digest of an action, by its text
+abbrev pub digest_by : Result ActionText Fault → Result (List ℕ) Fault
+digest_by (Ok a) = Ok (sha256 a.text)
 digest_by (Err e) = Err e
 
--- the value of a key, by the answer for its base
-abbrev pub value_by : Key → Option Value → Value
-value_by (key.Source p) x = value.Source None
-value_by (key.Package p) x = value.Package (package_by p (source_in x))
-value_by (key.Rule l) x = value.Rule (rule_by l (package_in x))
-value_by (key.Action l) x = value.Action (action_by (rule_in x))
-value_by (key.Digest l) x = value.Digest (digest_by (action_in x))
+-- the value of a package, a rule and a digest, by the answer for its base
+abbrev pub package_value : List ℕ → Option Value → Value
+package_value p x = value.Package (package_by p (source_in x))
+
+abbrev pub rule_value : List ℕ → Option Value → Value
+rule_value l x = value.Rule (rule_by l (package_in x))
+
+abbrev pub digest_value : Option Value → Value
+digest_value x = value.Digest (digest_by (action_in x))
 
 abbrev pub first_of : List Value → Option Value
 first_of [] = None
 first_of (x ∷ xs) = Some x
 
--- the next move: a source is never run; each other key asks its base, and is done with what the answer makes of it
+-- an action at version v, where it is known which keys it asks: it asks them in one batch, unless there are none
+abbrev pub with_asked : ℕ → Action → List Key → List (Answered Key Value) → Step Key Value
+with_asked v a [] A = Ends (value.Action (action_of v a [] []))
+with_asked v a (k ∷ ks) [] = Asks (k ∷ ks)
+with_asked v a (k ∷ ks) (b ∷ A) = Ends (value.Action (action_of v a (k ∷ ks) b.values))
+
+-- an action after its rule was answered
+abbrev pub with_rule : ℕ → List ℕ → Result Target Fault → List (Answered Key Value) → Step Key Value
+with_rule v l (Ok t) A = with_asked v t.action (asked_by (package_of l) t.action) A
+with_rule v l (Err e) A = Ends (value.Action (Err e))
+
+-- the next move: a source is never run; each other key asks its base, and is done with what the answer makes of it; but an action
+-- then asks what its target wants, and is done with the text
 abbrev pub buck_next : Key → List (Answered Key Value) → ℕ → Step Key Value
 buck_next (key.Source p) A v = Ends (value.Source None)
-buck_next k [] v = Asks (base_of k ∷ [])
-buck_next k (a ∷ A) v = Ends (value_by k (first_of a.values))
+buck_next (key.Package p) [] v = Asks (key.Source (target_file_of p) ∷ [])
+buck_next (key.Package p) (a ∷ A) v = Ends (package_value p (first_of a.values))
+buck_next (key.Rule l) [] v = Asks (key.Package (package_of l) ∷ [])
+buck_next (key.Rule l) (a ∷ A) v = Ends (rule_value l (first_of a.values))
+buck_next (key.Action l) [] v = Asks (key.Rule l ∷ [])
+buck_next (key.Action l) (a ∷ A) v = with_rule v l (rule_in (first_of a.values)) A
+buck_next (key.Digest l) [] v = Asks (key.Action l ∷ [])
+buck_next (key.Digest l) (a ∷ A) v = Ends (digest_value (first_of a.values))
+
+-- the value of a rule and a digest, by the value of its base; of another key nothing is said
+abbrev pub projected : Key → Value → Value
+projected (key.Source p) x = value.Source None
+projected (key.Package p) x = value.Source None
+projected (key.Rule l) x = rule_value l (Some x)
+projected (key.Action l) x = value.Source None
+projected (key.Digest l) x = digest_value (Some x)
 
 -- the value of a source that was never set: no file; of the other kinds, which are never set, the fault that there is nothing
 abbrev pub absent_of : Key → Value
@@ -109,7 +128,7 @@ abbrev pub most_of : Key → ℕ
 most_of (key.Source p) = 0
 most_of (key.Package p) = 1
 most_of (key.Rule l) = 1
-most_of (key.Action l) = 1
+most_of (key.Action l) = 2
 most_of (key.Digest l) = 1
 
 -- how a key prints
@@ -131,19 +150,43 @@ abbrev pub key_text : Key → Bool → List ℕ
 key_text k true = short_text k
 key_text k false = key_word k ++ short_text k
 
+-- a value that is not to be used again at later versions: an action's text that holds its version
+abbrev pub is_transient_value : Value → Bool
+is_transient_value (value.Source o) = false
+is_transient_value (value.Package r) = false
+is_transient_value (value.Rule r) = false
+is_transient_value (value.Action (Ok a)) = a.holds_version
+is_transient_value (value.Action (Err e)) = false
+is_transient_value (value.Digest r) = false
+
 abbrev pub buck : Meaning Key Value
 buck = record {
   kind = kind_of;
   absent = absent_of;
   next = buck_next;
-  is_transient = λ x. false;
+  is_transient = is_transient_value;
   most = most_of;
   base = base_of;
-  project = λ k x. value_by k (Some x);
+  project = projected;
   text = key_text;
 }
 
--- the batches that a run of k has asked and their answers, where the answers to its one batch are these
-abbrev pub answered_so_far : Key → Option (List Value) → List (Answered Key Value)
-answered_so_far k None = []
-answered_so_far k (Some xs) = record { keys = base_of k ∷ []; values = xs } ∷ []
+-- the batches that a run was answered, by the answers to its first and to its second batch
+abbrev pub answered_so_far : Key → ℕ → Option (List Value) → Option (List Value) → List (Answered Key Value)
+answered_so_far k v None ys = []
+answered_so_far k v (Some xs) None = answered_with (buck_next k [] v) [] xs
+answered_so_far k v (Some xs) (Some ys) = answered_with (buck_next k (answered_with (buck_next k [] v) [] xs) v) (answered_with (buck_next k [] v) [] xs) ys
+
+-- what was answered after the rule, by the answers to the second batch; its keys do not matter
+abbrev pub second_batch : Option (List Value) → List (Answered Key Value)
+second_batch None = []
+second_batch (Some xs) = record { keys = []; values = xs } ∷ []
+
+-- the keys of the second batch, by the answers to the first
+abbrev pub asked_with : List ℕ → Result Target Fault → List Key
+asked_with l (Ok t) = asked_by (package_of l) t.action
+asked_with l (Err e) = []
+
+abbrev pub asked_second : Key → Option (List Value) → List Key
+asked_second (key.Action l) (Some xs) = asked_with l (rule_in (first_of xs))
+asked_second _ _ = []

@@ -1,5 +1,7 @@
+pub mod Written
 pub mod Actions
 pub mod Buck
 pub mod Same
 pub mod Laws
 pub mod Fronts
+pub mod Cycles

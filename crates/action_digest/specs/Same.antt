@@ -1,6 +1,7 @@
 -- Keys and values that are equal are the same.
 use Rattle.std.specs.Prelude.{◌≡◌, ◌&&◌, ℕ, Bool, true, false, nat_eq, List, Some, None, Ok, Err, refl}
 use Rattle.std.proofs.Common.{ap, ◌∙◌}
+use Rattle.std.proofs.Math.Bool.{beq}
 use Rattle.std.specs.Option.{option_eq}
 use Rattle.std.specs.Result.{result_eq}
 use Rattle.std.specs.Cmp.{unsigned_Decides}
@@ -12,12 +13,13 @@ use Rattle.dice_key.specs.Lawful.{SameKeys, AreSame}
 use Rattle.action_digest.specs.contracts.key.KeyPartialEq.TheImpl as key_eq
 use Rattle.action_digest.specs.contracts.key.KeyOrd.TheImpl as key_ord
 use Rattle.action_digest.specs.contracts.value.ValuePartialEq.TheImpl as value_eq
+use Rattle.action_digest.specs.contracts.value.ActionTextPartialEq.TheImpl as action_eq
 use Rattle.action_digest.specs.contracts.fault.FaultPartialEq.TheImpl as fault_eq
 use Rattle.action_digest.specs.declared.key.Key.{Key}
 use Rattle.action_digest.specs.declared.key.Key.TheVariants as key
 use Rattle.action_digest.specs.declared.value.Value.{Value}
 use Rattle.action_digest.specs.declared.value.Value.TheVariants as value
-use Rattle.action_digest.specs.declared.fault.Fault.TheVariants.{NoPackage, BadFile, NoTarget}
+use Rattle.action_digest.specs.declared.fault.Fault.TheVariants.{NoPackage, BadFile, NoTarget, NoSource}
 
 -- how keys and values are compared
 abbrev pub key_equal : Key → Key → Bool
@@ -67,12 +69,26 @@ faults_equal (BadFile p m) (BadFile q n) h =
     let b = both (pointwise nat_eq p q) (nat_eq m n) h in
     ap (λ x. BadFile x m) (text_same p q b.0) ∙ ap (BadFile q) ((unsigned_Decides m n).0 b.1)
 faults_equal (NoTarget l) (NoTarget k) h = ap NoTarget (text_same l k h)
+faults_equal (NoSource p) (NoSource q) h = ap NoSource (text_same p q h)
 faults_equal x y h = cc
+
+bools_equal : (a b : Bool) → beq a b ≡ true → a ≡ b
+bools_equal true true h = refl
+bools_equal false false h = refl
+bools_equal true false h = cc
+bools_equal false true h = cc
+
+actions_equal : AreSame action_eq.ghosts.eq
+actions_equal x y h =
+    let b = both (pointwise nat_eq x.text y.text) (beq x.holds_version y.holds_version) h in
+    let e : x.text ≡ y.text = text_same x.text y.text b.0 in
+    let f : x.holds_version ≡ y.holds_version = bools_equal x.holds_version y.holds_version b.1 in
+    λ i. record { text = e i; holds_version = f i }
 
 pub values_equal : AreSame value_equal
 values_equal (value.Source a) (value.Source b) h = ap value.Source (option_same (pointwise nat_eq) text_same a b h)
 values_equal (value.Package a) (value.Package b) h = ap value.Package (result_same same_file fault_eq.ghosts.eq same_files faults_equal a b h)
 values_equal (value.Rule a) (value.Rule b) h = ap value.Rule (result_same same_target fault_eq.ghosts.eq same_targets faults_equal a b h)
-values_equal (value.Action a) (value.Action b) h = ap value.Action (result_same (pointwise nat_eq) fault_eq.ghosts.eq text_same faults_equal a b h)
+values_equal (value.Action a) (value.Action b) h = ap value.Action (result_same action_eq.ghosts.eq fault_eq.ghosts.eq actions_equal faults_equal a b h)
 values_equal (value.Digest a) (value.Digest b) h = ap value.Digest (result_same (pointwise nat_eq) fault_eq.ghosts.eq text_same faults_equal a b h)
 values_equal x y h = cc

@@ -1,13 +1,20 @@
 //! The texts of actions, and their digests.
-ghost use Rattle.std.specs.Prelude.{◌≡◌, IfOk};
-ghost use Rattle.action_digest.specs.Actions.{action_text};
+ghost use Rattle.std.specs.Prelude.{◌≡◌, ◌++◌, map, decimal, IfOk, OnOk};
+ghost use Rattle.std.specs.Arc.{arc_value};
+ghost use Rattle.action_digest.specs.Actions.{hex_digest, line, digest_line, line_by, lines_by, head_of, is_stamp, names_sources, action_of, behind, items_in, IsAppended};
+ghost use Rattle.hex.specs.Hex.{encode_lower};
 ghost use Rattle.sha2.specs.Sha256.{sha256};
 
+use crate::fault::Fault;
+use crate::key::Key;
+use crate::value::{ActionText, Value};
 use buck_label::Text;
-use dice_key::NoMemory;
+use dice_key::{NoMemory, Version};
+use itoa::Buffer;
 use sha2::{Digest, Sha256};
 use std::alloc::Global;
-use target_file::Target;
+use std::sync::Arc;
+use target_file::Action;
 
 /// How many bytes an action's text mostly has at most.
 const ROOM: usize = 320;
@@ -19,16 +26,148 @@ pub(crate) fn digest_of(bytes: &[u8]) -> [u8; 32]
     Sha256::digest(bytes)
 }
 
-/// The text of a target's action: lines that each end in a line feed.
-pub(crate) fn action_text(alloc: Global, target: &Target) -> Result<Text, NoMemory>
-    ensures { IfOk result (λ t. t ≡ action_text target.now) }
+/// The text of an action at this version, where it asked these keys and they were answered so; or the first fault.
+pub(crate) fn action_of(
+    alloc: Global,
+    version: Version,
+    action: &Action,
+    keys: &[Arc<Key>],
+    values: &[Arc<Value>],
+) -> Result<Result<ActionText, Fault>, NoMemory>
+    ensures { IfOk result (λ r. r ≡ action_of version action.now (map arc_value keys.now) (map arc_value values.now)) }
 {
-    let digest = hex::encode(alloc, digest_of(target.content()).as_slice())?;
     let mut text = Vec::with_capacity(alloc, ROOM)?;
-    text.extend_from_slice(b"write_file\n")?;
-    text.extend_from_slice(target.out())?;
+    push_head(&mut text, version, action)?;
+    match with_lines(text, names_sources(action), keys, values)? {
+        Ok(text) => Ok(Ok(ActionText {
+            text: Text::new(alloc, text)?,
+            holds_version: is_stamp(action),
+        })),
+        Err(fault) => Ok(Err(fault)),
+    }
+}
+
+/// Whether the text of an action holds the version.
+fn is_stamp(action: &Action) -> bool
+    ensures { result ≡ is_stamp action.now }
+{
+    matches!(action, Action::StampFile { .. })
+}
+
+/// Whether the line of a source begins with its path or label.
+fn names_sources(action: &Action) -> bool
+    ensures { result ≡ names_sources action.now }
+{
+    !matches!(action, Action::ExportFile { .. })
+}
+
+/// Appends the lines before those of what was asked.
+fn push_head(text: &mut Vec<u8>, version: Version, action: &Action) -> Result<(), NoMemory>
+    ensures { OnOk result (text.new.items ≡ text.old.items ++ head_of version action.now) }
+{
+    match action {
+        Action::ExportFile { out, .. } => {
+            push_line(text, b"export_file")?;
+            push_line(text, out.as_bytes())
+        }
+        Action::Filegroup { .. } => push_line(text, b"filegroup"),
+        Action::WriteFile { content, out } => {
+            push_line(text, b"write_file")?;
+            push_line(text, out.as_bytes())?;
+            push_digest(text, content.as_bytes())
+        }
+        Action::Genrule { out, cmd, .. } => {
+            push_line(text, b"genrule")?;
+            push_line(text, out.as_bytes())?;
+            push_digest(text, cmd.text())
+        }
+        Action::StampFile { out } => {
+            push_line(text, b"stamp_file")?;
+            push_line(text, out.as_bytes())?;
+            push_number(text, version)
+        }
+    }
+}
+
+/// Appends the line of a number in decimal.
+fn push_number(text: &mut Vec<u8>, number: u64) -> Result<(), NoMemory>
+    ensures { OnOk result (text.new.items ≡ text.old.items ++ line (decimal number)) }
+{
+    let mut buffer = Buffer::new();
+    push_line(text, buffer.format(number).as_bytes())
+}
+
+/// Appends a line and its line feed.
+fn push_line(text: &mut Vec<u8>, bytes: &[u8]) -> Result<(), NoMemory>
+    ensures { OnOk result (text.new.items ≡ text.old.items ++ line bytes.now) }
+{
+    text.extend_from_slice(bytes)?;
     text.push(b'\n')?;
-    text.extend_from_slice(digest.as_bytes())?;
-    text.extend_from_slice(b"\n")?;
-    Ok(Text::new(alloc, text)?)
+    Ok(())
+}
+
+/// Appends the line of the digest of some bytes.
+fn push_digest(text: &mut Vec<u8>, bytes: &[u8]) -> Result<(), NoMemory>
+    ensures { OnOk result (text.new.items ≡ text.old.items ++ line (hex_digest bytes.now)) }
+{
+    let digest = hex::encode(*text.allocator(), digest_of(bytes).as_slice())?;
+    push_line(text, digest.as_bytes())
+}
+
+/// Appends the line of something asked: its path or label if it is named, and a digest in hex.
+fn push_named(text: &mut Vec<u8>, named: bool, name: &[u8], digest: &[u8]) -> Result<(), NoMemory>
+    ensures { OnOk result (text.new.items ≡ text.old.items ++ digest_line named name.now (encode_lower digest.now)) }
+{
+    if named {
+        text.extend_from_slice(name)?;
+        text.push(b' ')?;
+    }
+    let digest = hex::encode(*text.allocator(), digest)?;
+    push_line(text, digest.as_bytes())
+}
+
+/// Appends the line of a key by its answer, or gives the fault that the answer is.
+fn push_answer(
+    text: &mut Vec<u8>,
+    named: bool,
+    key: &Key,
+    value: &Value,
+) -> Result<Result<(), Fault>, NoMemory>
+    ensures { IfOk result (λ r. IsAppended text.old.items text.new.items r (line_by named key.now value.now)) }
+{
+    match (key, value) {
+        (Key::Source(path), Value::Source(Some(bytes))) => {
+            push_named(
+                text,
+                named,
+                path.as_bytes(),
+                digest_of(bytes.as_bytes()).as_slice(),
+            )?;
+        }
+        (Key::Source(path), _) => return Ok(Err(Fault::NoSource(path.try_clone()?))),
+        (Key::Digest(label), Value::Digest(Ok(digest))) => {
+            push_named(text, named, label.as_bytes(), digest.as_slice())?;
+        }
+        (Key::Digest(_), Value::Digest(Err(fault))) => return Ok(Err(fault.try_clone()?)),
+        (Key::Digest(_), _) => return Ok(Err(Fault::nothing(*text.allocator())?)),
+        _ => {}
+    }
+    Ok(Ok(()))
+}
+
+/// The text with the lines of these keys by their answers, in order, or the first fault.
+fn with_lines(
+    mut text: Vec<u8>,
+    named: bool,
+    keys: &[Arc<Key>],
+    values: &[Arc<Value>],
+) -> Result<Result<Vec<u8>, Fault>, NoMemory>
+    ensures { IfOk result (λ r. items_in r ≡ behind text.items (lines_by named (map arc_value keys.now) (map arc_value values.now))) }
+{
+    for (key, value) in keys.iter().zip(values) {
+        if let Err(fault) = push_answer(&mut text, named, key, value)? {
+            return Ok(Err(fault));
+        }
+    }
+    Ok(Ok(text))
 }

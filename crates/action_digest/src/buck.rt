@@ -1,16 +1,19 @@
 //! The universe.
-ghost use Rattle.std.specs.Prelude.{◌≡◌, [], ◌∷◌, ℕ, List, IfOk, Option, Some, None, map};
+ghost use Rattle.std.specs.Prelude.{◌≡◌, ◌<◌, [], ◌∷◌, ℕ, List, IfOk, Option, Some, None, map, length};
 ghost use Rattle.std.specs.Arc.{arc_value};
-ghost use Rattle.action_digest.specs.Buck.{absent_of, value_by, first_of, package_by, rule_by, action_by, digest_by, source_in, package_in, rule_in, action_in};
+ghost use Rattle.action_digest.specs.Buck.{absent_of, first_of, package_by, rule_by, digest_by, package_value, rule_value, digest_value, rule_in, with_rule, second_batch, asked_with, asked_second, answered_so_far, buck_next};
 ghost use Rattle.action_digest.specs.declared.key.Key.TheVariants as key;
 ghost use Rattle.std.specs.Option.{option_copied, option_map};
+ghost use Rattle.dice_key.specs.Meaning.{Asks, Ends};
+ghost use Rattle.dice_key.specs.Lawful.{IsStep};
 
-use crate::action::{action_text, digest_of};
+use crate::action::{action_of, digest_of};
+use crate::asked::asked_by;
 use crate::fault::Fault;
 use crate::key::Key;
 use crate::rule::Rule;
 use crate::run::Run;
-use crate::value::Value;
+use crate::value::{ActionText, Value};
 use buck_label::{Label, Package, Text};
 use dice_key::{Answers, Batch, Kind, Line, Move, NoMemory, Universe};
 use std::alloc::Global;
@@ -84,51 +87,44 @@ fn rule_by(label: &Label, found: &Result<File, Fault>) -> Result<Result<Rule, Fa
     }
 }
 
-/// The text of an action, by its rule.
-fn action_by(alloc: Global, rule: &Result<Rule, Fault>) -> Result<Result<Text, Fault>, NoMemory>
-    ensures { IfOk result (λ r. r ≡ action_by rule.now) }
+/// The digest of an action, by its text.
+fn digest_by(action: &Result<ActionText, Fault>) -> Result<Result<[u8; 32], Fault>, NoMemory>
+    ensures { IfOk result (λ r. r ≡ digest_by action.now) }
 {
-    match rule {
-        Ok(rule) => Ok(Ok(action_text(alloc, rule.target())?)),
+    match action {
+        Ok(action) => Ok(Ok(digest_of(action.text.as_bytes()))),
         Err(fault) => Ok(Err(fault.try_clone()?)),
     }
 }
 
-/// The digest of an action's text.
-fn digest_by(text: &Result<Text, Fault>) -> Result<Result<[u8; 32], Fault>, NoMemory>
-    ensures { IfOk result (λ r. r ≡ digest_by text.now) }
+/// The value of a package, by the answer for its target file.
+fn package_value(alloc: Global, home: &Package, answer: Option<&Value>) -> Result<Value, NoMemory>
+    ensures { IfOk result (λ x. x ≡ package_value home.now (option_copied answer.entry)) }
 {
-    match text {
-        Ok(text) => Ok(Ok(digest_of(text.as_bytes()))),
-        Err(fault) => Ok(Err(fault.try_clone()?)),
+    let source = match answer {
+        Some(Value::Source(source)) => source.as_ref(),
+        _ => None,
+    };
+    Ok(Value::Package(package_by(alloc, home, source)?))
+}
+
+/// The value of a rule, by the answer for its package.
+fn rule_value(alloc: Global, label: &Label, answer: Option<&Value>) -> Result<Value, NoMemory>
+    ensures { IfOk result (λ x. x ≡ rule_value label.now (option_copied answer.entry)) }
+{
+    match answer {
+        Some(Value::Package(package)) => Ok(Value::Rule(rule_by(label, package)?)),
+        _ => Ok(Value::Rule(Err(Fault::nothing(alloc)?))),
     }
 }
 
-/// The value of a key, by the answer for its base.
-fn value_by(alloc: Global, key: &Key, answer: Option<&Value>) -> Result<Value, NoMemory>
-    ensures { IfOk result (λ x. x ≡ value_by key.now (option_copied answer.entry)) }
+/// The value of a digest, by the answer for its action.
+fn digest_value(alloc: Global, answer: Option<&Value>) -> Result<Value, NoMemory>
+    ensures { IfOk result (λ x. x ≡ digest_value (option_copied answer.entry)) }
 {
-    match key {
-        Key::Source(_) => Ok(Value::Source(None)),
-        Key::Package(package) => {
-            let source = match answer {
-                Some(Value::Source(source)) => source.as_ref(),
-                _ => None,
-            };
-            Ok(Value::Package(package_by(alloc, package, source)?))
-        }
-        Key::Rule(label) => match answer {
-            Some(Value::Package(package)) => Ok(Value::Rule(rule_by(label, package)?)),
-            _ => Ok(Value::Rule(Err(Fault::nothing(alloc)?))),
-        },
-        Key::Action(_) => match answer {
-            Some(Value::Rule(rule)) => Ok(Value::Action(action_by(alloc, rule)?)),
-            _ => Ok(Value::Action(Err(Fault::nothing(alloc)?))),
-        },
-        Key::Digest(_) => match answer {
-            Some(Value::Action(text)) => Ok(Value::Digest(digest_by(text)?)),
-            _ => Ok(Value::Digest(Err(Fault::nothing(alloc)?))),
-        },
+    match answer {
+        Some(Value::Action(action)) => Ok(Value::Digest(digest_by(action)?)),
+        _ => Ok(Value::Digest(Err(Fault::nothing(alloc)?))),
     }
 }
 
@@ -139,6 +135,100 @@ fn first_of(values: &[Arc<Value>]) -> Option<&Value>
     match values {
         [first, ..] => Some(first),
         [] => None,
+    }
+}
+
+/// The keys of the second batch of a run, by the answers to its first.
+fn asked_second(alloc: Global, key: &Key, first: &Answers<Value>) -> Result<Vec<Arc<Key>>, NoMemory>
+    ensures { IfOk result (λ ks. map arc_value ks.items ≡ asked_second key.now (Some first.now)) }
+{
+    match (key, first_of(first.values())) {
+        (Key::Action(label), Some(Value::Rule(Ok(rule)))) => {
+            asked_by(alloc, &label.package(alloc)?, rule.target().action())
+        }
+        _ => Ok(Vec::new(alloc)),
+    }
+}
+
+impl Buck {
+    /// The move that is done with a value.
+    fn done(&self, value: Value) -> Result<Move<Key, Value>, NoMemory>
+        ensures { IfOk result (λ p. IsStep p (Ends value)) }
+    {
+        Ok(Move::Done(Arc::new(self.alloc, value)?))
+    }
+
+    /// The move that asks one key.
+    fn ask(&self, key: Key) -> Result<Move<Key, Value>, NoMemory>
+        ensures { IfOk result (λ p. IsStep p (Asks (key ∷ []))) }
+    {
+        Ok(Move::Ask(Batch::one(self.alloc, Arc::new(self.alloc, key)?)?))
+    }
+
+    /// The move that asks these keys.
+    fn ask_all(&self, keys: &[Arc<Key>]) -> Result<Move<Key, Value>, NoMemory>
+        requires { 0 < length keys.now }
+        ensures { IfOk result (λ p. IsStep p (Asks (map arc_value keys.now))) }
+    {
+        let mut asked = Vec::with_capacity(self.alloc, keys.len())?;
+        for key in keys {
+            asked.push(Arc::try_clone(key)?)?;
+        }
+        Ok(Move::Ask(Batch::from_keys(asked)))
+    }
+
+    /// The next move of an action whose rule was answered.
+    fn action_step(
+        &self,
+        label: &Label,
+        run: &Run,
+        rule: Option<&Value>,
+    ) -> Result<Move<Key, Value>, NoMemory>
+        requires { map arc_value run.now.asked.items ≡ asked_with label.now (rule_in (option_copied rule)) }
+        ensures { IfOk result (λ p. IsStep p (with_rule run.now.version label.now (rule_in (option_copied rule.entry)) (second_batch run.now.second))) }
+    {
+        let action = match rule {
+            Some(Value::Rule(Ok(rule))) => rule.target().action(),
+            Some(Value::Rule(Err(fault))) => {
+                return self.done(Value::Action(Err(fault.try_clone()?)));
+            }
+            _ => return self.done(Value::Action(Err(Fault::nothing(self.alloc)?))),
+        };
+        let values = match &run.second {
+            Some(second) => second.values(),
+            None if run.asked.is_empty() => &[],
+            None => return self.ask_all(&run.asked),
+        };
+        let text = action_of(self.alloc, run.version, action, &run.asked, values)?;
+        self.done(Value::Action(text))
+    }
+
+    /// The next move of a run.
+    fn step(&self, run: &Run) -> Result<Move<Key, Value>, NoMemory>
+        ensures { IfOk result (λ p. IsStep p (buck_next (arc_value run.now.key) (answered_so_far (arc_value run.now.key) run.now.version run.now.first run.now.second) run.now.version)) }
+    {
+        let key = &*run.key;
+        let Some(first) = &run.first else {
+            return self.first_step(key);
+        };
+        let answer = first_of(first.values());
+        match key {
+            Key::Source(_) => self.done(Value::Source(None)),
+            Key::Package(package) => self.done(package_value(self.alloc, package, answer)?),
+            Key::Rule(label) => self.done(rule_value(self.alloc, label, answer)?),
+            Key::Action(label) => self.action_step(label, run, answer),
+            Key::Digest(_) => self.done(digest_value(self.alloc, answer)?),
+        }
+    }
+
+    /// The first move of a run: it asks the key's base.
+    fn first_step(&self, key: &Key) -> Result<Move<Key, Value>, NoMemory>
+        ensures { IfOk result (λ p. IsStep p (buck_next key.now [] 0)) }
+    {
+        match key {
+            Key::Source(_) => self.done(Value::Source(None)),
+            _ => self.ask(key.base(self.alloc)?),
+        }
     }
 }
 
@@ -156,7 +246,7 @@ impl Universe for Buck {
 
     ghost meaning = { buck };
 
-    ghost running = { λ r. record { key = arc_value r.key; version = r.version; answered = answered_so_far (arc_value r.key) r.answers } };
+    ghost running = { λ r. record { key = arc_value r.key; version = r.version; answered = answered_so_far (arc_value r.key) r.version r.first r.second } };
 
     fn kind(&self, key: &Key) -> Kind {
         match key {
@@ -177,13 +267,15 @@ impl Universe for Buck {
     }
 
     fn begin(&self, key: &Arc<Key>, version: u64) -> Result<(Run, Move<Key, Value>), NoMemory> {
-        let base = Arc::new(self.alloc, key.base(self.alloc)?)?;
         let run = Run {
             key: Arc::try_clone(key)?,
             version,
-            answers: None,
+            first: None,
+            asked: Vec::new(self.alloc),
+            second: None,
         };
-        Ok((run, Move::Ask(Batch::one(self.alloc, base)?)))
+        let step = self.step(&run)?;
+        Ok((run, step))
     }
 
     fn resume(
@@ -191,9 +283,14 @@ impl Universe for Buck {
         run: &mut Run,
         answers: &Answers<Value>,
     ) -> Result<Move<Key, Value>, NoMemory> {
-        let value = value_by(self.alloc, &run.key, first_of(answers.values()))?;
-        run.answers = Some(answers.try_clone(self.alloc)?);
-        Ok(Move::Done(Arc::new(self.alloc, value)?))
+        let answers = answers.try_clone(self.alloc)?;
+        if run.first.is_none() {
+            run.asked = asked_second(self.alloc, &run.key, &answers)?;
+            run.first = Some(answers);
+        } else {
+            run.second = Some(answers);
+        }
+        self.step(run)
     }
 
     fn base(&self, key: &Key) -> Result<Arc<Key>, NoMemory> {
@@ -201,16 +298,25 @@ impl Universe for Buck {
     }
 
     fn project(&self, key: &Key, base: &Value) -> Result<Arc<Value>, NoMemory> {
-        Ok(Arc::new(self.alloc, value_by(self.alloc, key, Some(base))?)?)
+        let value = match key {
+            Key::Rule(label) => rule_value(self.alloc, label, Some(base))?,
+            Key::Digest(_) => digest_value(self.alloc, Some(base))?,
+            _ => Value::Source(None),
+        };
+        Ok(Arc::new(self.alloc, value)?)
     }
 
-    fn is_transient(&self, _value: &Value) -> bool {
-        false
+    fn is_transient(&self, value: &Value) -> bool {
+        match value {
+            Value::Action(Ok(action)) => action.holds_version,
+            _ => false,
+        }
     }
 
     fn most_batches(&self, key: &Key) -> u32 {
         match key {
             Key::Source(_) => 0,
+            Key::Action(_) => 2,
             _ => 1,
         }
     }

@@ -15,6 +15,8 @@ pub enum Fault {
     BadFile(Path, u64),
     /// The package has no target of this label.
     NoTarget(Label),
+    /// There is no file of this path, which a target names as a source.
+    NoSource(Path),
 }
 
 impl Fault {
@@ -26,6 +28,7 @@ impl Fault {
             Fault::NoPackage(package) => Ok(Fault::NoPackage(package.try_clone()?)),
             Fault::BadFile(path, line) => Ok(Fault::BadFile(path.try_clone()?, *line)),
             Fault::NoTarget(label) => Ok(Fault::NoTarget(label.try_clone()?)),
+            Fault::NoSource(path) => Ok(Fault::NoSource(path.try_clone()?)),
         }
     }
 

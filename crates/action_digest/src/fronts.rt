@@ -6,7 +6,7 @@ use crate::buck::Buck;
 use crate::fault::Fault;
 use crate::key::Key;
 use crate::rule::Rule;
-use crate::value::Value;
+use crate::value::{ActionText, Value};
 use buck_label::{Label, Package, Path, Text};
 use dice_key::{ProjectionKey, TypedKey};
 use target_file::File;
@@ -117,7 +117,7 @@ impl TypedKey<Buck> for ActionKey {
     ghost use Rattle.action_digest.specs.declared.key.Key.TheVariants as key;
     ghost use Rattle.action_digest.specs.Fronts.{as_action, action_front};
 
-    type Out = Result<Text, Fault>;
+    type Out = Result<ActionText, Fault>;
 
     ghost wrapped = { λ k. key.Action k.label };
 
@@ -127,7 +127,7 @@ impl TypedKey<Buck> for ActionKey {
         Key::Action(self.label)
     }
 
-    fn read(value: &Value) -> Option<&Result<Text, Fault>> {
+    fn read(value: &Value) -> Option<&Result<ActionText, Fault>> {
         match value {
             Value::Action(text) => Some(text),
             _ => None,

@@ -1,6 +1,9 @@
-//! Laws of the universe. It does no work.
-ghost use Rattle.std.specs.Prelude.{◌≡◌, List, Some, ℕ};
-ghost use Rattle.dice_model.specs.Eval.{eval};
+//! Laws of the universe. None of these functions does any work.
+ghost use Rattle.std.specs.Prelude.{◌≡◌, ◌⊎◌, ◌++◌, List, ℕ};
+ghost use Rattle.dice_model.specs.Eval.{HasValue};
+ghost use Rattle.dice_model.specs.Log.{AreDistinct};
+ghost use Rattle.dice_model.specs.Asks.{IsCycle, ReachesCycle};
+ghost use Rattle.action_digest.specs.Cycles.{keys_of};
 ghost use Rattle.action_digest.specs.Buck.{buck};
 ghost use Rattle.action_digest.specs.declared.key.Key.{Key};
 ghost use Rattle.action_digest.specs.declared.value.Value.{Value};
@@ -8,9 +11,18 @@ ghost use Rattle.action_digest.specs.declared.value.Value.{Value};
 use crate::buck::Buck;
 use crate::key::Key;
 use crate::value::Value;
+use dice_model::values_are_settled;
 
-/// Over every log and at every version each key has a value, which a depth of five finds: a digest asks its action, which asks
-/// its rule, which asks its package, which asks its target file.
-pub fn every_key_has_a_value()
-    ensures { (C : List (List (Key × Value))) (v : ℕ) (k : Key) → (x : Value) × (eval ⟦<Key as PartialEq>⟧.eq buck 5 C v k ≡ Some x) }
+/// Over every log and at every version a key has a value or reaches a cycle: what a key reaches stands in the finitely many
+/// target files of the log.
+pub fn keys_are_settled()
+    ensures { (C : List (List (Key × Value))) (v : ℕ) (k : Key) → ((x : Value) × HasValue ⟦<Key as PartialEq>⟧.eq buck C v k x) ⊎ ReachesCycle ⟦<Key as PartialEq>⟧.eq buck C v k }
+{
+    values_are_settled::<Buck>();
+}
+
+/// Sources, packages and rules are on no cycle: its keys, from one of them on, are the digest and the action of distinct targets
+/// in turn.
+pub fn cycles_are_of_labels()
+    ensures { (C : List (List (Key × Value))) (v : ℕ) (ks : List Key) → IsCycle ⟦<Key as PartialEq>⟧.eq buck C v ks → (front : List Key) × (back : List Key) × (ls : List (List ℕ)) × (ks ≡ front ++ back) × (back ++ front ≡ keys_of ls) × AreDistinct ls }
 {}

@@ -2,7 +2,9 @@
 #![tactic(auto)]
 
 mod action;
+mod asked;
 mod buck;
+mod cycle;
 mod fault;
 mod fronts;
 mod key;
@@ -12,13 +14,14 @@ mod run;
 mod value;
 
 pub use buck::Buck;
+pub use cycle::labels_of_cycle;
 pub use fault::Fault;
 pub use fronts::{ActionKey, DigestKey, PackageKey, RuleKey, SourceKey};
 pub use key::Key;
-pub use laws::every_key_has_a_value;
+pub use laws::{cycles_are_of_labels, keys_are_settled};
 pub use rule::Rule;
 pub use run::Run;
-pub use value::Value;
+pub use value::{ActionText, Value};
 
 #[cfg(test)]
 mod tests;

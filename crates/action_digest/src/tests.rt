@@ -3,9 +3,11 @@ ghost use Rattle.dice_model.specs.Log.{IsCommit, pairs_of};
 ghost use Rattle.action_digest.specs.Buck.{buck};
 
 use crate::buck::Buck;
+use crate::cycle::labels_of_cycle;
 use crate::fault::Fault;
 use crate::fronts::{ActionKey, DigestKey, PackageKey, RuleKey, SourceKey};
 use crate::key::Key;
+use crate::laws::{cycles_are_of_labels, keys_are_settled};
 use crate::value::Value;
 use buck_label::{Label, Package, Path, Text};
 use dice_key::{Answers, Kind, Move, NoMemory, TypedKey, Universe};
@@ -83,72 +85,219 @@ fn a_rule_is_found_in_its_package(rt: HostRuntime) -> Result<(), Fail> {
     Ok(())
 }
 
-/// The SHA-256 of the first row's action text, in hex.
-const ROW_DIGEST: &str = "72801cd249fb51131b7bbb93151ac0d3277ce1ef6febdf4fdc9f980dbb59266d";
+/// Files that are put, each by a commit of its own.
+type Files<'a> = &'a [(&'a [u8], &'a [u8])];
 
-/// Whether the value is a digest that these hex digits write.
-fn is_digest(alloc: Global, value: &Value, text: &str) -> Result<bool, NoMemory> {
-    match DigestKey::read(value) {
-        Some(Ok(digest)) => Ok(
-            hex::encode(alloc, digest.as_slice())?.as_bytes() == text.as_bytes(),
-        ),
-        _ => Ok(false),
+fn log_of(alloc: Global, files: Files<'_>) -> Result<Commits<Buck>, NoMemory> {
+    let mut commits = Commits::new(alloc);
+    for (path, bytes) in files {
+        let path = Path::read(alloc, path).map_err(|_| NoMemory)?;
+        commits.push(one_file(alloc, path, bytes)?)?;
+    }
+    Ok(commits)
+}
+
+/// How deep the evaluation goes: more than the keys of any row.
+const DEPTH: u32 = 12;
+
+/// The value of a key from nothing, at the version of the whole log.
+fn value_of(alloc: Global, files: Files<'_>, key: Key) -> Result<Option<Arc<Value>>, NoMemory> {
+    let universe = Buck::new(alloc)?;
+    let commits = log_of(alloc, files)?;
+    let key = Arc::new(alloc, key)?;
+    plain(alloc, &universe, &commits, files.len() as u64, &key, DEPTH)
+}
+
+/// A fault in words.
+fn fault_text(alloc: Global, fault: &Fault) -> Result<Vec<u8>, NoMemory> {
+    let (word, place) = match fault {
+        Fault::NoPackage(package) => (b"no-package ".as_slice(), package.as_bytes()),
+        Fault::BadFile(path, 2) => (b"bad-file on line 2 ".as_slice(), path.as_bytes()),
+        Fault::BadFile(path, _) => (b"bad-file ".as_slice(), path.as_bytes()),
+        Fault::NoTarget(label) => (b"no-target ".as_slice(), label.as_bytes()),
+        Fault::NoSource(path) => (b"no-source ".as_slice(), path.as_bytes()),
+    };
+    let mut text = Vec::from_slice(alloc, word)?;
+    text.extend_from_slice(place)?;
+    Ok(text)
+}
+
+/// The text of an action or its fault in words; nothing where it has no value.
+fn action_text(alloc: Global, files: Files<'_>, name: &[u8]) -> Result<Vec<u8>, NoMemory> {
+    let key = ActionKey {
+        label: label(alloc, name)?,
+    }
+    .wrap();
+    match value_of(alloc, files, key)? {
+        Some(value) => match ActionKey::read(&value) {
+            Some(Ok(action)) => Ok(Vec::from_slice(alloc, action.text.as_bytes())?),
+            Some(Err(fault)) => fault_text(alloc, fault),
+            None => Ok(Vec::new(alloc)),
+        },
+        None => Ok(Vec::new(alloc)),
     }
 }
 
+const EXPORT: &[u8] = b"export_file(name = \"f\")\n";
+
+const WRITE: &[u8] = b"write_file(name = \"w\", out = \"w.txt\", content = \"abc\")\n";
+
+const STAMP: &[u8] = b"stamp_file(name = \"s\")\n";
+
+const GENRULE: &[u8] =
+    b"write_file(name = \"w\", content = \"a\")\ngenrule(name = \"g\", srcs = [\"f\"], out = \"o\", cmd = \"cat $(location :w)\")\n";
+
+const GENRULE_TEXT: &[u8] =
+    b"genrule\no\n7336b594865fdb588b7d1a3a71d0007082c09057986f56bd174f12af6161e41d\na/f ca978112ca1bbdcafac231b39a23dc4da786eff8147c4e72b9807785afee48bb\n//a:w 2616f37868187e67866efe13f05998dff95cdcc62be7a43364a81274bc2a6a49\n";
+
 #[test]
-fn the_first_row_from_nothing(rt: HostRuntime) -> Result<(), Fail> {
+fn actions_of_the_rules_from_nothing(rt: HostRuntime) -> Result<(), Fail> {
+    let alloc = rt.alloc();
+    let rows: [(Files<'_>, &[u8], &[u8]); 7] = [
+        (
+            &[(b"a/BUCK", WRITE)],
+            b"//a:w",
+            b"write_file\nw.txt\nba7816bf8f01cfea414140de5dae2223b00361a396177a9cb410ff61f20015ad\n",
+        ),
+        (
+            &[(b"a/BUCK", EXPORT), (b"a/f", b"a")],
+            b"//a:f",
+            b"export_file\nf\nca978112ca1bbdcafac231b39a23dc4da786eff8147c4e72b9807785afee48bb\n",
+        ),
+        (
+            &[(b"a/BUCK", EXPORT), (b"a/f", b"a"), (b"a/f", b"b")],
+            b"//a:f",
+            b"export_file\nf\n3e23e8160039594a33894f6564e1b1348bbd7a0088d42c4acb73eeaed59c009d\n",
+        ),
+        (&[(b"a/BUCK", STAMP)], b"//a:s", b"stamp_file\ns\n1\n"),
+        (
+            &[(b"a/BUCK", STAMP), (b"a/f", b"a")],
+            b"//a:s",
+            b"stamp_file\ns\n2\n",
+        ),
+        (
+            &[(b"a/BUCK", GENRULE), (b"a/f", b"a")],
+            b"//a:g",
+            GENRULE_TEXT,
+        ),
+        (
+            &[(b"BUCK", b"filegroup(name = \"e\")\n")],
+            b"//:e",
+            b"filegroup\n",
+        ),
+    ];
+    for (files, name, want) in rows {
+        let text = action_text(alloc, files, name)?;
+        assert!(rt; text.as_slice() == want);
+    }
+    Ok(())
+}
+
+#[test]
+fn faults_come_in_the_order_of_the_sources(rt: HostRuntime) -> Result<(), Fail> {
+    let alloc = rt.alloc();
+    let rows: [(&[u8], &[u8]); 8] = [
+        (b"write_file(name = \"x\")\n", b"bad-file a/BUCK"),
+        (b"write_file(\n", b"bad-file on line 2 a/BUCK"),
+        (
+            b"filegroup(name = \"x\", srcs = [\"none\", \":b\"])\n",
+            b"no-source a/none",
+        ),
+        (
+            b"filegroup(name = \"x\", srcs = [\":b\", \"none\"])\n",
+            b"no-target //a:b",
+        ),
+        (
+            b"genrule(name = \"x\", srcs = [\"none\"], out = \"o\", cmd = \"$(location //b:b)\")\n",
+            b"no-source a/none",
+        ),
+        (
+            b"genrule(name = \"x\", out = \"o\", cmd = \"$(location //b)\")\n",
+            b"no-package b",
+        ),
+        (b"filegroup(name = \"y\")\n", b"no-target //a:x"),
+        (b"filegroup(name = \"x\", srcs = [\"none\", \":x\"])\n", b""),
+    ];
+    for (file, want) in rows {
+        let text = action_text(alloc, &[(b"a/BUCK", file)], b"//a:x")?;
+        assert!(rt; text.as_slice() == want);
+    }
+    Ok(())
+}
+
+/// The SHA-256 of an action's text, in hex.
+const WRITE_DIGEST: &str = "72801cd249fb51131b7bbb93151ac0d3277ce1ef6febdf4fdc9f980dbb59266d";
+
+#[test]
+fn a_digest_is_that_of_the_text_and_a_stamp_is_transient(rt: HostRuntime) -> Result<(), Fail> {
     let alloc = rt.alloc();
     let universe = Buck::new(alloc)?;
+    let digest = DigestKey {
+        label: label(alloc, b"//a:w")?,
+    }
+    .wrap();
+    let shown = match value_of(alloc, &[(b"a/BUCK", WRITE)], digest)? {
+        Some(value) => match DigestKey::read(&value) {
+            Some(Ok(digest)) => {
+                hex::encode(alloc, digest.as_slice())?.as_bytes() == WRITE_DIGEST.as_bytes()
+            }
+            _ => false,
+        },
+        None => false,
+    };
+    assert!(rt; shown);
     let path = Path::read(alloc, b"a/BUCK").map_err(|_| NoMemory)?;
-    let file = b"write_file(name = \"w\", out = \"w.txt\", content = \"abc\")\n";
-    let source = Arc::new(
-        alloc,
-        SourceKey {
-            path: path.try_clone()?,
-        }
-        .wrap(),
-    )?;
-    let mut commits: Commits<Buck> = Commits::new(alloc);
-    commits.push(one_file(alloc, path, file)?)?;
-    let read = plain(alloc, &universe, &commits, 1, &source, 1)?;
+    let read = value_of(alloc, &[(b"a/BUCK", WRITE)], SourceKey { path }.wrap())?;
     assert!(rt;
         matches!(
             read.as_ref().map(|x| SourceKey::read(x)),
             Some(Some(Some(_)))
         )
     );
-    let action = Arc::new(
-        alloc,
-        ActionKey {
-            label: label(alloc, b"//a:w")?,
+    for (file, name, transient) in [(WRITE, b"//a:w", false), (STAMP, b"//a:s", true)] {
+        let action = ActionKey {
+            label: label(alloc, name)?,
         }
-        .wrap(),
-    )?;
-    assert!(rt; plain(alloc, &universe, &commits, 1, &action, 3)?.is_none());
-    let text = match plain(alloc, &universe, &commits, 1, &action, 4)? {
-        Some(value) => match &*value {
-            Value::Action(Ok(text)) => text.try_clone()?,
-            _ => Text::from_slice(alloc, b"")?,
-        },
-        None => Text::from_slice(alloc, b"")?,
-    };
-    let want =
-        b"write_file\nw.txt\nba7816bf8f01cfea414140de5dae2223b00361a396177a9cb410ff61f20015ad\n";
-    assert!(rt; text.as_bytes() == want.as_slice());
-    let digest = Arc::new(
-        alloc,
-        DigestKey {
-            label: label(alloc, b"//a:w")?,
-        }
-        .wrap(),
-    )?;
-    assert!(rt; plain(alloc, &universe, &commits, 1, &digest, 4)?.is_none());
-    let found = plain(alloc, &universe, &commits, 1, &digest, 5)?;
-    let shown = match &found {
-        Some(value) => is_digest(alloc, value, ROW_DIGEST)?,
-        None => false,
-    };
-    assert!(rt; shown);
+        .wrap();
+        assert!(rt; universe.most_batches(&action) == 2);
+        let value = value_of(alloc, &[(b"a/BUCK", file)], action)?;
+        let is = value.is_some_and(|x| universe.is_transient(&x));
+        assert!(rt; is == transient);
+    }
+    Ok(())
+}
+
+/// The keys of a circle: each action asks the next target's digest.
+fn circle(alloc: Global) -> Result<Vec<Arc<Key>>, NoMemory> {
+    let mut keys = Vec::new(alloc);
+    for (name, next) in [
+        (b"//a:y", b"//b:x"),
+        (b"//b:x", b"//a:x"),
+        (b"//a:x", b"//a:y"),
+    ] {
+        let action = ActionKey {
+            label: label(alloc, name)?,
+        };
+        let digest = DigestKey {
+            label: label(alloc, next)?,
+        };
+        keys.push(Arc::new(alloc, action.wrap())?)?;
+        keys.push(Arc::new(alloc, digest.wrap())?)?;
+    }
+    Ok(keys)
+}
+
+#[test]
+fn the_labels_of_a_cycle_begin_with_the_least(rt: HostRuntime) -> Result<(), Fail> {
+    let alloc = rt.alloc();
+    let keys = circle(alloc)?;
+    assert!(rt; keys.len() == 6);
+    let labels = labels_of_cycle(alloc, &dice_key::Path::from_keys(keys))?;
+    assert_eq!(rt; labels.len(), 3);
+    for (label, want) in labels.iter().zip([b"//a:x", b"//a:y", b"//b:x"]) {
+        assert!(rt; label.as_bytes() == want.as_slice());
+    }
+    keys_are_settled();
+    cycles_are_of_labels();
     Ok(())
 }

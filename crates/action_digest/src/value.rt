@@ -5,6 +5,15 @@ use crate::rule::Rule;
 use buck_label::Text;
 use target_file::File;
 
+/// The text of an action.
+#[derive(PartialEq, Eq, Drop)]
+pub struct ActionText {
+    /// Its lines, each ended by a line feed.
+    pub text: Text,
+    /// Whether the text holds the version: it is then not used again at later versions.
+    pub holds_version: bool,
+}
+
 /// The value of a key, of the key's kind.
 #[derive(PartialEq, Eq, Drop)]
 pub enum Value {
@@ -15,7 +24,7 @@ pub enum Value {
     /// One target.
     Rule(Result<Rule, Fault>),
     /// The text of an action.
-    Action(Result<Text, Fault>),
+    Action(Result<ActionText, Fault>),
     /// The SHA-256 of an action's text.
     Digest(Result<[u8; 32], Fault>),
 }

@@ -1,3 +1,4 @@
 pub mod Changing
 pub mod Lines
 pub mod Inputs
+pub mod Working

@@ -8,7 +8,9 @@ use Rattle.action_digest.specs.declared.key.Key.TheVariants as key
 use Rattle.action_digest.specs.declared.value.Value.{Value}
 use Rattle.action_digest.specs.declared.value.Value.TheVariants as value
 use Rattle.action_digest.specs.declared.fault.Fault.{Fault}
-use Rattle.action_digest.specs.declared.fault.Fault.TheVariants.{NoPackage, BadFile, NoTarget}
+use Rattle.action_digest.specs.declared.fault.Fault.TheVariants.{NoPackage, BadFile, NoTarget, NoSource}
+use Rattle.action_digest.specs.declared.value.ActionText.{ActionText}
+use Rattle.action_digest.specs.Cycles.{keys_of, IsLabelCycle, ReachesFirst}
 use Rattle.action_digest.specs.Buck.{buck}
 use Rattle.action_digest.specs.Same.{key_equal}
 use Rattle.script.specs.declared.line.Line.{Line}
@@ -25,6 +27,7 @@ abbrev pub fault_text : Fault → List ℕ
 fault_text (NoPackage p) = codes "no-package " ++ printed_package p
 fault_text (BadFile p n) = codes "bad-file " ++ p ++ 32 ∷ decimal n
 fault_text (NoTarget l) = codes "no-target " ++ l
+fault_text (NoSource p) = codes "no-source " ++ p
 
 abbrev pub fault_line : Fault → List ℕ
 fault_line f = line (codes "fault " ++ fault_text f)
@@ -34,8 +37,8 @@ abbrev pub digest_line : Result (List ℕ) Fault → List ℕ
 digest_line (Ok d) = line (encode_lower d)
 digest_line (Err f) = fault_line f
 
-abbrev pub action_lines : Result (List ℕ) Fault → List ℕ
-action_lines (Ok t) = line (codes "action " ++ decimal (length t)) ++ t
+abbrev pub action_lines : Result ActionText Fault → List ℕ
+action_lines (Ok a) = line (codes "action " ++ decimal (length a.text)) ++ a.text
 action_lines (Err f) = fault_line f
 
 -- how a value is answered; only digests and actions are requested
@@ -43,6 +46,14 @@ abbrev pub value_lines : Value → List ℕ
 value_lines (value.Digest d) = digest_line d
 value_lines (value.Action t) = action_lines t
 value_lines x = []
+
+-- the labels of a cycle, each behind a space
+abbrev pub labels_text : List (List ℕ) → List ℕ
+labels_text [] = []
+labels_text (l ∷ ls) = 32 ∷ (l ++ labels_text ls)
+
+abbrev pub cycle_line : List (List ℕ) → List ℕ
+cycle_line ls = line (codes "cycle" ++ labels_text ls)
 
 -- the key that a request is for
 abbrev pub key_of : Wish → Key
@@ -59,11 +70,16 @@ pairs_of_changes cs = map pair_of_change cs
 abbrev pub log_of : List (List Change) → List (List (Key × Value))
 log_of log = map pairs_of_changes log
 
--- the request's name and version, and how the value of its key is answered, by the log C
-pub record IsAnswered (C : List (List (Key × Value))) (r : Planned) (text : List ℕ) : Type 0 where
-  pub value : Value
-  pub has : HasValue key_equal buck C r.version (key_of r.wish) value
-  pub text_is : text ≡ r.name ++ 32 ∷ decimal r.version ++ 32 ∷ value_lines value
+-- what a request prints: its name and version, and then this
+abbrev pub told_of : Planned → List ℕ → List ℕ
+told_of r text = r.name ++ 32 ∷ decimal r.version ++ 32 ∷ text
+
+-- how a request is answered, by the log C: where its key has a value, by how that is told; where it has none, by a cycle of targets that it
+-- reaches, each of which asks for the next one's digest, from the least label on
+pub data IsAnswered (C : List (List (Key × Value))) (r : Planned) : List ℕ → Type 0 where
+  by_value : (x : Value) → HasValue key_equal buck C r.version (key_of r.wish) x → IsAnswered C r (told_of r (value_lines x))
+  by_cycle : (ls : List (List ℕ)) → ((x : Value) → HasValue key_equal buck C r.version (key_of r.wish) x → ⊥)
+      → IsLabelCycle C r.version ls → ReachesFirst C r.version (key_of r.wish) (keys_of ls) → IsAnswered C r (told_of r (cycle_line ls))
 
 -- the line of a request that the script cancels
 abbrev pub cancelled_line : List ℕ → ℕ → List ℕ

@@ -5,60 +5,54 @@ ghost use Rattle.std.specs.Cmp.Lexicographic.{pointwise};
 ghost use Rattle.action_digest.specs.declared.key.Key.TheVariants as key;
 ghost use Rattle.action_digest.specs.declared.value.Value.TheVariants as value;
 ghost use Rattle.std.specs.Arc.{arc_value};
-ghost use Rattle.dice_model.specs.Log.{pairs_of, IsCommit};
-ghost use Rattle.action_digest.specs.Buck.{buck};
-ghost use Rattle.action_digest.specs.Same.{key_equal};
-ghost use Rattle.dice_model.specs.Eval.{HasValue};
-ghost use Rattle.std.specs.Option.{unwrap_or};
+ghost use Rattle.dice_model.specs.Log.{pairs_of};
 ghost use Rattle.script.specs.Past.{Past, is_cancelled};
 ghost use Rattle.script.specs.Order.{Fits};
 ghost use Rattle.script.specs.Plan.{Plan};
-ghost use Rattle.dice_run.specs.Output.{line, value_lines, cancelled_line, IsOutput};
-ghost use Rattle.dice_run.specs.Driving.{Matches, Drove, Answered, PassedOver, Replied, AreDistinctSources, IsReady, differs_from, with_pairs};
+ghost use Rattle.dice_run.specs.Commits.{AreDistinctSources, differs_from, with_pairs};
+ghost use Rattle.dice_run.specs.Clients.{log_in, IsOpen, KeepsOpen, IsSettled};
+ghost use Rattle.dice_run.specs.Output.{line, cancelled_line, IsOutput};
+ghost use Rattle.dice_run.specs.Driving.{Matches, Drove, Answered, PassedOver, Replied, IsReady, IsKnown, IsToldOf};
+ghost use Rattle.action_digest.specs.declared.key.Key.{Key};
+ghost use Rattle.action_digest.specs.declared.value.Value.{Value};
+ghost use Rattle.dice_run.specs.declared.client.Transaction.{Transaction};
 
 use crate::append;
-use crate::request::value_lines;
-use action_digest::{Buck, Key, Value, every_key_has_a_value};
+use crate::client::{Change, Client, Settled, Transaction};
+use crate::request::{cycle_line, value_lines};
+use action_digest::{Key, Value, labels_of_cycle};
 use buck_label::{Path, Text};
 use dice_key::NoMemory;
-use dice_model::{Commits, plain};
 use script::{Line, Name, Request, Script};
 use std::alloc::Global;
 use std::collections::HashMap;
 use std::mem;
-use std::sync::Arc;
-
-/// How deep a digest has to be evaluated: digest, action, rule, package, source.
-const DEPTH: u32 = 5;
-
-type Change = (Arc<Key>, Arc<Value>);
+use std::sync::{Arc, Wait};
 
 /// What has been done of a script.
 #[derive(Drop)]
 pub(crate) struct Driver {
     alloc: Global,
-    universe: Buck,
-    commits: Commits<Buck>,
+    client: Client,
     gathered: Vec<Change>,
-    versions: HashMap<Text, u64>,
+    transactions: HashMap<Text, Transaction>,
     out: Vec<u8>,
 }
 
 /// The output of a script: what each line prints, in the order of the lines. A request that the script cancels has the line
-/// `cancelled`, and each other one is answered by evaluation from nothing.
-pub fn drive(alloc: Global, script: &Script) -> Result<Vec<u8>, NoMemory>
+/// `cancelled`. Each other one is answered by the engine's core, which keeps what it computes, from one version to the next.
+pub fn drive<R: Wait>(rt: &R, alloc: Global, script: &Script) -> Result<Vec<u8>, NoMemory>
     ensures { IfOk result (λ out. IsOutput script.now out.items) }
 {
     let mut driver = Driver {
         alloc,
-        universe: Buck::new(alloc)?,
-        commits: Commits::new(alloc),
+        client: Client::new(alloc)?,
         gathered: Vec::new(alloc),
-        versions: HashMap::new(alloc),
+        transactions: HashMap::new(alloc),
         out: Vec::new(alloc),
     };
     for line in script.lines() {
-        driver.line(script, line)?;
+        driver.line(rt, script, line)?;
     }
     Ok(driver.into_output())
 }
@@ -72,7 +66,7 @@ impl Driver {
 
     /// Carries out a line of the script. Nothing is done for a request before its own line, and nothing after it: what is
     /// waited for was answered there, and what is given up was passed over.
-    fn line(&mut self, script: &Script, line: &Line) -> Result<(), NoMemory>
+    fn line<R: Wait>(&mut self, rt: &R, script: &Script, line: &Line) -> Result<(), NoMemory>
         requires { IsReady self.old line.now }
         ensures { OnOk result ((p : Plan) (past : Past) → Matches self.old p past → Fits past line.now → Drove (is_cancelled script.now) self.old self.new p past line.now) }
     {
@@ -81,8 +75,8 @@ impl Driver {
             Line::Drop(path) => self.gather(path, None)?,
             Line::Commit => self.commit()?,
             Line::Open(name) => self.open(name)?,
-            Line::Ask(request) => self.ask(request, script.is_cancelled(&request.name))?,
-            Line::Action(request) => self.action(request, script.is_cancelled(&request.name))?,
+            Line::Ask(request) => self.ask(rt, request, script.is_cancelled(&request.name))?,
+            Line::Action(request) => self.action(rt, request, script.is_cancelled(&request.name))?,
             Line::Wait(_) => {}
             Line::Cancel(_) => {}
             Line::Close(_) => {}
@@ -92,9 +86,9 @@ impl Driver {
 
     /// Notes the file of a path from the next commit on, or that it has none.
     fn gather(&mut self, path: &Path, file: Option<Text>) -> Result<(), NoMemory>
-        ensures commits { OnOk result (self.new.commits ≡ self.old.commits) }
+        ensures client { OnOk result (self.new.client ≡ self.old.client) }
         ensures gathered { OnOk result (pairs_of self.new.gathered.items ≡ pairs_of self.old.gathered.items ++ (key.Source path.now, value.Source file) ∷ []) }
-        ensures versions { OnOk result (self.new.versions ≡ self.old.versions) }
+        ensures transactions { OnOk result (self.new.transactions ≡ self.old.transactions) }
         ensures out { OnOk result (self.new.out.items ≡ self.old.out.items) }
     {
         let key = Arc::new(self.alloc, Key::Source(path.try_clone()?))?;
@@ -105,115 +99,116 @@ impl Driver {
 
     fn commit(&mut self) -> Result<(), NoMemory>
         requires { AreDistinctSources (pairs_of self.old.gathered.items) }
-        ensures commits { OnOk result (self.new.commits ≡ with_pairs self.old.commits (filter (differs_from self.old.commits) (pairs_of self.old.gathered.items))) }
+        ensures log { OnOk result (log_in self.new.client.core ≡ with_pairs (log_in self.old.client.core) (filter (differs_from (log_in self.old.client.core)) (pairs_of self.old.gathered.items))) }
+        ensures opened { OnOk result (KeepsOpen self.old.client.core self.new.client.core) }
         ensures gathered { OnOk result (self.new.gathered.items ≡ []) }
-        ensures versions { OnOk result (self.new.versions ≡ self.old.versions) }
-        ensures out { OnOk result (self.new.out.items ≡ self.old.out.items ++ line (codes "commit " ++ decimal (length self.new.commits))) }
+        ensures transactions { OnOk result (self.new.transactions ≡ self.old.transactions) }
+        ensures out { OnOk result (self.new.out.items ≡ self.old.out.items ++ line (codes "commit " ++ decimal (length (log_in self.new.client.core)))) }
     {
         let gathered = mem::replace(&mut self.gathered, Vec::new(self.alloc));
-        let changes = differing(self.alloc, &self.universe, &self.commits, gathered)?;
-        push_some(&mut self.commits, changes)?;
+        let version = self.client.commit(&gathered)?;
         append::bytes(&mut self.out, b"commit ")?;
-        append::number(&mut self.out, self.commits.len() as u64)?;
-        append::bytes(&mut self.out, b"\n")
-    }
-
-    fn open(&mut self, name: &Name) -> Result<(), NoMemory>
-        ensures commits { OnOk result (self.new.commits ≡ self.old.commits) }
-        ensures gathered { OnOk result (self.new.gathered ≡ self.old.gathered) }
-        ensures versions { OnOk result ((q : List ℕ) → get (pointwise nat_eq) self.new.versions q ≡ (if pointwise nat_eq name.now q then Some (length self.old.commits) else get (pointwise nat_eq) self.old.versions q)) }
-        ensures out { OnOk result (self.new.out.items ≡ self.old.out.items ++ line (codes "open " ++ name.now ++ 32 ∷ decimal (length self.old.commits))) }
-    {
-        let version = self.commits.len() as u64;
-        self.versions.insert(name.as_text().try_clone()?, version)?;
-        append::bytes(&mut self.out, b"open ")?;
-        append::bytes(&mut self.out, name.as_bytes())?;
-        append::bytes(&mut self.out, b" ")?;
         append::number(&mut self.out, version)?;
         append::bytes(&mut self.out, b"\n")
     }
 
-    fn ask(&mut self, request: &Request, cancelled: bool) -> Result<(), NoMemory>
+    fn open(&mut self, name: &Name) -> Result<(), NoMemory>
+        ensures made { OnOk result ((x : Transaction) × (x.version ≡ length (log_in self.old.client.core)) × IsOpen self.new.client.core x × ((q : List ℕ) → get (pointwise nat_eq) self.new.transactions q ≡ (if pointwise nat_eq name.now q then Some x else get (pointwise nat_eq) self.old.transactions q))) }
+        ensures log { OnOk result (log_in self.new.client.core ≡ log_in self.old.client.core) }
+        ensures opened { OnOk result (KeepsOpen self.old.client.core self.new.client.core) }
+        ensures gathered { OnOk result (self.new.gathered ≡ self.old.gathered) }
+        ensures out { OnOk result (self.new.out.items ≡ self.old.out.items ++ line (codes "open " ++ name.now ++ 32 ∷ decimal (length (log_in self.old.client.core)))) }
+    {
+        let transaction = self.client.open()?;
+        self.transactions
+            .insert(name.as_text().try_clone()?, transaction)?;
+        append::bytes(&mut self.out, b"open ")?;
+        append::bytes(&mut self.out, name.as_bytes())?;
+        append::bytes(&mut self.out, b" ")?;
+        append::number(&mut self.out, transaction.version)?;
+        append::bytes(&mut self.out, b"\n")
+    }
+
+    fn ask<R: Wait>(&mut self, rt: &R, request: &Request, cancelled: bool) -> Result<(), NoMemory>
+        requires { IsKnown self.old request.now.transaction }
         ensures { OnOk result (Replied cancelled self.old self.new request.now (key.Digest request.now.label)) }
     {
         if cancelled {
             return self.pass_over(request);
         }
         let key = Arc::new(self.alloc, Key::Digest(request.label.try_clone()?))?;
-        self.answer(request, &key)
+        self.answer(rt, request, &key)
     }
 
-    fn action(&mut self, request: &Request, cancelled: bool) -> Result<(), NoMemory>
+    fn action<R: Wait>(
+        &mut self,
+        rt: &R,
+        request: &Request,
+        cancelled: bool,
+    ) -> Result<(), NoMemory>
+        requires { IsKnown self.old request.now.transaction }
         ensures { OnOk result (Replied cancelled self.old self.new request.now (key.Action request.now.label)) }
     {
         if cancelled {
             return self.pass_over(request);
         }
         let key = Arc::new(self.alloc, Key::Action(request.label.try_clone()?))?;
-        self.answer(request, &key)
+        self.answer(rt, request, &key)
     }
 
     /// Says of a request that it was cancelled.
     fn pass_over(&mut self, request: &Request) -> Result<(), NoMemory>
+        requires { IsKnown self.old request.now.transaction }
         ensures { OnOk result (PassedOver self.old self.new request.now) }
     {
-        let version = self.version_of(request.transaction.as_text());
-        append_cancelled(&mut self.out, request.name.as_bytes(), version)
+        let transaction = self.transaction(request.transaction.as_text());
+        append_cancelled(&mut self.out, request.name.as_bytes(), transaction.version)
     }
 
-    /// The version of an open transaction.
-    fn version_of(&self, transaction: &Text) -> u64
-        ensures { result ≡ unwrap_or (get (pointwise nat_eq) self.now.versions transaction.now) 0 }
+    /// The transaction of a name that is known.
+    fn transaction(&self, name: &Text) -> Transaction
+        requires { IsKnown self.now name.now }
+        ensures { get (pointwise nat_eq) self.now.transactions name.now ≡ Some result }
     {
-        match self.versions.get(transaction) {
-            Some(version) => *version,
-            None => 0,
-        }
+        let Some(transaction) = self.transactions.get(name) else {
+            unreachable!()
+        };
+        *transaction
     }
 
-    /// The value of a key, by evaluation from nothing.
-    fn value(&self, key: &Arc<Key>, version: u64) -> Result<Arc<Value>, NoMemory>
-        ensures { IfOk result (λ x. HasValue key_equal buck self.now.commits version (arc_value key.now) (arc_value x)) }
-    {
-        every_key_has_a_value();
-        match plain(
-            self.alloc,
-            &self.universe,
-            &self.commits,
-            version,
-            key,
-            DEPTH,
-        )? {
-            Some(value) => Ok(value),
-            None => unreachable!(),
-        }
-    }
-
-    /// Appends the answer to a request: the value of its key at the version of its transaction.
-    fn answer(&mut self, request: &Request, key: &Arc<Key>) -> Result<(), NoMemory>
+    /// Appends the answer to a request: what its key has come to at the version of its transaction.
+    fn answer<R: Wait>(&mut self, rt: &R, request: &Request, key: &Arc<Key>) -> Result<(), NoMemory>
+        requires { IsKnown self.old request.now.transaction }
         ensures { OnOk result (Answered self.old self.new request.now (arc_value key.now)) }
     {
-        let version = self.version_of(request.transaction.as_text());
-        let value = self.value(key, version)?;
-        append_answer(&mut self.out, request.name.as_bytes(), version, &value)?;
-        Ok(())
+        let transaction = self.transaction(request.transaction.as_text());
+        let settled = self.client.settle(rt, transaction, key)?;
+        append_prefix(&mut self.out, request.name.as_bytes(), transaction.version)?;
+        append_settled(self.alloc, &mut self.out, &settled)
     }
 }
 
-/// Appends a request's name, its version and how its value is answered.
-fn append_answer(
-    out: &mut Vec<u8>,
-    name: &[u8],
-    version: u64,
-    value: &Value,
-) -> Result<(), NoMemory>
-    ensures { OnOk result (out.new.items ≡ out.old.items ++ (name.now ++ 32 ∷ decimal version ++ 32 ∷ value_lines value.now)) }
+/// Appends a request's name and version.
+fn append_prefix(out: &mut Vec<u8>, name: &[u8], version: u64) -> Result<(), NoMemory>
+    ensures { OnOk result (out.new.items ≡ out.old.items ++ (name.now ++ 32 ∷ decimal version ++ 32 ∷ [])) }
 {
     append::bytes(out, name)?;
     append::bytes(out, b" ")?;
     append::number(out, version)?;
-    append::bytes(out, b" ")?;
-    value_lines(out, value)
+    append::bytes(out, b" ")
+}
+
+/// Appends what a key has come to.
+fn append_settled(alloc: Global, out: &mut Vec<u8>, settled: &Settled) -> Result<(), NoMemory>
+    ensures { OnOk result ((text : List ℕ) × (out.new.items ≡ out.old.items ++ text) × ((C : List (List (Key × Value))) (v : ℕ) (k : Key) → IsSettled C v k settled.now → IsToldOf C v k text)) }
+{
+    match settled {
+        Settled::Value(value) => value_lines(out, value),
+        Settled::Cycle(path) => {
+            let labels = labels_of_cycle(alloc, path)?;
+            cycle_line(out, &labels)
+        }
+    }
 }
 
 /// Appends a cancelled request's name, its version and that it is cancelled.
@@ -224,35 +219,4 @@ fn append_cancelled(out: &mut Vec<u8>, name: &[u8], version: u64) -> Result<(), 
     append::bytes(out, b" ")?;
     append::number(out, version)?;
     append::bytes(out, b" cancelled\n")
-}
-
-/// The changes whose value is not the newest one.
-fn differing(
-    alloc: Global,
-    universe: &Buck,
-    commits: &Commits<Buck>,
-    gathered: Vec<Change>,
-) -> Result<Vec<Change>, NoMemory>
-    ensures { IfOk result (λ cs. pairs_of cs.items ≡ filter (differs_from commits.now) (pairs_of gathered.items)) }
-{
-    let newest = commits.len() as u64;
-    let mut changes = Vec::new(alloc);
-    for (key, value) in gathered {
-        let before = commits.input(universe, newest, &key)?;
-        if *before != *value {
-            changes.push((key, value))?;
-        }
-    }
-    Ok(changes)
-}
-
-/// Adds a commit of these changes, if there are any.
-fn push_some(commits: &mut Commits<Buck>, changes: Vec<Change>) -> Result<(), NoMemory>
-    requires { 0 < length (pairs_of changes.items) → IsCommit buck (pairs_of changes.items) }
-    ensures { OnOk result (commits.new ≡ with_pairs commits.old (pairs_of changes.items)) }
-{
-    if changes.is_empty() {
-        return Ok(());
-    }
-    commits.push(changes)
 }

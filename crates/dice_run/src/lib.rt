@@ -2,6 +2,7 @@
 #![tactic(auto)]
 
 mod append;
+mod client;
 mod driver;
 mod request;
 mod run_of;
@@ -14,5 +15,7 @@ pub use driver::drive;
 pub use run_of::run;
 pub use status::Status;
 
+#[cfg(test)]
+mod core_tests;
 #[cfg(test)]
 mod tests;

@@ -1,10 +1,10 @@
 //! How requests are answered.
 ghost use Rattle.std.specs.Prelude.{◌≡◌, ◌++◌, OnOk};
-ghost use Rattle.dice_run.specs.Output.{fault_line, digest_line, action_lines, value_lines};
+ghost use Rattle.dice_run.specs.Output.{fault_line, digest_line, action_lines, value_lines, labels_text, cycle_line};
 
 use crate::append;
-use action_digest::{Fault, Value};
-use buck_label::Text;
+use action_digest::{ActionText, Fault, Value};
+use buck_label::Label;
 use dice_key::NoMemory;
 
 /// Appends the line of a fault.
@@ -26,6 +26,10 @@ fn fault_line(out: &mut Vec<u8>, fault: &Fault) -> Result<(), NoMemory>
             append::bytes(out, b"fault no-target ")?;
             append::bytes(out, label.as_bytes())?;
         }
+        Fault::NoSource(path) => {
+            append::bytes(out, b"fault no-source ")?;
+            append::bytes(out, path.as_bytes())?;
+        }
     }
     append::bytes(out, b"\n")
 }
@@ -45,12 +49,12 @@ fn digest_line(out: &mut Vec<u8>, digest: &Result<[u8; 32], Fault>) -> Result<()
 }
 
 /// Appends the length of an action's text, a line feed and the text, or its fault.
-fn action_lines(out: &mut Vec<u8>, action: &Result<Text, Fault>) -> Result<(), NoMemory>
+fn action_lines(out: &mut Vec<u8>, action: &Result<ActionText, Fault>) -> Result<(), NoMemory>
     ensures { OnOk result (out.new.items ≡ out.old.items ++ action_lines action.now) }
 {
     match action {
-        Ok(text) => {
-            let text = text.as_bytes();
+        Ok(action) => {
+            let text = action.text.as_bytes();
             append::bytes(out, b"action ")?;
             append::number(out, text.len() as u64)?;
             append::bytes(out, b"\n")?;
@@ -69,4 +73,24 @@ pub(crate) fn value_lines(out: &mut Vec<u8>, value: &Value) -> Result<(), NoMemo
         Value::Action(action) => action_lines(out, action),
         Value::Source(_) | Value::Package(_) | Value::Rule(_) => Ok(()),
     }
+}
+
+/// Appends labels, each behind a space.
+fn labels(out: &mut Vec<u8>, labels: &[Label]) -> Result<(), NoMemory>
+    ensures { OnOk result (out.new.items ≡ out.old.items ++ labels_text labels.now) }
+{
+    for label in labels {
+        append::bytes(out, b" ")?;
+        append::bytes(out, label.as_bytes())?;
+    }
+    Ok(())
+}
+
+/// Appends the line of a cycle.
+pub(crate) fn cycle_line(out: &mut Vec<u8>, cycle: &[Label]) -> Result<(), NoMemory>
+    ensures { OnOk result (out.new.items ≡ out.old.items ++ cycle_line cycle.now) }
+{
+    append::bytes(out, b"cycle")?;
+    labels(out, cycle)?;
+    append::bytes(out, b"\n")
 }

@@ -25,10 +25,10 @@ const MOST: usize = 4_194_305;
 ///
 /// The status says how it ended, and is tested in this order: words, reading, length, grammar, running, writing; want of memory
 /// comes where it is met, before anything is written. At most 4,194,305 bytes are read, and at most 65,536 asked for in one
-/// call; the whole rest of the output is handed to the sink in each call, and no memory is taken once it is built. The runtime
-/// and the gate serve workers, which are not there yet.
+/// call; the whole rest of the output is handed to the sink in each call, and no memory is taken once it is built. The gate
+/// serves workers, which are not there yet.
 pub fn run<R: Threads + Wait, S: Source, K: Sink, G: Gate>(
-    _rt: &R,
+    rt: &R,
     alloc: Global,
     words: &[&str],
     source: &mut S,
@@ -54,7 +54,7 @@ pub fn run<R: Threads + Wait, S: Source, K: Sink, G: Gate>(
         Err(ReadFail::Failed) => return Status::ReadFailed,
         Err(ReadFail::NoMemory) => return Status::NoMemory,
     };
-    let (status, out) = match answer(alloc, &bytes) {
+    let (status, out) = match answer(rt, alloc, &bytes) {
         Ok(answer) => answer,
         Err(NoMemory) => return Status::NoMemory,
     };
@@ -65,13 +65,13 @@ pub fn run<R: Threads + Wait, S: Source, K: Sink, G: Gate>(
 }
 
 /// What is written for an input, and with which status: the output of a script, or the first fault of what is none.
-fn answer(alloc: Global, bytes: &[u8]) -> Result<(Status, Vec<u8>), NoMemory>
+fn answer<R: Wait>(rt: &R, alloc: Global, bytes: &[u8]) -> Result<(Status, Vec<u8>), NoMemory>
     ensures done { IfOk result (λ a. a.0 ≡ Status.Done → Answers bytes.now a.1.items) }
     ensures refused { IfOk result (λ a. a.0 ≡ Status.ScriptRefused → Refuses bytes.now a.1.items) }
     ensures either { IfOk result (λ a. (a.0 ≡ Status.Done) ⊎ (a.0 ≡ Status.ScriptRefused)) }
 {
     match script::read(alloc, bytes) {
-        Ok(script) => Ok((Status::Done, drive(alloc, &script)?)),
+        Ok(script) => Ok((Status::Done, drive(rt, alloc, &script)?)),
         Err(ScriptRefusal::TooLong) => {
             let mut out = Vec::new(alloc);
             append::bytes(&mut out, b"script too long\n")?;

@@ -84,6 +84,151 @@ fn scripts_and_their_outputs(rt: HostRuntime) -> Result<(), Fail> {
     Ok(())
 }
 
+/// Runs these scripts, and counts those whose status and output are as told.
+fn as_told<R: Threads + Wait>(
+    rt: &R,
+    alloc: Global,
+    rows: &[(&[u8], u8, &[u8])],
+) -> Result<usize, NoMemory> {
+    let mut number = 0usize;
+    for row in rows {
+        let (status, out) = outcome(rt, alloc, &["dice", "run"], row.0, &[], &[])?;
+        if status == row.1 && out.as_slice() == row.2 {
+            number = number.saturating_add(1);
+        }
+    }
+    Ok(number)
+}
+
+#[test]
+fn files_that_come_back_stamps_and_cutoff(rt: HostRuntime) -> Result<(), Fail> {
+    let rows: [(&[u8], u8, &[u8]); 4] = [
+        (
+            b"put a/BUCK 24\nexport_file(name = \"f\")\n\nput a/f 1\na\ncommit\nopen t\nput a/f 1\nb\ncommit\nopen s\naction t r //a:f\naction s q //a:f\n",
+            0,
+            b"commit 1\nopen t 1\ncommit 2\nopen s 2\nr 1 action 79\nexport_file\nf\nca978112ca1bbdcafac231b39a23dc4da786eff8147c4e72b9807785afee48bb\nq 2 action 79\nexport_file\nf\n3e23e8160039594a33894f6564e1b1348bbd7a0088d42c4acb73eeaed59c009d\n",
+        ),
+        (
+            b"put a/BUCK 24\nexport_file(name = \"f\")\n\nput a/f 1\na\ncommit\nopen t\nput a/f 1\nb\ncommit\nopen s\naction t r //a:f\naction s q //a:f\nput a/f 1\na\ncommit\nopen u\naction u p //a:f\n",
+            0,
+            b"commit 1\nopen t 1\ncommit 2\nopen s 2\nr 1 action 79\nexport_file\nf\nca978112ca1bbdcafac231b39a23dc4da786eff8147c4e72b9807785afee48bb\nq 2 action 79\nexport_file\nf\n3e23e8160039594a33894f6564e1b1348bbd7a0088d42c4acb73eeaed59c009d\ncommit 3\nopen u 3\np 3 action 79\nexport_file\nf\nca978112ca1bbdcafac231b39a23dc4da786eff8147c4e72b9807785afee48bb\n",
+        ),
+        (
+            b"put a/BUCK 23\nstamp_file(name = \"s\")\n\ncommit\nopen t\naction t r //a:s\nwait r\nput a/f 1\na\ncommit\nopen s\naction s q //a:s\n",
+            0,
+            b"commit 1\nopen t 1\nr 1 action 15\nstamp_file\ns\n1\ncommit 2\nopen s 2\nq 2 action 15\nstamp_file\ns\n2\n",
+        ),
+        (
+            b"put a/BUCK 24\nexport_file(name = \"f\")\n\nput a/f 1\na\ncommit\nopen t\nask t r //a:f\nput a/f 1\nb\ncommit\nput a/f 3\nabc\ncommit\nwait r\nopen u\nask u q //a:f\n",
+            0,
+            b"commit 1\nopen t 1\nr 1 58476ad4253eb4b4c1579cfe419c338454a374dfc141a2a21e68651e157b7de9\ncommit 2\ncommit 3\nopen u 3\nq 3 20900ba8f1c1e4695e6a29575e3a2bfe278f394ffd22086c9e78ee26a843e1c8\n",
+        ),
+    ];
+    assert_eq!(rt; as_told(&rt, rt.alloc(), &rows)?, 4);
+    Ok(())
+}
+
+#[test]
+fn targets_of_targets_and_cycles(rt: HostRuntime) -> Result<(), Fail> {
+    let rows: [(&[u8], u8, &[u8]); 7] = [
+        (
+            b"put a/BUCK 75\nfilegroup(name = \"x\", srcs = [\":y\"])\nwrite_file(name = \"y\", content = \"a\")\n\ncommit\nopen t\nask t r //a:x\nwait r\nput a/BUCK 75\nwrite_file(name = \"x\", content = \"b\")\nfilegroup(name = \"y\", srcs = [\":x\"])\n\ncommit\nopen s\nask s q //a:x\nask s p //a:y\n",
+            0,
+            b"commit 1\nopen t 1\nr 1 09a30994e1b1cf0f0211b73739b9b0f866ef2cc912db8abf10060e7fdc25c23e\ncommit 2\nopen s 2\nq 2 dcf905baf9b7cab203b65a3417ea403c2280f50826bf60bd28d97033260a52af\np 2 76b7dd0c0c3c2a35de1583cc386963d4aed38619e023a66eb6c87f4a0cc8bd0e\n",
+        ),
+        (
+            b"put a/BUCK 74\nfilegroup(name = \"x\", srcs = [\":y\"])\nfilegroup(name = \"y\", srcs = [\":x\"])\n\ncommit\nopen t\nask t r //a:y\n",
+            0,
+            b"commit 1\nopen t 1\nr 1 cycle //a:x //a:y\n",
+        ),
+        (
+            b"put a/BUCK 37\nfilegroup(name = \"s\", srcs = [\":s\"])\n\ncommit\nopen t\nask t r //a:s\n",
+            0,
+            b"commit 1\nopen t 1\nr 1 cycle //a:s\n",
+        ),
+        (
+            b"put a/BUCK 45\nfilegroup(name = \"x\", srcs = [\"none\", \":b\"])\n\ncommit\nopen t\nask t r //a:x\n",
+            0,
+            b"commit 1\nopen t 1\nr 1 fault no-source a/none\n",
+        ),
+        (
+            b"put a/BUCK 45\nfilegroup(name = \"x\", srcs = [\":b\", \"none\"])\n\ncommit\nopen t\nask t r //a:x\n",
+            0,
+            b"commit 1\nopen t 1\nr 1 fault no-target //a:b\n",
+        ),
+        (
+            b"put a/BUCK 111\nwrite_file(name = \"w\", content = \"x\")\ngenrule(name = \"g\", srcs = [\"f\"], out = \"o\", cmd = \"cat $(location :w)\")\n\nput a/f 1\na\ncommit\nopen t\naction t r //a:g\n",
+            0,
+            b"commit 1\nopen t 1\nr 1 action 215\ngenrule\no\n7336b594865fdb588b7d1a3a71d0007082c09057986f56bd174f12af6161e41d\na/f ca978112ca1bbdcafac231b39a23dc4da786eff8147c4e72b9807785afee48bb\n//a:w fe8924915fa0f680747219bbe45ce7b1a4dcdcf1dbaaf66496b6edf247c138aa\n",
+        ),
+        (
+            b"put a/BUCK 45\nfilegroup(name = \"x\", srcs = [\"none\", \":x\"])\n\ncommit\nopen t\nask t r //a:x\n",
+            0,
+            b"commit 1\nopen t 1\nr 1 cycle //a:x\n",
+        ),
+    ];
+    assert_eq!(rt; as_told(&rt, rt.alloc(), &rows)?, 7);
+    Ok(())
+}
+
+#[test]
+fn hostile_target_files(rt: HostRuntime) -> Result<(), Fail> {
+    let rows: [(&[u8], u8, &[u8]); 10] = [
+        (
+            b"put a/BUCK 34\nfilegroup(name = \"x\", srcs = [,])\n\ncommit\nopen t\nask t r //a:x\n",
+            0,
+            b"commit 1\nopen t 1\nr 1 fault bad-file a/BUCK 1\n",
+        ),
+        (
+            b"put a/BUCK 45\nfilegroup(name = \"x\")\nfilegroup(\nname = \"x\")\n\ncommit\nopen t\nask t r //a:x\n",
+            0,
+            b"commit 1\nopen t 1\nr 1 fault bad-file a/BUCK 3\n",
+        ),
+        (
+            b"put a/BUCK 54\ngenrule(name = \"x\", out = \"o\", cmd = \"$(location :y\")\n\ncommit\nopen t\nask t r //a:x\n",
+            0,
+            b"commit 1\nopen t 1\nr 1 fault bad-file a/BUCK 1\n",
+        ),
+        (
+            b"put a/BUCK 33\ngenrule(name = \"x\",\n out = \"o\"\n)\n\ncommit\nopen t\nask t r //a:x\n",
+            0,
+            b"commit 1\nopen t 1\nr 1 fault bad-file a/BUCK 3\n",
+        ),
+        (
+            b"put a/BUCK 39\nwrite_file(name = \"x\", content = \"\\q\")\n\ncommit\nopen t\nask t r //a:x\n",
+            0,
+            b"commit 1\nopen t 1\nr 1 fault bad-file a/BUCK 1\n",
+        ),
+        (
+            b"put a/BUCK 14\n(, name = \"x\")\ncommit\nopen t\nask t r //a:x\n",
+            0,
+            b"commit 1\nopen t 1\nr 1 fault bad-file a/BUCK 1\n",
+        ),
+        (
+            b"put a/BUCK 26\nexport_file(\n, name = \"x\")\ncommit\nopen t\nask t r //a:x\n",
+            0,
+            b"commit 1\nopen t 1\nr 1 fault bad-file a/BUCK 2\n",
+        ),
+        (
+            b"put a/BUCK 41\nfilegroup(name = \"x\", srcs = [\"//a//b\"])\n\ncommit\nopen t\nask t r //a:x\n",
+            0,
+            b"commit 1\nopen t 1\nr 1 fault bad-file a/BUCK 1\n",
+        ),
+        (
+            b"put a/BUCK 22\ngo_binary(name = \"x\")\n\ncommit\nopen t\nask t r //a:x\n",
+            0,
+            b"commit 1\nopen t 1\nr 1 fault bad-file a/BUCK 1\n",
+        ),
+        (
+            b"put a/BUCK 25\n\x0cexport_file(name = \"x\")\n\ncommit\nopen t\nask t r //a:x\n",
+            0,
+            b"commit 1\nopen t 1\nr 1 fault bad-file a/BUCK 1\n",
+        ),
+    ];
+    assert_eq!(rt; as_told(&rt, rt.alloc(), &rows)?, 10);
+    Ok(())
+}
+
 /// One target file is put and committed, `open t`, and then these lines.
 fn in_one_version(alloc: Global, lines: &[u8]) -> Result<Vec<u8>, NoMemory> {
     let mut script = Vec::from_slice(

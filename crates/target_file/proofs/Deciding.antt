@@ -1,47 +1,62 @@
 -- The machine as a function and as a relation.
-use Rattle.std.proofs.Common.{◌≡◌, ◌⊎◌, ◌∙◌, sym, refl, subst, inl, inr, ℕ, Bool, true, false, not, if◌then◌else◌, ◌&&◌, ◌||◌, nat_eq, List, [], ◌∷◌, Option, Some, None}
+use Rattle.std.proofs.Common.{◌≡◌, ◌⊎◌, ◌∙◌, sym, refl, subst, inl, inr, ℕ, Bool, true, false, not, if◌then◌else◌, ◌&&◌, ◌||◌, nat_eq, List, [], ◌∷◌, ◌++◌, Option, Some, None}
 use Rattle.std.specs.Option.{option_map, option_and_then}
 use Rattle.std.specs.List.{list_any, list_all, AllByRecursion}
 use Rattle.std.specs.Str.{bytes_eq}
 use Rattle.target_file.specs.declared.table.Rule.{Rule}
 use Rattle.target_file.specs.declared.table.Attribute.{Attribute}
-use Rattle.target_file.specs.declared.table.Attribute.TheVariants.{Name, Out, Content}
+use Rattle.target_file.specs.declared.table.Attribute.TheVariants.{Name, Visibility, Labels, Src, Srcs, Out, Content, Cmd}
 use Rattle.target_file.specs.declared.table.Form.{Form}
 use Rattle.target_file.specs.declared.table.Form.TheVariants as form
 use Rattle.target_file.specs.declared.place.Place.{Place}
 use Rattle.target_file.specs.declared.place.Place.TheVariants as at
 use Rattle.target_file.specs.Tokens.{Token, Word, Text, Mark, Scan, next}
-use Rattle.target_file.specs.Table.{rule_of, attribute_of, form_of, needed}
+use Rattle.target_file.specs.Table.{rule_of, attribute_of, same_attribute, form_of, needed}
 use Rattle.target_file.specs.Calls.{Value, One, Many, Argument, Call}
 use Rattle.target_file.specs.Files.{Has, Belongs, attributes, names}
-use Rattle.target_file.specs.Machine.{State, StepAt, Steps, Runs, Closes, Names, HasForm, IsFresh, IsWhole, set_place, give, closed}
+use Rattle.target_file.specs.Machine.{State, StepAt, Steps, Runs, Closes, Names, HasForm, HasItem, IsFresh, IsWhole, set_place, give, closed}
 use Rattle.target_file.specs.Code.{Takes, Refuses}
-use Rattle.target_file.specs.Contents.{fits, has_form, same_attribute, is_given, is_whole, is_new, where_so, close_at, name_at, step_at, run, emptied, take_byte}
+use Rattle.target_file.specs.Contents.{fits, holds, has_form, is_given, is_whole, is_new, where_so, close_at, name_at, step_at, run, emptied, take_byte}
 use Rattle.target_file.proofs.Runs.{one_step}
 use Rattle.target_file.proofs.Numbers.{any_has, has_any}
+use Rattle.target_file.proofs.Judging.{source_says, sources_say, command_says}
 use Rattle.target_file.proofs.Saying.{Says, both_say, not_says, says_by, number_says, path_says}
 
 fits_says : (o : Option Form) (v : Value) → Says (fits o v) (Belongs o v)
 fits_says (Some form.Path) (One s) = path_says s
 fits_says (Some form.Text) (One s) = tt
+fits_says (Some form.Command) (One s) = command_says s
+fits_says (Some form.Sources) (One s) = λ h. h
+fits_says (Some form.Texts) (One s) = λ h. h
 fits_says (Some form.Path) (Many ss) = λ h. h
 fits_says (Some form.Text) (Many ss) = λ h. h
+fits_says (Some form.Command) (Many ss) = λ h. h
+fits_says (Some form.Sources) (Many ss) = sources_say ss
+fits_says (Some form.Texts) (Many ss) = tt
 fits_says None v = λ h. h
+
+holds_says : (o : Option Form) (x : List ℕ) → Says (holds o x) (HasItem o x)
+holds_says (Some form.Path) x = λ h. h
+holds_says (Some form.Text) x = λ h. h
+holds_says (Some form.Command) x = λ h. h
+holds_says (Some form.Sources) x = source_says x
+holds_says (Some form.Texts) x = tt
+holds_says None x = λ h. h
 
 form_says : (o : Option Form) → Says (has_form o) (HasForm o)
 form_says (Some f) = tt
 form_says None = λ h. h
 
-same_says : (a b : Attribute) → Says (same_attribute a b) (b ≡ a)
+pub same_says : (a b : Attribute) → Says (same_attribute a b) (b ≡ a)
 same_says Name Name = refl
-same_says Name Out = λ e. cc
-same_says Name Content = λ e. cc
-same_says Out Name = λ e. cc
+same_says Visibility Visibility = refl
+same_says Labels Labels = refl
+same_says Src Src = refl
+same_says Srcs Srcs = refl
 same_says Out Out = refl
-same_says Out Content = λ e. cc
-same_says Content Name = λ e. cc
-same_says Content Out = λ e. cc
 same_says Content Content = refl
+same_says Cmd Cmd = refl
+same_says a b = λ e. cc
 
 has_more : (c d : Bool) (a b : Attribute) (bs : List Attribute) → Says c (b ≡ a) → Says d (Has bs a) → Says (c || d) (Has (b ∷ bs) a)
 has_more true d a b bs s t = inl s
@@ -62,8 +77,13 @@ all_says given (a ∷ need) = both_say (is_given a given) (list_all (λ a. is_gi
 new_says : (calls : List Call) (a : Attribute) (v : Value) → Says (is_new calls a v) (IsFresh calls a v)
 new_says calls Name (One x) = not_says (list_any (bytes_eq x) (names calls)) (Has (names calls) x) (says_by (list_any (bytes_eq x) (names calls)) (any_has x (names calls)) (has_any x (names calls)))
 new_says calls Name (Many ss) = tt
+new_says calls Visibility v = tt
+new_says calls Labels v = tt
+new_says calls Src v = tt
+new_says calls Srcs v = tt
 new_says calls Out v = tt
 new_says calls Content v = tt
+new_says calls Cmd v = tt
 
 -- what the function answers stands in the relation, and nothing else does
 abbrev pub Only : (State → Type 0) → Option State → Type 0
@@ -129,7 +149,8 @@ step_only (at.Value a) s (Mark m) =
     (both_say (nat_eq m 91) (fits (form_of s.rule a) (Many [])) (m ≡ 91) (Belongs (form_of s.rule a) (Many [])) (number_says m 91) (fits_says (form_of s.rule a) (Many [])))
     (λ p. (p.0, p.1, refl)) (λ e q. (q.0, q.1))
 step_only (at.List a) s (Mark m) = so_only (nat_eq m 93) (StepAt (at.List a) s (Mark m)) (give s a (Many s.items)) (number_says m 93) (λ e. (e, refl)) (λ e q. q.0)
-step_only (at.List a) s (Text x) = λ e q. q.0
+step_only (at.List a) s (Text x) =
+    so_only (holds (form_of s.rule a) x) (StepAt (at.List a) s (Text x)) (record s { items = s.items ++ x ∷ []; place = at.Item a }) (holds_says (form_of s.rule a) x) (λ h. (h, refl)) (λ e q. q.0)
 step_only (at.Item a) s (Mark m) = item_only a s m
 step_only at.Done s (Mark m) = done_only s m
 step_only at.Top s (Text x) = λ e q. q

@@ -3,6 +3,7 @@ use Rattle.std.proofs.Common.{◌≡◌, ◌<◌, ◌+◌, ◌-◌, ◌∙◌, s
 use Rattle.std.specs.Arc.{arc_value}
 use Rattle.target_file.specs.declared.file.Located.{Located}
 use Rattle.target_file.specs.Targets as targets
+use Rattle.target_file.specs.declared.action.Action.TheVariants as action
 use Rattle.target_file.specs.declared.call.Call.{Call}
 use Rattle.target_file.specs.Seen.{call_of}
 use Rattle.target_file.specs.Targets.{located, target_named}
@@ -19,7 +20,7 @@ all_get (l ∷ ls) zero x = refl
 all_get (l ∷ ls) (suc k) x = all_get ls k x
 
 nowhere : targets.Located
-nowhere = record { line = 0; target = record { name = []; out = []; content = [] } }
+nowhere = record { line = 0; target = record { name = []; visibility = []; labels = []; action = action.StampFile [] } }
 
 pub found_below : (q : List ℕ) (ls : List Located) (k : ℕ) → number_at 0 q (all_of ls) ≡ Some k → k < length ls
 found_below q ls k h = let r = found_at 0 q (all_of ls) k nowhere h in let b : k < 0 + length (all_of ls) = r.1 in let e = all_length ls in omega arith

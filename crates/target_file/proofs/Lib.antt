@@ -1,4 +1,5 @@
 pub mod Runs
+pub mod Locations
 pub mod Having
 pub mod Spelled
 pub mod Fresh
@@ -12,8 +13,10 @@ pub mod Counting
 pub mod Held
 pub mod Numbers
 pub mod Meaning
+pub mod Gathering
 pub mod Finding
 pub mod Saying
+pub mod Judging
 pub mod Deciding
 pub mod Answering
 pub mod Order

@@ -1,147 +1,165 @@
 -- What calls mean, as the code finds it out.
-use Rattle.std.proofs.Common.{◌≡◌, ◌<◌, ◌≤◌, ◌+◌, ◌∙◌, sym, ap, refl, subst, inl, inr, ℕ, Bool, true, false, List, [], ◌∷◌, ◌++◌, Option, Some, None, if◌then◌else◌, ◌||◌, ◌&&◌, ◌-◌, length, map, get_or, suc, arith, append_assoc}
-use Rattle.std.specs.Option.{option_or, unwrap_or}
+use Rattle.std.proofs.Common.{◌≡◌, ◌⊎◌, ◌<◌, ◌≤◌, ◌+◌, ◌∙◌, sym, ap, refl, subst, inl, inr, ℕ, Bool, true, false, List, [], ◌∷◌, ◌++◌, Option, Some, None, if◌then◌else◌, ◌||◌, ◌&&◌, ◌-◌, length, map, get_or, suc, arith, append_assoc}
+use Rattle.std.specs.Option.{option_or}
 use Rattle.std.specs.List.{AllByRecursion, list_any}
 use Rattle.std.specs.Str.{bytes_eq}
 use Rattle.std.specs.Cmp.Lexicographic.{pointwise}
 use Rattle.buck_label.specs.Paths.{IsPath}
 use Rattle.target_file.specs.declared.table.Rule.{Rule}
-use Rattle.target_file.specs.declared.table.Rule.TheVariants.{WriteFile}
+use Rattle.target_file.specs.declared.table.Rule.TheVariants as rule
 use Rattle.target_file.specs.declared.table.Attribute.{Attribute}
-use Rattle.target_file.specs.declared.table.Attribute.TheVariants.{Name, Out, Content}
-use Rattle.target_file.specs.Table.{form_of, needed}
-use Rattle.target_file.specs.declared.call.Argument as code
-use Rattle.target_file.specs.Seen.{value_of, arguments_of}
+use Rattle.target_file.specs.declared.table.Attribute.TheVariants.{Name, Src, Srcs, Out, Cmd}
+use Rattle.target_file.specs.declared.table.Form.{Form}
+use Rattle.target_file.specs.declared.table.Form.TheVariants as form
+use Rattle.target_file.specs.Table.{same_attribute, form_of, needed}
+use Rattle.target_file.specs.Strings.{source_is, is_label_like, IsSource, IsCommand}
 use Rattle.target_file.specs.Calls.{Value, One, Many, Argument, Call}
 use Rattle.target_file.specs.Files.{Has, AreDistinct, Belongs, IsFine, attributes, name_in, names_in}
-use Rattle.target_file.specs.Targets.{Located, HasPaths, text_for, given, target_of, located, target_named}
+use Rattle.target_file.specs.Targets.{Located, IsSourceText, IsSound, source_of, text_in, list_in, given, action_by, value_of, target_of, located, target_named}
 use Rattle.target_file.specs.Names.{is_named, number_from}
 use Rattle.target_file.specs.Lent.{number_at}
 use Rattle.target_file.proofs.Fresh.{bool_cases}
-
-pub or_assoc : {A : Type 0} (x y z : Option A) → option_or (option_or x y) z ≡ option_or x (option_or y z)
-or_assoc None y z = refl
-or_assoc (Some x) y z = refl
+use Rattle.target_file.proofs.Spelled.{no_name, name_new}
+use Rattle.target_file.proofs.Saying.{Says}
+use Rattle.target_file.proofs.Deciding.{same_says}
 
 pub or_none : {A : Type 0} (x : Option A) → option_or x None ≡ x
 or_none None = refl
 or_none (Some x) = refl
 
--- a string that is given was tested
-abbrev GivenIs : Rule → Attribute → Option (List ℕ) → Type 0
-GivenIs r a None = Unit {0}
-GivenIs r a (Some s) = Belongs (form_of r a) (One s)
+-- what is given was tested
+abbrev pub Fits : Option Form → Option Value → Type 0
+Fits f None = Unit {0}
+Fits f (Some v) = Belongs f v
 
-given_for : (r : Rule) (a b : Attribute) (v : Value) → Belongs (form_of r b) v → GivenIs r a (text_for a b v)
-given_for r Name Name (One s) h = h
-given_for r Out Out (One s) h = h
-given_for r Content Content (One s) h = h
-given_for r a b v h = tt
+fits_pick : (r : Rule) (a b : Attribute) (v : Value) (o : Option Value) (c : Bool) → Says c (b ≡ a) → Belongs (form_of r b) v → Fits (form_of r a) o → Fits (form_of r a) (if c then Some v else o)
+fits_pick r a b v o true s h k = subst (λ (x : Attribute). Belongs (form_of r x) v) s h
+fits_pick r a b v o false s h k = k
 
-given_or : (r : Rule) (a : Attribute) (x y : Option (List ℕ)) → GivenIs r a x → GivenIs r a y → GivenIs r a (option_or x y)
-given_or r a None y h k = k
-given_or r a (Some s) y h k = h
-
-given_fits : (r : Rule) (a : Attribute) (args : List Argument) → AllByRecursion (λ b. Belongs (form_of r b.attribute) b.value) args → GivenIs r a (given a args)
+pub given_fits : (r : Rule) (a : Attribute) (args : List Argument) → AllByRecursion (λ b. Belongs (form_of r b.attribute) b.value) args → Fits (form_of r a) (given a args)
 given_fits r a [] h = tt
-given_fits r a (b ∷ args) h = given_or r a (given a args) (text_for a b.attribute b.value) (given_fits r a args h.1) (given_for r a b.attribute b.value h.0)
+given_fits r a (b ∷ args) h = fits_pick r a b.attribute b.value (given a args) (same_attribute a b.attribute) (same_says a b.attribute) h.0 (given_fits r a args h.1)
 
--- an attribute that stands there has a string, since no rule takes a list for it yet
-abbrev IsGiven : Attribute → Option (List ℕ) → Type 0
-IsGiven a None = ⊥
-IsGiven a (Some s) = Unit {0}
+-- an attribute that stands there has a value
+abbrev pub IsThere : Option Value → Type 0
+IsThere None = ⊥
+IsThere (Some v) = Unit {0}
 
-given_left : (a : Attribute) (x y : Option (List ℕ)) → IsGiven a x → IsGiven a (option_or x y)
-given_left a None y h = absurd h
-given_left a (Some s) y h = tt
+there_first : (a b : Attribute) (v : Value) (o : Option Value) (c : Bool) → Says c (b ≡ a) → b ≡ a → IsThere (if c then Some v else o)
+there_first a b v o true s e = tt
+there_first a b v o false s e = absurd (s e)
 
-given_right : (a : Attribute) (x y : Option (List ℕ)) → IsGiven a y → IsGiven a (option_or x y)
-given_right a None y h = h
-given_right a (Some s) y h = tt
+there_second : (v : Value) (o : Option Value) (c : Bool) → IsThere o → IsThere (if c then Some v else o)
+there_second v o true h = tt
+there_second v o false h = h
 
-itself : (r : Rule) (a : Attribute) (v : Value) → Belongs (form_of r a) v → IsGiven a (text_for a a v)
-itself r Name (One s) h = tt
-itself WriteFile Out (One s) h = tt
-itself WriteFile Content (One s) h = tt
-itself r Name (Many ss) h = absurd h
-itself WriteFile Out (Many ss) h = absurd h
-itself WriteFile Content (Many ss) h = absurd h
+pub has_given : (a : Attribute) (args : List Argument) → Has (attributes args) a → IsThere (given a args)
+has_given a [] k = k
+has_given a (b ∷ args) (inl e) = there_first a b.attribute b.value (given a args) (same_attribute a b.attribute) (same_says a b.attribute) e
+has_given a (b ∷ args) (inr k) = there_second b.value (given a args) (same_attribute a b.attribute) (has_given a args k)
 
-given_here : (r : Rule) (a b : Attribute) (v : Value) → b ≡ a → Belongs (form_of r b) v → IsGiven a (text_for a b v)
-given_here r a b v e h = subst (λ (x : Attribute). IsGiven x (text_for x b v)) e (itself r b v h)
+-- a path that is given, or a default that is one
+pub path_in : (o d : Option Value) → Fits (Some form.Path) o → IsPath (text_in d) → IsPath (text_in (option_or o d))
+path_in None d h k = k
+path_in (Some (One s)) d h k = h
+path_in (Some (Many ss)) d h k = absurd h
 
-has_given : (r : Rule) (a : Attribute) (args : List Argument) → AllByRecursion (λ b. Belongs (form_of r b.attribute) b.value) args → Has (attributes args) a → IsGiven a (given a args)
-has_given r a [] h k = absurd k
-has_given r a (b ∷ args) h (inl e) = given_right a (given a args) (text_for a b.attribute b.value) (given_here r a b.attribute b.value e h.0)
-has_given r a (b ∷ args) h (inr k) = given_left a (given a args) (text_for a b.attribute b.value) (has_given r a args h.1 k)
+pub path_there : (o d : Option Value) → Fits (Some form.Path) o → IsThere o → IsPath (text_in (option_or o d))
+path_there None d h k = absurd k
+path_there (Some (One s)) d h k = h
+path_there (Some (Many ss)) d h k = absurd h
 
-name_path : (r : Rule) (o : Option (List ℕ)) → GivenIs r Name o → IsGiven Name o → IsPath (unwrap_or o [])
-name_path r None h k = absurd k
-name_path r (Some s) h k = h
+pub sources_in : (o : Option Value) → Fits (Some form.Sources) o → AllByRecursion IsSource (list_in (option_or o (Some (Many []))))
+sources_in None h = tt
+sources_in (Some (One s)) h = absurd h
+sources_in (Some (Many ss)) h = h
 
-out_path : (r : Rule) (o : Option (List ℕ)) (d : List ℕ) → GivenIs r Out o → IsPath d → IsPath (unwrap_or o d)
-out_path r None d h k = k
-out_path WriteFile (Some s) d h k = h
+command_in : (o : Option Value) → Fits (Some form.Command) o → IsCommand (text_in (option_or o None))
+command_in None h = tt
+command_in (Some (One s)) h = h
+command_in (Some (Many ss)) h = tt
 
-first_needed : (r : Rule) (P : Attribute → Type 0) → AllByRecursion P (needed r) → P Name
-first_needed WriteFile P h = h.0
+source_text : (b : Bool) (x : List ℕ) (s : _) → s ≡ source_of x → is_label_like x ≡ b → source_is b x → IsSourceText s
+source_text true x s e f h = subst IsSourceText (sym e) (rw f h)
+source_text false x s e f h = subst IsSourceText (sym e) (rw f h)
 
-needed_name : (c : Call) → IsFine c → Has (attributes c.arguments) Name
-needed_name c f = first_needed c.rule (λ a. Has (attributes c.arguments) a) f.whole
+source_texts : (xs : List (List ℕ)) → AllByRecursion IsSource xs → AllByRecursion IsSourceText (map source_of xs)
+source_texts [] h = tt
+source_texts (x ∷ xs) h = (source_text (is_label_like x) x (source_of x) refl refl h.0, source_texts xs h.1)
 
-pub fine_paths : (c : Call) → IsFine c → HasPaths (target_of c.arguments)
-fine_paths c f =
-    let n = name_path c.rule (given Name c.arguments) (given_fits c.rule Name c.arguments f.each) (has_given c.rule Name c.arguments f.each (needed_name c f)) in
-    (n, out_path c.rule (given Out c.arguments) (unwrap_or (given Name c.arguments) []) (given_fits c.rule Out c.arguments f.each) n)
+pub first_needed : (r : Rule) (P : Attribute → Type 0) → AllByRecursion P (needed r) → P Name
+first_needed rule.ExportFile P h = h.0
+first_needed rule.Filegroup P h = h.0
+first_needed rule.WriteFile P h = h.0
+first_needed rule.Genrule P h = h.0
+first_needed rule.StampFile P h = h.0
+
+-- the name of a call that is fine is a path, and what it does is sound
+abbrev pub Tested : Rule → List Argument → Type 0
+Tested r args = AllByRecursion (λ b. Belongs (form_of r b.attribute) b.value) args
+
+abbrev pub Whole : Rule → List Argument → Type 0
+Whole r args = AllByRecursion (λ a. Has (attributes args) a) (needed r)
+
+pub path_name : (r : Rule) (args : List Argument) (d : Option Value) → Tested r args → Whole r args → IsPath (text_in (option_or (given Name args) d))
+path_name r args d h k = path_there (given Name args) d (given_fits r Name args h) (has_given Name args (first_needed r (λ a. Has (attributes args) a) k))
+
+pub name_path : (r : Rule) (args : List Argument) → Tested r args → Whole r args → IsPath (text_in (given Name args))
+name_path r args h k = subst (λ (o : Option Value). IsPath (text_in o)) (or_none (given Name args)) (path_name r args None h k)
+
+pub sound : (r : Rule) (args : List Argument) → Tested r args → Whole r args → IsSound (action_by r (value_of r args))
+sound rule.ExportFile args h k =
+    let n = name_path rule.ExportFile args h k in
+    (path_in (given Src args) (Some (One (text_in (given Name args)))) (given_fits rule.ExportFile Src args h) n, path_in (given Out args) (Some (One (text_in (given Name args)))) (given_fits rule.ExportFile Out args h) n)
+sound rule.Filegroup args h k = source_texts (list_in (option_or (given Srcs args) (Some (Many [])))) (sources_in (given Srcs args) (given_fits rule.Filegroup Srcs args h))
+sound rule.WriteFile args h k = path_in (given Out args) (Some (One (text_in (given Name args)))) (given_fits rule.WriteFile Out args h) (name_path rule.WriteFile args h k)
+sound rule.Genrule args h k = (
+  source_texts (list_in (option_or (given Srcs args) (Some (Many [])))) (sources_in (given Srcs args) (given_fits rule.Genrule Srcs args h)),
+  path_there (given Out args) None (given_fits rule.Genrule Out args h) (has_given Out args k.1.0),
+  command_in (given Cmd args) (given_fits rule.Genrule Cmd args h),
+)
+sound rule.StampFile args h k = path_in (given Out args) (Some (One (text_in (given Name args)))) (given_fits rule.StampFile Out args h) (name_path rule.StampFile args h k)
 
 -- a call has its target's name and no other
-other : (a : Attribute) (v : Value) → (a ≡ Name → ⊥) → (name_in a v ≡ []) × (text_for Name a v ≡ None)
-other Name v h = absurd (h refl)
-other Out v h = (refl, refl)
-other Content v h = (refl, refl)
+name_here : (r : Rule) (b : Attribute) (v : Value) (ns : List (List ℕ)) → b ≡ Name → Belongs (form_of r b) v → ns ≡ [] → name_in b v ++ ns ≡ text_in (Some v) ∷ []
+name_here r Name (One s) ns e h n = ap (λ (m : List (List ℕ)). s ∷ m) n
+name_here r Name (Many ss) ns e h n = absurd h
+name_here r b v ns e h n = cc
 
-no_name : (args : List Argument) → (Has (attributes args) Name → ⊥) → (names_in args ≡ []) × (given Name args ≡ None)
-no_name [] h = (refl, refl)
-no_name (b ∷ args) h =
-    let r = no_name args (λ k. h (inr k)) in
-    let z = other b.attribute b.value (λ e. h (inl e)) in
-    (ap (λ (n : List (List ℕ)). n ++ names_in args) z.0 ∙ r.0, ap (λ (o : Option (List ℕ)). option_or o (text_for Name b.attribute b.value)) r.1 ∙ z.1)
+name_there : (b : Attribute) (v : Value) (ns : List (List ℕ)) (t : List ℕ) → (b ≡ Name → ⊥) → ns ≡ t ∷ [] → name_in b v ++ ns ≡ t ∷ []
+name_there b v ns t n h = ap (λ (m : List (List ℕ)). m ++ ns) (no_name b v n) ∙ h
 
--- the names that one argument, or all of them, give, and the string that is the name
-abbrev SameName : List (List ℕ) → Option (List ℕ) → Type 0
-SameName [] o = o ≡ None
-SameName (n ∷ ns) o = (ns ≡ []) × (o ≡ Some n)
+name_pick : (r : Rule) (b : Attribute) (v : Value) (args : List Argument) (c : Bool) → Says c (b ≡ Name) → Belongs (form_of r b) v → (Has (attributes args) b → ⊥) → (b ≡ Name) ⊎ Has (attributes args) Name →
+    (Has (attributes args) Name → names_in args ≡ text_in (given Name args) ∷ []) → name_in b v ++ names_in args ≡ text_in (if c then Some v else given Name args) ∷ []
+name_pick r b v args true s h d k f = name_here r b v (names_in args) s h (name_new args (λ m. d (subst (Has (attributes args)) (sym s) m)))
+name_pick r b v args false s h d (inl e) f = absurd (s e)
+name_pick r b v args false s h d (inr k) f = name_there b v (names_in args) (text_in (given Name args)) s (f k)
 
--- b gives the name, or one of the others does
-join_names : (a : Attribute) (v : Value) (ns : List (List ℕ)) (o : Option (List ℕ)) → (a ≡ Name → (ns ≡ []) × (o ≡ None)) → SameName ns o → SameName (name_in a v ++ ns) (option_or o (text_for Name a v))
-join_names Name (One s) ns o h k = let e = h refl in (e.0, ap (λ (x : Option (List ℕ)). option_or x (Some s)) e.1)
-join_names Name (Many ss) ns o h k = subst (SameName ns) (sym (or_none o)) k
-join_names Out v ns o h k = subst (SameName ns) (sym (or_none o)) k
-join_names Content v ns o h k = subst (SameName ns) (sym (or_none o)) k
+one_name : (r : Rule) (args : List Argument) → Tested r args → AreDistinct (attributes args) → Has (attributes args) Name → names_in args ≡ text_in (given Name args) ∷ []
+one_name r [] h d k = absurd k
+one_name r (b ∷ args) h d k = name_pick r b.attribute b.value args (same_attribute Name b.attribute) (same_says Name b.attribute) h.0 d.0 k (one_name r args h.1 d.1)
 
-same_names : (args : List Argument) → AreDistinct (attributes args) → SameName (names_in args) (given Name args)
-same_names [] d = refl
-same_names (b ∷ args) d = join_names b.attribute b.value (names_in args) (given Name args) (λ e. no_name args (λ k. d.0 (subst (Has (attributes args)) (sym e) k))) (same_names args d.1)
+pub name_is : (r : Rule) (args : List Argument) → (target_of r args).name ≡ text_in (given Name args)
+name_is r args = ap text_in (or_none (given Name args))
+
+-- the one name of a call
+pub call_name : (c : Call) → IsFine c → names_in c.arguments ≡ (target_of c.rule c.arguments).name ∷ []
+call_name c f =
+    one_name c.rule c.arguments f.each f.once (first_needed c.rule (λ a. Has (attributes c.arguments) a) f.whole) ∙ ap (λ (x : List ℕ). x ∷ []) (sym (name_is c.rule c.arguments))
 
 or_false : (b : Bool) → (b || false) ≡ b
 or_false true = refl
 or_false false = refl
 
-named_by : (q : List ℕ) (ns : List (List ℕ)) (o : Option (List ℕ)) → SameName ns o → IsGiven Name o → list_any (bytes_eq q) ns ≡ bytes_eq q (unwrap_or o [])
-named_by q [] o h k = absurd (subst (IsGiven Name) h k)
-named_by q (n ∷ ns) o h k =
-    let a : list_any (bytes_eq q) (n ∷ ns) ≡ (bytes_eq q n || false) = ap (λ (m : List (List ℕ)). bytes_eq q n || list_any (bytes_eq q) m) h.0 in
-    a ∙ or_false (bytes_eq q n) ∙ ap (λ (x : Option (List ℕ)). bytes_eq q (unwrap_or x [])) (sym h.1)
-
-fine_named : (q : List ℕ) (c : Call) → IsFine c → is_named q c.arguments ≡ bytes_eq q (target_of c.arguments).name
-fine_named q c f = named_by q (names_in c.arguments) (given Name c.arguments) (same_names c.arguments f.once) (has_given c.rule Name c.arguments f.each (needed_name c f))
+fine_named : (q : List ℕ) (c : Call) → IsFine c → is_named q c.arguments ≡ bytes_eq q (target_of c.rule c.arguments).name
+fine_named q c f = ap (list_any (bytes_eq q)) (call_name c f) ∙ or_false (bytes_eq q (target_of c.rule c.arguments).name)
 
 -- so the number of a call is that of its target
 pub number_is : (n : ℕ) (q : List ℕ) (cs : List Call) → AllByRecursion IsFine cs → number_from n q cs [] ≡ number_at n q (map located cs)
 number_is n q [] h = refl
 number_is n q (c ∷ cs) h =
     ap (λ (b : Bool). if b then Some n else number_from (n + 1) q cs []) (fine_named q c h.0)
-    ∙ ap (λ (o : Option ℕ). if bytes_eq q (target_of c.arguments).name then Some n else o) (number_is (n + 1) q cs h.1)
+    ∙ ap (λ (o : Option ℕ). if bytes_eq q (target_of c.rule c.arguments).name then Some n else o) (number_is (n + 1) q cs h.1)
 
 -- a target is found by its number
 pub found_at : (n : ℕ) (q : List ℕ) (ls : List Located) (k : ℕ) (d : Located) → number_at n q ls ≡ Some k → (n ≤ k) × (k < n + length ls) × (target_named q ls ≡ Some (get_or ls (k - n) d).target)
@@ -182,26 +200,6 @@ pub nothing_left : {X : Type 0} (xs : List X) → length xs ≡ 0 → xs ≡ []
 nothing_left [] h = refl
 nothing_left (x ∷ xs) h = absurd (omega arith)
 
-pub taken : (a : Attribute) (all : Option (List ℕ)) (rest more : List code.Argument) (x : code.Argument) (old new : Option (List ℕ)) →
-    all ≡ option_or (given a (arguments_of rest)) old → rest ≡ x ∷ more → new ≡ option_or (text_for a x.attribute (value_of x.value)) old →
-    all ≡ option_or (given a (arguments_of more)) new
-taken a all rest more x old new h e n =
-    h ∙ ap (λ (r : List code.Argument). option_or (given a (arguments_of r)) old) e
-    ∙ or_assoc (given a (arguments_of more)) (text_for a x.attribute (value_of x.value)) old ∙ ap (option_or (given a (arguments_of more))) (sym n)
-
-pub ended : (a : Attribute) (all first rest : List code.Argument) (found : Option (List ℕ)) →
-    given a (arguments_of first) ≡ option_or (given a (arguments_of rest)) found → rest ≡ [] → first ≡ all → found ≡ given a (arguments_of all)
-ended a all first rest found h e f =
-    sym (h ∙ ap (λ (r : List code.Argument). option_or (given a (arguments_of r)) found) e) ∙ ap (λ (r : List code.Argument). given a (arguments_of r)) f
-
 -- a loop that locates calls one by one
 pub one_more : {Y : Type 0} (done : List Y) (y : Y) (rest all : List Y) → done ++ y ∷ rest ≡ all → (done ++ y ∷ []) ++ rest ≡ all
 one_more done y rest all h = append_assoc done (y ∷ []) rest ∙ h
-
--- the one name of a call
-name_by : (ns : List (List ℕ)) (o : Option (List ℕ)) → SameName ns o → IsGiven Name o → ns ≡ unwrap_or o [] ∷ []
-name_by [] o h k = absurd (subst (IsGiven Name) h k)
-name_by (n ∷ ns) o h k = ap (λ (m : List (List ℕ)). n ∷ m) h.0 ∙ ap (λ (x : Option (List ℕ)). unwrap_or x [] ∷ []) (sym h.1)
-
-pub call_name : (c : Call) → IsFine c → names_in c.arguments ≡ (target_of c.arguments).name ∷ []
-call_name c f = name_by (names_in c.arguments) (given Name c.arguments) (same_names c.arguments f.once) (has_given c.rule Name c.arguments f.each (needed_name c f))

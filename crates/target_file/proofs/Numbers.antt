@@ -1,9 +1,12 @@
 -- The table of names after a change, and the number of a call.
-use Rattle.std.proofs.Common.{◌≡◌, ◌<◌, ◌≤◌, ◌+◌, ◌∙◌, sym, ap, refl, subst, inl, inr, ℕ, Bool, true, false, List, [], ◌∷◌, ◌++◌, Option, Some, None, if◌then◌else◌, ◌||◌, nat_eq, nat_lt, ◌↔◌, length, map, arith}
+use Rattle.std.proofs.Common.{◌≡◌, ◌<◌, ◌≤◌, ◌+◌, ◌∙◌, sym, ap, refl, subst, inl, inr, ℕ, Bool, true, false, List, [], ◌∷◌, ◌++◌, Option, Some, None, if◌then◌else◌, ◌||◌, nat_lt, ◌↔◌, length, map, arith}
 use Rattle.std.specs.List.{list_any}
 use Rattle.std.specs.Str.{bytes_eq}
-use Rattle.std.specs.Cmp.Lexicographic.{pointwise, nat_list_eq_equiv, bytes_decides}
-use Rattle.std.specs.HashMap.{HashMap, UpdatesBy, get_by}
+use Rattle.std.specs.Cmp.Lexicographic.{nat_list_eq_equiv, bytes_decides}
+use Rattle.std.specs.BTreeMap.{BTreeMap, UpdatesBy, get_by}
+use Rattle.std.specs.Ordering.{nat_cmp, is_eq}
+use Rattle.std.specs.Cmp.Lexicographic.{slice_cmp}
+use Rattle.std.proofs.lemmas.Map.Text.{is_eq-slice_cmp}
 use Rattle.std.specs.Map.{lookup, KeepsOthers, IsKeyTest, AreApart}
 use Rattle.std.specs.declared.vec.Vec.{Vec}
 use Rattle.target_file.specs.declared.table.Attribute.{Attribute}
@@ -28,11 +31,17 @@ unfolding KeepsOthers
 others eq test old new h = h
 
 -- a look-up by bytes after a name was given a number
-pub added : {A X S : Type 0} (key : Vec ℕ A) (m n : HashMap (Vec ℕ A) X S) (w : Option X) → UpdatesBy (λ x y. pointwise nat_eq x.items y.items) (λ k. pointwise nat_eq key.items k.items) m n w →
-    (q : List ℕ) → get_by (λ k. bytes_eq q k.items) n ≡ (if bytes_eq key.items q then w else get_by (λ k. bytes_eq q k.items) m)
+key_test : {A : Type 0} (q : List ℕ) (x y : Vec ℕ A) → is_eq (slice_cmp nat_cmp q x.items) ≡ true → is_eq (slice_cmp nat_cmp q y.items) ≡ is_eq (slice_cmp nat_cmp x.items y.items)
+key_test q x y t =
+    is_eq-slice_cmp q y.items ∙ nat_list_eq_equiv.congr q x.items y.items (sym (is_eq-slice_cmp q x.items) ∙ t) ∙ sym (is_eq-slice_cmp x.items y.items)
+
+pub added : {A X : Type 0} (key : Vec ℕ A) (m n : BTreeMap (Vec ℕ A) X) (w : Option X) → UpdatesBy (λ x y. slice_cmp nat_cmp x.items y.items) (λ k. slice_cmp nat_cmp key.items k.items) m n w →
+    (q : List ℕ) → get_by (λ k. slice_cmp nat_cmp q k.items) n ≡ (if bytes_eq key.items q then w else get_by (λ k. slice_cmp nat_cmp q k.items) m)
 added key m n w h q = elim (bool_cases (bytes_eq key.items q)) [
-  | inl t ↦ rw t (subst (λ (l : List ℕ). get_by (λ k. bytes_eq l k.items) n ≡ w) ((bytes_decides key.items q).0 t) h.1)
-  | inr f ↦ rw f (others _ _ m.entries n.entries h.3 (λ k. bytes_eq q k.items) (λ x y. nat_list_eq_equiv.congr q x.items y.items) (λ k. apart key.items q k.items f))
+  | inl t ↦ rw t (subst (λ (l : List ℕ). get_by (λ k. slice_cmp nat_cmp l k.items) n ≡ w) ((bytes_decides key.items q).0 t) h.1)
+  | inr f ↦
+      rw f (others _ _ m.entries n.entries h.3 (λ k. is_eq (slice_cmp nat_cmp q k.items)) (key_test q)
+      (λ k t. is_eq-slice_cmp q k.items ∙ apart key.items q k.items f (sym (is_eq-slice_cmp key.items k.items) ∙ t)))
 ]
 
 -- names among others
@@ -111,8 +120,13 @@ fresh_none cs q attribute.Name (One x) g f = elim (bool_cases (bytes_eq q x)) [
   | inr n ↦ let k : (bytes_eq q x || false) ≡ true = g in let m : false ≡ true = rw n at k in cc
 ]
 fresh_none cs q attribute.Name (Many xs) g f = cc
+fresh_none cs q attribute.Visibility v g f = cc
+fresh_none cs q attribute.Labels v g f = cc
+fresh_none cs q attribute.Src v g f = cc
+fresh_none cs q attribute.Srcs v g f = cc
 fresh_none cs q attribute.Out v g f = cc
 fresh_none cs q attribute.Content v g f = cc
+fresh_none cs q attribute.Cmd v g f = cc
 
 -- an argument more
 pub number_more : (q : List ℕ) (cs : List Call) (given : List Argument) (a : Attribute) (v : Value) → IsFresh cs a v → number_from 0 q cs (given ++ record { attribute = a; value = v } ∷ []) ≡ (if gives_name q a v then Some (length cs) else number_from 0 q cs given)
@@ -136,8 +150,13 @@ calls_length (c ∷ cs) = let h = calls_length cs in omega arith
 
 many_no_name : (q : List ℕ) (a : Attribute) (xs : List (List ℕ)) → gives_name q a (Many xs) ≡ false
 many_no_name q attribute.Name xs = refl
+many_no_name q attribute.Visibility xs = refl
+many_no_name q attribute.Labels xs = refl
+many_no_name q attribute.Src xs = refl
+many_no_name q attribute.Srcs xs = refl
 many_no_name q attribute.Out xs = refl
 many_no_name q attribute.Content xs = refl
+many_no_name q attribute.Cmd xs = refl
 
 pub list_kept : (q : List ℕ) (k : Option ℕ) (cs : List Call) (xs ys : List code.Argument) (x : code.Argument) (ts : List (List ℕ)) → ys ≡ xs ++ x ∷ [] → (argument_of x).value ≡ Many ts →
     k ≡ number_from 0 q cs (arguments_of xs) → k ≡ number_from 0 q cs (arguments_of ys)

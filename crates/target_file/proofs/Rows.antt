@@ -7,9 +7,9 @@ use Rattle.target_file.specs.Tokens.{Token, Word, Text, Mark}
 use Rattle.target_file.specs.Calls.{One, Call}
 use Rattle.target_file.specs.Files.{IsWritten, IsDead, IsBad}
 use Rattle.target_file.specs.Targets.{IsFile}
-use Rattle.target_file.specs.Rows.{w_text, w_file}
+use Rattle.target_file.specs.Rows.{w_text, w_file, g_text, g_file}
 use Rattle.target_file.specs.Contents.{contents}
-use Rattle.target_file.proofs.Answering.{bad_by}
+use Rattle.target_file.proofs.Answering.{file_by, bad_by}
 use Rattle.target_file.specs.Machine.{State, Runs, first}
 use Rattle.target_file.proofs.Fresh.{segment_path}
 use Rattle.target_file.proofs.Faults.{dead_byte, dead_token, stuck}
@@ -76,3 +76,19 @@ cxx_bad = (bad_by (codes "cxx_library(") 1 (lit< tt)).0 refl
 pub unclosed_bad : IsBad (codes "write_file(name = 'w") 1
 unfolding contents
 unclosed_bad = (bad_by (codes "write_file(name = 'w") 1 (lit< tt)).0 refl
+
+pub one_genrule : IsFile g_text g_file
+unfolding contents
+one_genrule = (file_by g_text g_file (lit< tt)).0 refl
+
+pub comma_bad : IsBad (codes "filegroup(,") 1
+unfolding contents
+comma_bad = (bad_by (codes "filegroup(,") 1 (lit< tt)).0 refl
+
+pub location_bad : IsBad (codes "genrule(cmd='$(location :w'") 1
+unfolding contents
+location_bad = (bad_by (codes "genrule(cmd='$(location :w'") 1 (lit< tt)).0 refl
+
+pub list_bad : IsBad (codes "stamp_file(name=[") 1
+unfolding contents
+list_bad = (bad_by (codes "stamp_file(name=[") 1 (lit< tt)).0 refl

@@ -45,7 +45,7 @@ itself false = λ e. cc
 pub number_says : (m n : ℕ) → Says (nat_eq m n) (m ≡ n)
 number_says m n = says_by (nat_eq m n) (eqb-true m n) (λ e. subst (λ (k : ℕ). nat_eq m k ≡ true) e (self m))
 
-bytes_say : (x y : List ℕ) → Says (bytes_eq x y) (x ≡ y)
+pub bytes_say : (x y : List ℕ) → Says (bytes_eq x y) (x ≡ y)
 bytes_say x y = says_by (bytes_eq x y) (bytes_decides x y).0 (bytes_decides x y).1
 
 all_bytes : (s : List ℕ) → Says (list_all is_segment_byte s) (AllByRecursion IsSegmentByte s)

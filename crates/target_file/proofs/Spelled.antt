@@ -6,6 +6,7 @@ use Rattle.target_file.specs.declared.table.Attribute.{Attribute}
 use Rattle.target_file.specs.declared.table.Attribute.TheVariants as attribute
 use Rattle.target_file.specs.declared.table.Form.{Form}
 use Rattle.target_file.specs.declared.table.Form.TheVariants as form
+use Rattle.target_file.specs.Strings.{IsSource}
 use Rattle.target_file.specs.declared.place.Place.{Place}
 use Rattle.target_file.specs.declared.place.Place.TheVariants as at
 use Rattle.target_file.specs.Tokens.{Token, Word, Text, Mark}
@@ -114,12 +115,17 @@ attributes_end [] a = refl
 attributes_end (b ∷ given) a = ap (λ (n : List Attribute). b.attribute ∷ n) (attributes_end given a)
 
 -- an argument more is as good
-no_name : (a : Attribute) (v : Value) → (a ≡ attribute.Name → ⊥) → name_in a v ≡ []
+pub no_name : (a : Attribute) (v : Value) → (a ≡ attribute.Name → ⊥) → name_in a v ≡ []
 no_name attribute.Name v h = absurd (h refl)
+no_name attribute.Visibility v h = refl
+no_name attribute.Labels v h = refl
+no_name attribute.Src v h = refl
+no_name attribute.Srcs v h = refl
 no_name attribute.Out v h = refl
 no_name attribute.Content v h = refl
+no_name attribute.Cmd v h = refl
 
-name_new : (given : List Argument) → (Has (attributes given) attribute.Name → ⊥) → names_in given ≡ []
+pub name_new : (given : List Argument) → (Has (attributes given) attribute.Name → ⊥) → names_in given ≡ []
 name_new [] h = refl
 name_new (b ∷ given) h = ap (λ (n : List (List ℕ)). n ++ names_in given) (no_name b.attribute b.value (λ e. h (inl e))) ∙ name_new given (λ k. h (inr k))
 
@@ -132,8 +138,13 @@ names_more attribute.Name (One x) given calls d f n =
     let k : AreDistinct (names calls) = subst AreDistinct (ap (λ (m : List (List ℕ)). names calls ++ m) e ∙ append-nil (names calls)) d in
     subst (λ (m : List (List ℕ)). AreDistinct (names calls ++ (m ++ x ∷ []))) (sym e) (distinct_more (names calls) x k f)
 names_more attribute.Name (Many xs) given calls d f n = same_names [] given calls refl d
+names_more attribute.Visibility v given calls d f n = same_names [] given calls refl d
+names_more attribute.Labels v given calls d f n = same_names [] given calls refl d
+names_more attribute.Src v given calls d f n = same_names [] given calls refl d
+names_more attribute.Srcs v given calls d f n = same_names [] given calls refl d
 names_more attribute.Out v given calls d f n = same_names [] given calls refl d
 names_more attribute.Content v given calls d f n = same_names [] given calls refl d
+names_more attribute.Cmd v given calls d f n = same_names [] given calls refl d
 
 good_more : (rule : Rule) (given : List Argument) (calls : List Call) (a : Argument) → IsGood rule given calls → Belongs (form_of rule a.attribute) a.value → IsFresh calls a.attribute a.value → (Has (attributes given) a.attribute → ⊥) → IsGood rule (given ++ a ∷ []) calls
 good_more rule given calls a g b f n = record {
@@ -238,13 +249,21 @@ begun ts s f l w a e h n =
 
 pub fresh_many : (calls : List Call) (a : Attribute) (ss : List (List ℕ)) → IsFresh calls a (Many ss)
 fresh_many calls attribute.Name ss = tt
+fresh_many calls attribute.Visibility ss = tt
+fresh_many calls attribute.Labels ss = tt
+fresh_many calls attribute.Src ss = tt
+fresh_many calls attribute.Srcs ss = tt
 fresh_many calls attribute.Out ss = tt
 fresh_many calls attribute.Content ss = tt
+fresh_many calls attribute.Cmd ss = tt
 
 item_more : (fo : Option Form) (ss : List (List ℕ)) (x : List ℕ) → Belongs fo (Many ss) → HasItem fo x → Belongs fo (Many (ss ++ x ∷ []))
 item_more None ss x b h = h
 item_more (Some form.Path) ss x b h = h
 item_more (Some form.Text) ss x b h = h
+item_more (Some form.Command) ss x b h = h
+item_more (Some form.Sources) ss x b h = all_end IsSource ss x b h
+item_more (Some form.Texts) ss x b h = tt
 
 -- the rule's name, (, =, a value, a list's parts, a comma
 step_at : (p : Place) (ts : List Token) (s : State) (t : Token) (e : State) (f : Spelled ts s) → SpelledAt p s f.back → StepAt p s t e → Spelled (ts ++ t ∷ []) e

@@ -4,11 +4,12 @@ use Rattle.std.specs.List.{AllByRecursion}
 use Rattle.buck_label.specs.Paths.{IsPath}
 use Rattle.target_file.specs.Tokens.{Token, tokens}
 use Rattle.target_file.specs.Table.{form_of, needed}
-use Rattle.target_file.specs.Calls.{Value, One, Argument, Call, AreCalls}
+use Rattle.target_file.specs.Strings.{IsSource, IsCommand}
+use Rattle.target_file.specs.Calls.{Value, One, Many, Argument, Call, AreCalls}
 use Rattle.target_file.specs.declared.table.Attribute.{Attribute}
 use Rattle.target_file.specs.declared.table.Attribute.TheVariants.{Name}
 use Rattle.target_file.specs.declared.table.Form.{Form}
-use Rattle.target_file.specs.declared.table.Form.TheVariants.{Path, Text}
+use Rattle.target_file.specs.declared.table.Form.TheVariants.{Path, Text, Command, Sources, Texts}
 
 -- x is one of them
 abbrev pub Has : {X : Type 0} → List X → X → Type 0
@@ -23,6 +24,9 @@ AreDistinct (x ∷ xs) = (Has xs x → ⊥) × AreDistinct xs
 abbrev pub HasForm : Form → Value → Type 0
 HasForm Path (One s) = IsPath s
 HasForm Text (One s) = Unit {0}
+HasForm Command (One s) = IsCommand s
+HasForm Sources (Many ss) = AllByRecursion IsSource ss
+HasForm Texts (Many ss) = Unit {0}
 HasForm f v = ⊥
 
 -- the rule has the attribute, and the value has its form

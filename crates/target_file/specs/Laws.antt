@@ -1,22 +1,16 @@
 -- Equality of targets and of files is exact.
-use Rattle.std.specs.Prelude.{◌≡◌, ◌&&◌, Bool, true, false, nat_eq, List, refl}
+use Rattle.std.specs.Prelude.{◌≡◌, ◌&&◌, ℕ, true, nat_eq, List, refl}
 use Rattle.std.specs.Bool.{Decides}
 use Rattle.std.specs.Str.{bytes_eq}
 use Rattle.std.specs.Cmp.{IsEquivalence, decided, unsigned_Decides}
 use Rattle.std.specs.Cmp.Lexicographic.{bytes_decides, pointwise_decides}
-use Rattle.std.proofs.Common.{ap}
+use Rattle.std.proofs.Common.{ap, inl, inr}
+use Rattle.buck_label.specs.Labels.{Name, IsLabelIn, IsSomeLabel}
+use Rattle.target_file.specs.Same.{both, pair, same_texts, texts_decide, same_action, action_decides}
 use Rattle.target_file.specs.Targets.{Target, Located, same_target, same_located, same_file}
 
-both : (a b : Bool) → (a && b) ≡ true → (a ≡ true) × (b ≡ true)
-both true b h = (refl, h)
-both false b h = cc
-
-pair : (a b : Bool) → a ≡ true → b ≡ true → (a && b) ≡ true
-pair true b h k = k
-pair false b h k = h
-
-target_is : (x y : Target) → x.name ≡ y.name → x.out ≡ y.out → x.content ≡ y.content → x ≡ y
-target_is x y e f g = λ i. record { name = e i; out = f i; content = g i }
+target_is : (x y : Target) → x.name ≡ y.name → x.visibility ≡ y.visibility → x.labels ≡ y.labels → x.action ≡ y.action → x ≡ y
+target_is x y e f g h = λ i. record { name = e i; visibility = f i; labels = g i; action = h i }
 
 located_is : (x y : Located) → x.line ≡ y.line → x.target ≡ y.target → x ≡ y
 located_is x y e f = λ i. record { line = e i; target = f i }
@@ -24,11 +18,13 @@ located_is x y e f = λ i. record { line = e i; target = f i }
 pub target_decides : (x y : Target) → Decides (same_target x y) (x ≡ y)
 target_decides x y = (
   λ h.
-      let a = both (bytes_eq x.name y.name) (bytes_eq x.out y.out && bytes_eq x.content y.content) h in
-      let b = both (bytes_eq x.out y.out) (bytes_eq x.content y.content) a.1 in
-      target_is x y ((bytes_decides x.name y.name).0 a.0) ((bytes_decides x.out y.out).0 b.0) ((bytes_decides x.content y.content).0 b.1),
-  λ e. pair (bytes_eq x.name y.name) (bytes_eq x.out y.out && bytes_eq x.content y.content) ((bytes_decides x.name y.name).1 (ap (λ (t : Target). t.name) e))
-      (pair (bytes_eq x.out y.out) (bytes_eq x.content y.content) ((bytes_decides x.out y.out).1 (ap (λ (t : Target). t.out) e)) ((bytes_decides x.content y.content).1 (ap (λ (t : Target). t.content) e))),
+      let a = both (bytes_eq x.name y.name && same_texts x.visibility y.visibility) (same_texts x.labels y.labels && same_action x.action y.action) h in
+      let b = both (bytes_eq x.name y.name) (same_texts x.visibility y.visibility) a.0 in
+      let c = both (same_texts x.labels y.labels) (same_action x.action y.action) a.1 in
+      target_is x y ((bytes_decides x.name y.name).0 b.0) ((texts_decide x.visibility y.visibility).0 b.1) ((texts_decide x.labels y.labels).0 c.0) ((action_decides x.action y.action).0 c.1),
+  λ e. pair (bytes_eq x.name y.name && same_texts x.visibility y.visibility) (same_texts x.labels y.labels && same_action x.action y.action)
+      (pair (bytes_eq x.name y.name) (same_texts x.visibility y.visibility) ((bytes_decides x.name y.name).1 (ap (λ (t : Target). t.name) e)) ((texts_decide x.visibility y.visibility).1 (ap (λ (t : Target). t.visibility) e)))
+      (pair (same_texts x.labels y.labels) (same_action x.action y.action) ((texts_decide x.labels y.labels).1 (ap (λ (t : Target). t.labels) e)) ((action_decides x.action y.action).1 (ap (λ (t : Target). t.action) e))),
 )
 
 pub located_decides : (x y : Located) → Decides (same_located x y) (x ≡ y)
@@ -57,3 +53,8 @@ same_targets x y h = (target_decides x y).0 h
 
 pub same_files : (x y : List Located) → same_file x y ≡ true → x ≡ y
 same_files x y h = (file_decides x y).0 h
+
+-- a label as written names a target in every package
+pub label_in : (home text : List ℕ) → IsSomeLabel text → (n : Name) × IsLabelIn home text n
+label_in home text (n, inl l) = (n, inl l)
+label_in home text (n, inr l) = (record { home = home; target = n.target }, inr (record { text_is = l.text_is; home_is = refl; target = l.target }))

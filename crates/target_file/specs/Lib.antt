@@ -1,7 +1,10 @@
 pub mod Tokens
 pub mod Table
+pub mod Strings
 pub mod Calls
 pub mod Files
+pub mod SameSources
+pub mod Same
 pub mod Targets
 pub mod Laws
 pub mod Meaning

@@ -2,7 +2,9 @@
 use Rattle.std.specs.Prelude.{◌+◌, ℕ, Bool, if◌then◌else◌, List, [], ◌∷◌, Option, Some, None}
 use Rattle.std.specs.List.{list_any}
 use Rattle.std.specs.Str.{bytes_eq}
-use Rattle.std.specs.HashMap.{get_by}
+use Rattle.std.specs.BTreeMap.{get_by}
+use Rattle.std.specs.Ordering.{nat_cmp}
+use Rattle.std.specs.Cmp.Lexicographic.{slice_cmp}
 use Rattle.target_file.specs.Calls.{Value, Argument, Call}
 use Rattle.target_file.specs.Files.{name_in, names_in}
 use Rattle.target_file.specs.declared.table.Attribute.{Attribute}
@@ -10,7 +12,7 @@ use Rattle.target_file.specs.declared.names.Names.{Names}
 
 -- the number that the table has for a name
 abbrev pub number_of : Names → List ℕ → Option ℕ
-number_of n q = get_by (λ k. bytes_eq q k.items) n.places
+number_of n q = get_by (λ k. slice_cmp nat_cmp q k.items) n.places
 
 -- whether the argument, or one of them, gives this name
 abbrev pub gives_name : List ℕ → Attribute → Value → Bool

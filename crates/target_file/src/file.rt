@@ -20,7 +20,7 @@ use std::marker::Model;
 use std::sync::Arc;
 
 /// A target, with the line of its rule's name (1 for the first line).
-#[derive(Debug, Drop)]
+#[derive(Drop)]
 pub struct Located {
     pub line: u64,
     pub target: Arc<Target>,
@@ -57,7 +57,7 @@ impl File {
         self.targets.as_slice()
     }
 
-    /// The target of this name, found by its hash.
+    /// The target of this name, in logarithmic time.
     pub fn target(&self, name: &[u8]) -> Option<&Arc<Target>>
         ensures { option_map (λ t. arc_value t.now) result ≡ target_named name.now self.now }
     {

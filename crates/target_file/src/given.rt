@@ -8,6 +8,7 @@ ghost use Rattle.target_file.specs.Machine.{HasItem};
 ghost use Rattle.target_file.specs.Seen.{arguments_of};
 
 use crate::call::Argument;
+use crate::strings::{is_command, is_source};
 use crate::table::{Attribute, Form, Rule, form_of, needed};
 use buck_label::is_path;
 
@@ -42,22 +43,25 @@ pub fn may_be(rule: Rule, attribute: Attribute, text: &[u8]) -> bool
     match form_of(rule, attribute) {
         Some(Form::Path) => is_path(text),
         Some(Form::Text) => true,
-        None => false,
+        Some(Form::Command) => is_command(text),
+        _ => false,
     }
 }
 
-/// Whether an attribute of this form takes a list: none does yet.
+/// Whether an attribute of this form takes a list.
 pub fn is_list(form: Option<Form>) -> bool
     ensures { (result ≡ true) ↔ Belongs form (Many []) }
 {
-    match form {
-        None | Some(Form::Path) | Some(Form::Text) => false,
-    }
+    matches!(form, Some(Form::Sources) | Some(Form::Texts))
 }
 
-/// Whether the string may stand in the attribute's list: no attribute takes one yet.
-pub fn may_hold(rule: Rule, attribute: Attribute, _text: &[u8]) -> bool
-    ensures { (result ≡ true) ↔ HasItem (form_of rule attribute) _text.now }
+/// Whether the string may stand in the attribute's list.
+pub fn may_hold(rule: Rule, attribute: Attribute, text: &[u8]) -> bool
+    ensures { (result ≡ true) ↔ HasItem (form_of rule attribute) text.now }
 {
-    is_list(form_of(rule, attribute))
+    match form_of(rule, attribute) {
+        Some(Form::Sources) => is_source(text),
+        Some(Form::Texts) => true,
+        _ => false,
+    }
 }

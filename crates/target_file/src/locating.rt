@@ -19,7 +19,7 @@ fn locate(alloc: Global, call: Call) -> Result<Located, NoMemory>
     ensures { IfOk result (λ l. located_of l ≡ located (call_of call)) }
 {
     let line = call.line;
-    let target = Arc::new(alloc, Target::of(alloc, call.arguments)?)?;
+    let target = Arc::new(alloc, Target::of(alloc, &call)?)?;
     Ok(Located { line, target })
 }
 

@@ -7,12 +7,13 @@ ghost use Rattle.target_file.specs.Calls.{One};
 use crate::fault::NoMemory;
 use crate::table::Attribute;
 use std::alloc::Global;
-use std::collections::HashMap;
+use std::collections::BTreeMap;
 
-/// Names, each with the number of its call.
+/// Names, each with the number of its call. A look-up takes logarithmic time, whatever the names are: an ordered
+/// map, since whoever writes a file picks its names.
 #[derive(Drop)]
 pub struct Names {
-    pub places: HashMap<Vec<u8>, usize>,
+    pub places: BTreeMap<Vec<u8>, usize>,
 }
 
 impl Names {
@@ -21,7 +22,7 @@ impl Names {
         ensures { (q : List ℕ) → number_of result q ≡ None }
     {
         Names {
-            places: HashMap::new(alloc),
+            places: BTreeMap::new(alloc),
         }
     }
 
@@ -54,7 +55,7 @@ impl Names {
     {
         match attribute {
             Attribute::Name => self.add(Vec::from_slice(alloc, text)?, number),
-            Attribute::Out | Attribute::Content => Ok(()),
+            _ => Ok(()),
         }
     }
 }

@@ -8,12 +8,12 @@ use Rattle.dice_run.proofs.run_of.answer.Goals as goal
 
 pub returns-in_ok-bytes-in-Err-TooLong-clause-refused :
     goal.returns-in_ok-bytes-in-Err-TooLong-clause-refused
-returns-in_ok-bytes-in-Err-TooLong-clause-refused c _ =
+returns-in_ok-bytes-in-Err-TooLong-clause-refused g c _ =
     let e : c.bytes.new.out.items ≡ line (codes "script too long") = search rules in
     subst (Refuses c.args.bytes.now) (sym e) (too_long (subst (λ (x : ScriptRefusal). IsRead c.args.bytes.now (Err x)) c.in-Err-TooLong.field-0-is c.in-Err-TooLong.ensures))
 
 pub returns-in_ok-bytes-in-Err-Fault-4-clause-refused :
     goal.returns-in_ok-bytes-in-Err-Fault-4-clause-refused
-returns-in_ok-bytes-in-Err-Fault-4-clause-refused c _ =
+returns-in_ok-bytes-in-Err-Fault-4-clause-refused g c _ =
     let e : c.bytes-in-Err-Fault-4.new.out.items ≡ line (codes "line " ++ decimal c.in-Err-Fault.line ++ codes ": " ++ text_of c.in-Err-Fault.word) = search rules in
     subst (Refuses c.args.bytes.now) (sym e) (faulty c.in-Err-Fault.line c.in-Err-Fault.word (subst (λ (x : ScriptRefusal). IsRead c.args.bytes.now (Err x)) c.in-Err-Fault.field-0-is c.in-Err-Fault.ensures))

@@ -1,0 +1,7 @@
+use Rattle.std.proofs.Common.{◌≡◌, ◌++◌, map, take}
+use Rattle.std.specs.Arc.{arc_value}
+use Rattle.action_digest.specs.Written.{key_in}
+use Rattle.action_digest.proofs.asked.push_sources.Given as goal
+
+abbrev pub invariant-loop-source : goal.invariant-loop-source
+invariant-loop-source l = map arc_value l.keys.items ≡ map arc_value l.initial.keys.items ++ map (key_in l.home) (take l.source-index l.sources)

@@ -1,0 +1,61 @@
+//! Labels as they are written.
+ghost use Rattle.std.specs.Prelude.{◌≡◌, IfOk, nat_eq};
+ghost use Rattle.std.specs.Cmp.Lexicographic.{pointwise, nat_list_eq_equiv};
+ghost use Rattle.std.specs.Cmp.{partial_equiv_from_equiv};
+ghost use Rattle.buck_label.specs.Labels.{IsSomeLabel};
+
+use crate::fault::NoMemory;
+use buck_label::Text;
+use std::alloc::Global;
+use std::marker::Model;
+
+/// A label as it stands in a target file: absolute, or `:NAME` of the file's own package. Which label that is
+/// says `buck_label::Label::read_in` with the package, which never refuses it. A contract sees the bytes.
+#[derive(Drop)]
+pub struct LabelText {
+    text: Text,
+}
+
+impl Model for LabelText {
+    ghost use Rattle.std.specs.Prelude.{List, ℕ};
+    ghost use Rattle.buck_label.specs.Labels.{IsSomeLabel};
+
+    ghost Value = { List ℕ };
+
+    ghost view = { λ l. l.text };
+
+    ghost invariant = { λ l. IsSomeLabel l.text };
+}
+
+impl LabelText {
+    /// The label of these bytes.
+    pub(crate) fn of(alloc: Global, bytes: &[u8]) -> Result<LabelText, NoMemory>
+        requires { IsSomeLabel bytes.now }
+        ensures { IfOk result (λ l. l ≡ bytes.now) }
+    {
+        let text = Text::from_slice(alloc, bytes)?;
+        Ok(LabelText { text })
+    }
+
+    /// Its bytes, as written.
+    pub fn as_bytes(&self) -> &[u8]
+        ensures text { result.now ≡ self.now }
+        ensures label { IsSomeLabel self.now }
+    {
+        self.text.as_bytes()
+    }
+}
+
+impl PartialEq for LabelText {
+    ghost eq = { pointwise nat_eq };
+
+    ghost laws = { partial_equiv_from_equiv nat_list_eq_equiv };
+
+    fn eq(&self, other: &LabelText) -> bool {
+        self.text == other.text
+    }
+}
+
+impl Eq for LabelText {
+    ghost laws = { nat_list_eq_equiv };
+}
