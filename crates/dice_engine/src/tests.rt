@@ -95,21 +95,39 @@ const WRONG: [(Place, u64); 2] = [(Place::Cell(1), 2), (Place::Clock, 3)];
 
 const DOUBLE: [(Place, u64); 2] = [(Place::Cell(1), 2), (Place::Cell(1), 3)];
 
+const OTHER: [(Place, u64); 2] = [(Place::Cell(1), 2), (Place::Cell(2), 4)];
+
+const ROWS: [([(Place, u64); 2], Made); 5] = [
+    (CELLS, Made::Version(1)),
+    (CELLS, Made::Version(1)),
+    (WRONG, Made::NotInjected(Place::Clock)),
+    (DOUBLE, Made::Twice(Place::Cell(1))),
+    (OTHER, Made::Version(2)),
+];
+
+/// Whether each commit in turn comes to what is wanted.
+fn all_as_wanted<R: Wait>(
+    rt: &R,
+    alloc: Global,
+    engine: &Engine<Tiny>,
+    seat: &mut Seat<Tiny>,
+) -> Result<bool, NoMemory>
+    requires { IsSeatOf engine.now seat.old × IsWriter seat.old }
+{
+    for (changes, want) in &ROWS {
+        if commit(rt, alloc, engine, seat, changes)? != *want {
+            return Ok(false);
+        }
+    }
+    Ok(true)
+}
+
 #[test]
 fn only_values_that_differ_make_a_version(rt: HostRuntime) -> Result<(), Fail> {
     let alloc = rt.alloc();
     let (engine, mut seat) = start(&rt, alloc, 1)?;
-    let rows = [
-        (CELLS, Made::Version(1)),
-        (CELLS, Made::Version(1)),
-        (WRONG, Made::NotInjected(Place::Clock)),
-        (DOUBLE, Made::Twice(Place::Cell(1))),
-        ([(Place::Cell(1), 2), (Place::Cell(2), 4)], Made::Version(2)),
-    ];
-    for (changes, want) in rows {
-        let made = commit(&rt, alloc, &engine, &mut seat, &changes)?;
-        assert_eq!(rt; made, want);
-    }
+    let all = all_as_wanted(&rt, alloc, &engine, &mut seat)?;
+    assert!(rt; all);
     Ok(())
 }
 

@@ -97,9 +97,7 @@ impl<U: Universe> Engine<U> {
 }
 
 /// What a promise has come to, where it is not pending.
-fn settled<U: Universe>(
-    answer: Result<Answer<U>, NoMemory>,
-) -> Option<Result<Settled<U>, NoMemory>>
+fn settled<U: Universe>(answer: Result<Answer<U>, NoMemory>) -> Option<Result<Settled<U>, NoMemory>>
     ensures { IfSome result (λ s. settled_of s ≡ reply_of answer) }
 {
     match answer {
