@@ -172,3 +172,11 @@ module _ {K V : Type 0} (eq : K → K → Bool) (m : Meaning K V) (J : List (Tol
   exact_cycle (TheValue x) h live computed e = absurd (by_cycle computed e h.1)
   exact_cycle (TheCycle p) h live computed e = inl (p, refl)
   exact_cycle NoRoom h live computed e = inr refl
+
+module _ {K V : Type 0} (eq : K → K → Bool) (m : Meaning K V) where
+  -- turns in which the seat adds no event of its own
+  pub open_after_work : (s u : SeatView (Told K V)) (t v : ℕ) → Later eq m s u × (u.mine ≡ s.mine) → HasOpen s t v → HasOpen u t v
+  open_after_work s u t v l h = open_later s u t v (same_number eq m s u l.0) l.0.begins (subst (NotClosed t) (sym l.1) h.not_closed) h
+
+  pub saw_after : (s u : SeatView (Told K V)) (i t v : ℕ) (k : K) → Later eq m s u → SawAsk s i t v k → SawAsk u i t v k
+  saw_after s u i t v k l h = saw_later s u i t v k l.begins h

@@ -271,6 +271,7 @@ module _ {K V : Type 0} where
       as_opened : Told K V → Opened
       as_opened (Open a b) = record { by = a; version = b }
       as_opened _ = record { by = by; version = v }
+
       by_index : (b : Bool) → cond b (Some (Open c w)) (back_get R i) ≡ Some (Open by v) → (back_get R i ≡ Some (Open by v) → open_at R i ≡ Some (record { by = by; version = v })) → cond b (Some (record { by = c; version = w })) (open_at R i) ≡ Some (record { by = by; version = v })
       by_index true q again = ap (λ e. Some (as_opened e)) (same_Some (Open c w) (Open by v) q)
       by_index false q again = again q
@@ -293,6 +294,7 @@ module _ {K V : Type 0} where
       as_asking : Told K V → Asking K
       as_asking (Ask a b x) = record { by = a; opened = b; key = x }
       as_asking _ = record { by = by; opened = t; key = k }
+
       by_index : (b : Bool) → cond b (Some (Ask d u q)) (back_get R i) ≡ Some (Ask by t k) → (back_get R i ≡ Some (Ask by t k) → live_at R i ≡ Some (record { by = by; opened = t; key = k })) → cond b (Some (record { by = d; opened = u; key = q })) (live_at R i) ≡ Some (record { by = by; opened = t; key = k })
       by_index true p again = ap (λ e. Some (as_asking e)) (same_Some (Ask d u q) (Ask by t k) p)
       by_index false p again = again p
@@ -345,6 +347,7 @@ module _ {K V : Type 0} (eq : K → K → Bool) (m : Meaning K V) where
       on_close : ℕ → Told K V → ℕ
       on_close d (Close b x) = x
       on_close d _ = d
+
       at_close : (b : Bool) → b ≡ true → cond b None (open_at R i) ≡ Some o → ⊥
       at_close true t e = none-some o e
       at_close false t e = cc
