@@ -1,5 +1,5 @@
 -- What a call of the core adds to the journal.
-use Rattle.std.proofs.Common.{◌≡◌, ◌<◌, ◌⊎◌, inl, inr, ℕ, ◌+◌, Bool, true, false, not, cond, List, [], ◌∷◌, ◌++◌, length, map, filter, Option, Some, None, refl, sym, ap, ◌∙◌, subst, append_assoc, append-nil}
+use Rattle.std.proofs.Common.{◌≡◌, ℕ, Bool, true, false, not, List, [], ◌∷◌, ◌++◌, map, filter, Option, Some, None, refl, sym, ap, ◌∙◌, subst, append-nil}
 use Rattle.std.specs.Prelude.{reverse, is_some, Result, Ok, Err, IfOk, OnOk, OnErr, IfSome, IfNone}
 use Rattle.std.specs.List.{AllByRecursion}
 use Rattle.dice_key.specs.Meaning.{Meaning}
@@ -9,14 +9,12 @@ use Rattle.journal.specs.declared.event.Told.{Told}
 use Rattle.journal.specs.declared.event.Told.TheVariants.{Commit, Open, Close, Ask, Leave, Start, Keep, End, Cyclic, Drop, Lost}
 use Rattle.journal.specs.Events.{Opened, Asking, open_at, live_at}
 use Rattle.journal.specs.Law.{IsLawfulJournal}
-use Rattle.journal.specs.Tell.{event_by}
 use Rattle.dice_core.specs.Commits.{differing_of, event_of}
-use Rattle.dice_steps.specs.Cells.{CellsStand}
 use Rattle.dice_core.specs.Cores.{IsWorkAt}
 use Rattle.dice_core.specs.Joinings.{IsToldOfMake}
 use Rattle.dice_tasks.specs.Makings.{IsOfMake}
-use Rattle.dice_engine.specs.Turns.{log_of, newest_in, AreBy, AreOfTasks, WorksOn, Adds}
-use Rattle.dice_engine.specs.Calls.{AddsNothing, AreDrops, Opens, Closes, Asks, Leaves, differs_from, differing_from, Commits}
+use Rattle.dice_engine.specs.Turns.{log_of, newest_in, AreBy, WorksOn, Adds}
+use Rattle.dice_engine.specs.Calls.{AddsNothing, Opens, Closes, Asks, Leaves, differing_from, Commits}
 
 module _ {K : Type 0} (V : Type 0) where
   pub are_dropped : (v : ℕ) (ks : List K) → AllByRecursion (IsWorkAt {V = V} v) (map (Drop v) ks)

@@ -1,5 +1,5 @@
 -- What the core has come to, and what is answered, is true of the journal.
-use Rattle.std.proofs.Common.{◌≡◌, ◌≢◌, ◌<◌, ◌⊎◌, inl, inr, ℕ, zero, suc, Bool, true, false, cond, nat_eq, eqb, List, [], ◌∷◌, length, Option, Some, None, refl, sym, ap, ◌∙◌, subst, arith}
+use Rattle.std.proofs.Common.{◌≡◌, ◌≢◌, ◌<◌, ◌⊎◌, inl, inr, ℕ, zero, suc, Bool, true, cond, eqb, List, [], ◌∷◌, length, Option, Some, None, refl, sym, ap, ◌∙◌, subst, arith}
 use Rattle.std.specs.Prelude.{reverse, is_some}
 use Rattle.std.proofs.lemmas.Bool.{ne_eqb, eq-eqb}
 use Rattle.dice_key.specs.Meaning.{Meaning}
@@ -7,13 +7,13 @@ use Rattle.dice_key.specs.declared.universe.Kind.{Kind}
 use Rattle.dice_key.specs.declared.universe.Kind.TheVariants.{Injected, Computed, Projection}
 use Rattle.dice_model.specs.Eval.{HasValue}
 use Rattle.journal.specs.declared.event.Told.{Told}
-use Rattle.journal.specs.Events.{Opened, Asking, Decision, ByValue, ByCycle, is_for, decided, open_at, opened_at, live_at, open_count}
+use Rattle.journal.specs.Events.{Opened, Asking, ByValue, ByCycle, is_for, decided, open_at, opened_at, live_at, open_count}
 use Rattle.journal.specs.Law.{IsLawfulJournal}
 use Rattle.core_laws.proofs.Indices.{live_opened, opened_counts}
 use Rattle.core_laws.specs.Stands.{CycleStands, lost_in_epoch}
 use Rattle.dice_core.specs.Cores.{Came, ToValue, ToCycle, ToNothing, Pending, Absent, decision_of, injected_to}
 use Rattle.dice_engine.specs.Turns.{log_of}
-use Rattle.dice_engine.specs.Replies.{Reply, NotLive, NotYet, TheValue, TheCycle, NoRoom, Tells, IsLiveIn, IsBusy, IsValued, MayRefuse, IsReply}
+use Rattle.dice_engine.specs.Replies.{Reply, TheCycle, NoRoom, Tells, IsLiveIn, IsValued, MayRefuse, IsReply}
 
 no_length : {X : Type 0} (xs : List X) → length xs ≡ 0 → xs ≡ []
 no_length [] e = refl

@@ -1,5 +1,5 @@
 -- What a turn of a seat comes to. Of the events that it adds one at most tells a number, that of the seat; all others are of tasks.
-use Rattle.std.specs.Prelude.{◌≡◌, ◌<◌, ◌≤◌, ℕ, ◌+◌, List, [], ◌∷◌, ◌++◌, Bool, length, reverse, Some}
+use Rattle.std.specs.Prelude.{◌≡◌, ◌<◌, ◌≤◌, ℕ, ◌+◌, List, [], ◌++◌, Bool, length, reverse, Some}
 use Rattle.std.specs.List.{AllByRecursion}
 use Rattle.dice_key.specs.Meaning.{Meaning}
 use Rattle.journal.specs.declared.event.Told.{Told}

@@ -1,4 +1,3 @@
-use Rattle.std.proofs.Common.{ap}
 use Rattle.dice_engine.proofs.Turned.{later_later}
 use Rattle.dice_engine.proofs.Callers.{seat_later, stands_longer, same_number, same_writers}
 use Rattle.dice_engine.proofs.laws.turns_go_on.Goals as goal

@@ -1,4 +1,4 @@
-use Rattle.std.proofs.Common.{◌≡◌, [], sym, ap, ◌∙◌, append-nil}
+use Rattle.std.proofs.Common.{[], sym, ap, ◌∙◌, append-nil}
 use Rattle.dice_core.specs.Cores.{CoreSeen, events_of}
 use Rattle.dice_core.specs.Givings.{stale_of}
 use Rattle.dice_engine.proofs.Adding.{by_option}

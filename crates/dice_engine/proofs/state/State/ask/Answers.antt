@@ -1,9 +1,7 @@
-use Rattle.std.proofs.Common.{◌≡◌, ◌∷◌, ◌++◌, List, sym, ap, ◌∙◌, subst}
+use Rattle.std.proofs.Common.{◌≡◌, sym, ap, ◌∙◌, subst}
 use Rattle.std.specs.Arc.{arc_value}
-use Rattle.std.specs.Prelude.{reverse}
 use Rattle.std.proofs.lemmas.Option.{same_Some}
-use Rattle.journal.specs.Events.{Opened, open_at}
-use Rattle.dice_core.specs.Cores.{events_of}
+use Rattle.journal.specs.Events.{Opened}
 use Rattle.dice_core.specs.Joinings.{IsToldOfMake}
 use Rattle.dice_engine.proofs.Adding.{nothing, asks, always_err}
 use Rattle.dice_engine.proofs.state.State.ask.Goals as goal

@@ -1,4 +1,4 @@
-use Rattle.std.proofs.Common.{◌≡◌, ◌++◌, sym, ap, ◌∙◌, subst}
+use Rattle.std.proofs.Common.{◌++◌, sym, ap, ◌∙◌, subst}
 use Rattle.std.specs.Map.{keys_of}
 use Rattle.dice_core.specs.Commits.{IsFirstFault, differing_of, event_of}
 use Rattle.dice_core.specs.Cores.{events_of, past_of}

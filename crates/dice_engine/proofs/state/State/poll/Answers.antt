@@ -1,7 +1,6 @@
-use Rattle.std.proofs.Common.{◌≡◌, ◌<◌, sym, refl, ap, ◌∙◌, subst}
+use Rattle.std.proofs.Common.{◌<◌, sym, refl, ◌∙◌, subst}
 use Rattle.std.specs.Arc.{arc_value}
 use Rattle.injected.specs.Seen.{cell_at}
-use Rattle.dice_key.specs.declared.universe.Kind.TheVariants.{Injected}
 use Rattle.dice_core.specs.Cores.{came_of, events_of, held_to, held_in}
 use Rattle.dice_engine.specs.Replies.{reply_of}
 use Rattle.dice_engine.proofs.Replying.{asking_of, opened_there, some_open, injected_value, told_so}
