@@ -116,3 +116,287 @@ fn commits_of_sources(rt: HostRuntime) -> Result<(), Fail> {
     assert_eq!(rt; first_other_commit(rt.alloc(), &COMMITS)?, None);
     Ok(())
 }
+
+/// What a key has come to.
+#[derive(Clone, Copy, Debug, PartialEq, Eq)]
+enum Seen {
+    Value,
+    NoFile,
+    Cycle,
+    Lost,
+    Pending,
+    Absent,
+}
+
+fn polled(alloc: Global, core: &Core<Buck>, name: Name) -> Result<Seen, NoMemory> {
+    let key = key(alloc, name)?;
+    Ok(match core.poll(core.newest(), &key) {
+        Polled::Value(value) => match **value {
+            Value::Source(None) => Seen::NoFile,
+            _ => Seen::Value,
+        },
+        Polled::Cycle(_) => Seen::Cycle,
+        Polled::Lost => Seen::Lost,
+        Polled::Pending => Seen::Pending,
+        Polled::Absent => Seen::Absent,
+    })
+}
+
+/// A call on the core, with the transaction, the ask, the job and the step that came last; and what it answers, yes or no.
+#[derive(Clone, Copy)]
+enum Call {
+    /// The target file is set; yes.
+    Commit,
+    /// Yes.
+    Open,
+    /// Yes.
+    Ask(Name),
+    /// Yes.
+    Leave,
+    /// Whether there is a job.
+    Take,
+    /// Whether the job is handed back.
+    Back,
+    /// Whether a job of the name that was taken last is out.
+    Fail,
+    /// The job makes a step; yes.
+    Advance,
+    /// Whether the step is stale and is handed back.
+    Give,
+}
+
+/// A call and what it answers, then a key and what it has come to at the newest version, and the tasks that are ready and out.
+type Row = (Call, bool, Name, Seen, u64, u64);
+
+/// Asks for a key, where the transaction is open.
+fn ask(alloc: Global, core: &mut Core<Buck>, tx: u64, name: Name) -> Result<u64, NoMemory> {
+    let key = key(alloc, name)?;
+    if !core.is_open(tx) {
+        return Err(NoMemory);
+    }
+    core.ask(0, tx, key)
+}
+
+/// Leaves an ask, where it stands.
+fn leave(core: &mut Core<Buck>, ask: u64) {
+    if core.stands(ask) {
+        core.leave(ask);
+    }
+}
+
+/// Gives a step; whether it is stale and is handed back as the step of this assignment.
+fn give(
+    core: &mut Core<Buck>,
+    step: Step<Buck>,
+    assignment: &Assignment<Buck>,
+) -> Result<bool, NoMemory> {
+    match core.give(step) {
+        Ok(Gave::Taken) => Ok(false),
+        Ok(Gave::Stale(step)) => Ok(step.is_of(assignment)),
+        Err(_) => Err(NoMemory),
+    }
+}
+
+/// The job that was taken last, its step, and what they are for.
+#[derive(Drop)]
+struct Work {
+    job: Option<Job<Buck>>,
+    step: Option<Step<Buck>>,
+    assignment: Option<Assignment<Buck>>,
+}
+
+impl Work {
+    fn new() -> Work {
+        Work {
+            job: None,
+            step: None,
+            assignment: None,
+        }
+    }
+
+    fn take(&mut self, core: &mut Core<Buck>) -> Result<bool, NoMemory> {
+        let Some(job) = core.take_job() else {
+            return Ok(false);
+        };
+        self.assignment = Some(job.assignment().try_clone()?);
+        self.job = Some(job);
+        Ok(true)
+    }
+
+    fn back(&mut self, core: &mut Core<Buck>) -> bool {
+        let Some(job) = self.job.take() else {
+            return false;
+        };
+        self.job = core.back(job);
+        self.job.is_some()
+    }
+
+    fn fail(&mut self, core: &mut Core<Buck>) -> bool {
+        match &self.assignment {
+            Some(assignment) => core.fail(assignment.name()),
+            None => false,
+        }
+    }
+
+    fn advance(&mut self, universe: &Buck) -> Result<bool, NoMemory> {
+        let Some(job) = self.job.take() else {
+            return Ok(false);
+        };
+        self.step = Some(job.advance(universe).map_err(|_| NoMemory)?);
+        Ok(true)
+    }
+
+    fn give(&mut self, core: &mut Core<Buck>) -> Result<bool, NoMemory> {
+        match (self.step.take(), &self.assignment) {
+            (Some(step), Some(assignment)) => give(core, step, assignment),
+            _ => Ok(false),
+        }
+    }
+}
+
+/// A core, and the transaction, the ask and the work that came last.
+#[derive(Drop)]
+struct Bench {
+    alloc: Global,
+    universe: Buck,
+    core: Core<Buck>,
+    tx: u64,
+    ask: u64,
+    work: Work,
+}
+
+impl Bench {
+    fn new(alloc: Global) -> Result<Bench, NoMemory> {
+        Ok(Bench {
+            alloc,
+            universe: Buck::new(alloc)?,
+            core: new_core(alloc)?,
+            tx: 0,
+            ask: 0,
+            work: Work::new(),
+        })
+    }
+
+    fn commit(&mut self) -> Result<bool, NoMemory> {
+        let changes = changes(self.alloc, Name::File, 1)?;
+        Ok(self.core.commit(0, &changes).is_ok())
+    }
+
+    /// Carries out a call on what is open, or a commit.
+    fn asked(&mut self, call: Call) -> Result<bool, NoMemory> {
+        match call {
+            Call::Commit => return self.commit(),
+            Call::Open => self.tx = self.core.open(0)?,
+            Call::Ask(name) => self.ask = ask(self.alloc, &mut self.core, self.tx, name)?,
+            Call::Leave => leave(&mut self.core, self.ask),
+            _ => return Ok(false),
+        }
+        Ok(true)
+    }
+
+    /// Carries out a call.
+    fn answer(&mut self, call: Call) -> Result<bool, NoMemory> {
+        match call {
+            Call::Take => self.work.take(&mut self.core),
+            Call::Back => Ok(self.work.back(&mut self.core)),
+            Call::Fail => Ok(self.work.fail(&mut self.core)),
+            Call::Advance => self.work.advance(&self.universe),
+            Call::Give => self.work.give(&mut self.core),
+            _ => self.asked(call),
+        }
+    }
+
+    /// Carries out the call of a row; whether it answers, and all stands then, as the row says.
+    fn agrees(&mut self, row: &Row) -> Result<bool, NoMemory> {
+        let (call, answer, name, seen, ready, out) = *row;
+        let told = self.answer(call)?;
+        let left = polled(self.alloc, &self.core, name)?;
+        Ok(told == answer && left == seen && self.core.ready() == ready && self.core.out() == out)
+    }
+}
+
+/// Carries out the calls of these rows on a new core; the number of the first row that says otherwise.
+fn first_other(alloc: Global, rows: &[Row]) -> Result<Option<usize>, NoMemory> {
+    let mut bench = Bench::new(alloc)?;
+    for i in 0..rows.len() {
+        if !bench.agrees(&rows[i])? {
+            return Ok(Some(i));
+        }
+    }
+    Ok(None)
+}
+
+const DIGEST: Name = Name::Digest;
+
+/// A step of an ask that was left.
+const STALE: [Row; 9] = [
+    (Call::Commit, true, DIGEST, Seen::Absent, 0, 0),
+    (Call::Open, true, DIGEST, Seen::Absent, 0, 0),
+    (Call::Ask(DIGEST), true, DIGEST, Seen::Pending, 1, 0),
+    (Call::Take, true, DIGEST, Seen::Pending, 0, 1),
+    (Call::Advance, true, DIGEST, Seen::Pending, 0, 1),
+    (Call::Leave, true, DIGEST, Seen::Absent, 0, 0),
+    (Call::Give, true, DIGEST, Seen::Absent, 0, 0),
+    (Call::Take, false, DIGEST, Seen::Absent, 0, 0),
+    (Call::Fail, false, DIGEST, Seen::Absent, 0, 0),
+];
+
+/// A job that is brought back, and one whose ask was left.
+const BACK: [Row; 8] = [
+    (Call::Commit, true, DIGEST, Seen::Absent, 0, 0),
+    (Call::Open, true, DIGEST, Seen::Absent, 0, 0),
+    (Call::Ask(DIGEST), true, DIGEST, Seen::Pending, 1, 0),
+    (Call::Take, true, DIGEST, Seen::Pending, 0, 1),
+    (Call::Back, false, DIGEST, Seen::Pending, 1, 0),
+    (Call::Take, true, DIGEST, Seen::Pending, 0, 1),
+    (Call::Leave, true, DIGEST, Seen::Absent, 0, 0),
+    (Call::Back, true, DIGEST, Seen::Absent, 0, 0),
+];
+
+/// A source that was never set has a value without a job.
+const UNSET: [Row; 3] = [
+    (Call::Open, true, Name::Unset, Seen::NoFile, 0, 0),
+    (
+        Call::Ask(Name::Unset),
+        true,
+        Name::Unset,
+        Seen::NoFile,
+        0,
+        0,
+    ),
+    (Call::Take, false, Name::Unset, Seen::NoFile, 0, 0),
+];
+
+/// A task that was given up is made anew by the next ask.
+const LOST: [Row; 6] = [
+    (Call::Commit, true, DIGEST, Seen::Absent, 0, 0),
+    (Call::Open, true, DIGEST, Seen::Absent, 0, 0),
+    (Call::Ask(DIGEST), true, DIGEST, Seen::Pending, 1, 0),
+    (Call::Take, true, DIGEST, Seen::Pending, 0, 1),
+    (Call::Fail, true, DIGEST, Seen::Lost, 0, 0),
+    (Call::Ask(DIGEST), true, DIGEST, Seen::Pending, 1, 0),
+];
+
+#[test]
+fn a_step_of_an_ask_that_was_left_is_stale(rt: HostRuntime) -> Result<(), Fail> {
+    assert_eq!(rt; first_other(rt.alloc(), &STALE)?, None);
+    Ok(())
+}
+
+#[test]
+fn a_job_is_brought_back_while_it_is_out(rt: HostRuntime) -> Result<(), Fail> {
+    assert_eq!(rt; first_other(rt.alloc(), &BACK)?, None);
+    Ok(())
+}
+
+#[test]
+fn a_source_that_was_never_set_has_no_file(rt: HostRuntime) -> Result<(), Fail> {
+    assert_eq!(rt; first_other(rt.alloc(), &UNSET)?, None);
+    Ok(())
+}
+
+#[test]
+fn a_task_that_was_given_up_is_made_anew(rt: HostRuntime) -> Result<(), Fail> {
+    assert_eq!(rt; first_other(rt.alloc(), &LOST)?, None);
+    Ok(())
+}
