@@ -313,17 +313,22 @@ impl Bench {
         let left = polled(self.alloc, &self.core, name)?;
         Ok(told == answer && left == seen && self.core.ready() == ready && self.core.out() == out)
     }
+
+    /// Carries out the calls of these rows; the number of the first row that says otherwise.
+    fn first_other(&mut self, rows: &[Row]) -> Result<Option<usize>, NoMemory> {
+        for i in 0..rows.len() {
+            if !self.agrees(&rows[i])? {
+                return Ok(Some(i));
+            }
+        }
+        Ok(None)
+    }
 }
 
 /// Carries out the calls of these rows on a new core; the number of the first row that says otherwise.
 fn first_other(alloc: Global, rows: &[Row]) -> Result<Option<usize>, NoMemory> {
     let mut bench = Bench::new(alloc)?;
-    for i in 0..rows.len() {
-        if !bench.agrees(&rows[i])? {
-            return Ok(Some(i));
-        }
-    }
-    Ok(None)
+    bench.first_other(rows)
 }
 
 const DIGEST: Name = Name::Digest;
