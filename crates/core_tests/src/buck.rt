@@ -4,6 +4,7 @@ use buck_label::{Label, Path, Text};
 use dice_core::{CommitRefusal, Core, Gave, Job, Polled, Step};
 use dice_jobs::Assignment;
 use dice_key::NoMemory;
+use journal::Event;
 use std::alloc::Global;
 use std::sync::Arc;
 use std::test::Fail;
@@ -403,5 +404,105 @@ fn a_source_that_was_never_set_has_no_file(rt: HostRuntime) -> Result<(), Fail> 
 #[test]
 fn a_task_that_was_given_up_is_made_anew(rt: HostRuntime) -> Result<(), Fail> {
     assert_eq!(rt; first_other(rt.alloc(), &LOST)?, None);
+    Ok(())
+}
+
+/// How many tasks were given up.
+fn lost_events(core: &Core<Buck>) -> usize {
+    let journal = core.journal();
+    let mut lost = 0usize;
+    for i in 0..journal.len() {
+        if let Event::Lost(_, _) = journal.event(i) {
+            lost = lost.saturating_add(1);
+        }
+    }
+    lost
+}
+
+const ASKED: [Call; 3] = [Call::Commit, Call::Open, Call::Ask(DIGEST)];
+
+const FAILED: [Call; 2] = [Call::Take, Call::Fail];
+
+impl Bench {
+    /// Carries out these calls.
+    fn calls(&mut self, calls: &[Call]) -> Result<(), NoMemory> {
+        for call in calls {
+            self.answer(*call)?;
+        }
+        Ok(())
+    }
+
+    /// Takes a job, does it and gives its step; whether there was one.
+    fn step(&mut self) -> Result<bool, NoMemory> {
+        if !self.work.take(&mut self.core)? {
+            return Ok(false);
+        }
+        self.work.advance(&self.universe)?;
+        self.work.give(&mut self.core)?;
+        Ok(true)
+    }
+
+    /// Does jobs one after another, at most so many; how many there were.
+    fn steps(&mut self, most: usize) -> Result<usize, NoMemory> {
+        for done in 0..most {
+            if !self.step()? {
+                return Ok(done);
+            }
+        }
+        Ok(most)
+    }
+
+    /// Asks for the digest and gives up the job behind so many that were done; how many tasks ended as lost.
+    fn lost_behind(&mut self, before: usize) -> Result<usize, NoMemory> {
+        self.calls(&ASKED)?;
+        self.steps(before)?;
+        self.calls(&FAILED)?;
+        Ok(lost_events(&self.core))
+    }
+
+    /// Asks for the digest again and does all jobs; how many there were, and what the digest has come to.
+    fn asked_again(&mut self) -> Result<(usize, Seen), NoMemory> {
+        self.answer(Call::Ask(DIGEST))?;
+        let done = self.steps(20)?;
+        Ok((done, polled(self.alloc, &self.core, DIGEST)?))
+    }
+}
+
+/// So many jobs are done and the next is given up: how many tasks end as lost, and how many jobs then bring the value after a second ask.
+type LostRow = (usize, usize, usize);
+
+const LOSSES: [LostRow; 8] = [
+    (0, 1, 8),
+    (1, 2, 8),
+    (2, 3, 8),
+    (3, 4, 8),
+    (4, 4, 8),
+    (5, 3, 6),
+    (6, 2, 4),
+    (7, 1, 2),
+];
+
+/// Whether all goes as a row says, on a new core.
+fn loss_agrees(alloc: Global, row: &LostRow) -> Result<bool, NoMemory> {
+    let (before, lost, further) = *row;
+    let mut bench = Bench::new(alloc)?;
+    let left = bench.lost_behind(before)?;
+    let (done, seen) = bench.asked_again()?;
+    Ok(left == lost && done == further && seen == Seen::Value)
+}
+
+/// The number of the first row that says otherwise.
+fn first_other_loss(alloc: Global, rows: &[LostRow]) -> Result<Option<usize>, NoMemory> {
+    for i in 0..rows.len() {
+        if !loss_agrees(alloc, &rows[i])? {
+            return Ok(Some(i));
+        }
+    }
+    Ok(None)
+}
+
+#[test]
+fn a_lost_job_hurts_only_those_that_wait_for_it(rt: HostRuntime) -> Result<(), Fail> {
+    assert_eq!(rt; first_other_loss(rt.alloc(), &LOSSES)?, None);
     Ok(())
 }
