@@ -2,4 +2,6 @@
 #![tactic(auto)]
 
 #[cfg(test)]
+mod buck;
+#[cfg(test)]
 mod tests;
