@@ -1,0 +1,50 @@
+use Rattle.std.proofs.Common.{ap, subst}
+use Rattle.dice_core.specs.Cores.{events_of}
+use Rattle.turnstile.specs.InTurn.{seat_in}
+use Rattle.dice_engine.proofs.Turned.{entered, may_leave, turned}
+use Rattle.dice_engine.proofs.Adding.{on_either, map_err, map_if_ok}
+use Rattle.dice_engine.proofs.Turned.{did_so}
+use Rattle.dice_engine.proofs.Begun.{has_opened, if_ok_both}
+use Rattle.dice_engine.specs.Calls.{Opens, AddsNothing}
+use Rattle.dice_engine.proofs.engine.Engine.open.Goals as goal
+
+pub leave-requires-clause-grows : goal.leave-requires-clause-grows
+leave-requires-clause-grows g c =
+    let eq = g.U.Key.PartialEq.eq in
+    let m = g.U.Universe.meaning in
+    let old = c.args.seat.now in
+    let mid = seat_in c.enter-turn.result in
+    let J = events_of c.state.result.now.core in
+    let e = entered eq m old mid (events_of c.enter-turn.result.state.core) J (ap (λ s. events_of s.core) c.state.ensures.value) c.enter-turn.ensures.turn c.enter-turn.ensures.seen c.enter-turn.ensures.mine c.enter-turn.ensures.floor in
+    let I = events_of c.open-opened.new.self.core in
+    on_either c.open-opened.result _ _ _ c.open-opened.ensures.ok c.open-opened.ensures.err
+    (λ a. may_leave eq m old mid J I _ _ e c.requires.seat.1 c.number-number.ensures a)
+    (λ a. may_leave eq m old mid J I _ _ e c.requires.seat.1 c.number-number.ensures a)
+
+pub returns-clause-ok : goal.returns-clause-ok
+returns-clause-ok g c =
+    let eq = g.U.Key.PartialEq.eq in
+    let m = g.U.Universe.meaning in
+    let old = c.args.seat.now in
+    let mid = seat_in c.enter-turn.result in
+    let J = events_of c.state.result.now.core in
+    let e = entered eq m old mid (events_of c.enter-turn.result.state.core) J (ap (λ s. events_of s.core) c.state.ensures.value) c.enter-turn.ensures.turn c.enter-turn.ensures.seen c.enter-turn.ensures.mine c.enter-turn.ensures.floor in
+    let I = events_of c.open-opened.new.self.core in
+    let n = c.number-number.ensures in
+    let z = (record { seen = c.leave.ensures.seen; mine = c.leave.ensures.mine; turns = c.leave.ensures.turns; floor = c.leave.ensures.floor; below = c.leave.ensures.below; noted = c.leave.ensures.noted; same = c.leave.ensures.same }) in
+    if_ok_both c.open-opened.result _ _ _ c.open-opened.ensures.named c.open-opened.ensures.ok
+    (λ t named a. turned eq m old mid J I _ _ _ e z n (did_so eq m _ J I _ _ a (λ own work d. (subst (λ n. Opens n J own work) n d, named))))
+
+pub returns-clause-has : goal.returns-clause-has
+returns-clause-has g c = map_if_ok c.open-opened.result _ _ (returns-clause-ok g c) (λ t u. has_opened g.U.Key.PartialEq.eq g.U.Universe.meaning c.args.seat.now _ t.opened t.version u)
+
+pub returns-clause-err : goal.returns-clause-err
+returns-clause-err g c =
+    let eq = g.U.Key.PartialEq.eq in
+    let m = g.U.Universe.meaning in
+    let old = c.args.seat.now in
+    let mid = seat_in c.enter-turn.result in
+    let J = events_of c.state.result.now.core in
+    let e = entered eq m old mid (events_of c.enter-turn.result.state.core) J (ap (λ s. events_of s.core) c.state.ensures.value) c.enter-turn.ensures.turn c.enter-turn.ensures.seen c.enter-turn.ensures.mine c.enter-turn.ensures.floor in
+    let I = events_of c.open-opened.new.self.core in
+    map_err c.open-opened.result _ _ c.open-opened.ensures.err (λ a. turned eq m old mid J I _ (λ found. AddsNothing) _ e (record { seen = c.leave.ensures.seen; mine = c.leave.ensures.mine; turns = c.leave.ensures.turns; floor = c.leave.ensures.floor; below = c.leave.ensures.below; noted = c.leave.ensures.noted; same = c.leave.ensures.same }) c.number-number.ensures a)

@@ -1,0 +1,25 @@
+use Rattle.std.proofs.Common.{◌≡◌, ◌++◌, sym, ap, ◌∙◌, subst}
+use Rattle.std.specs.Map.{keys_of}
+use Rattle.dice_core.specs.Commits.{IsFirstFault, differing_of, event_of}
+use Rattle.dice_core.specs.Cores.{events_of, past_of}
+use Rattle.journal.specs.Events.{commits_of}
+use Rattle.dice_engine.proofs.Adding.{nothing, commits, map_ok, map_err}
+use Rattle.dice_engine.proofs.state.State.commit.Goals as goal
+
+pub returns-clause-first : goal.returns-clause-first
+returns-clause-first g c = λ f h. c.commit-result.ensures.first f (subst (λ ps. IsFirstFault g.U.Universe.meaning (keys_of ps) f) (sym c.pairs.ensures) h)
+
+pub returns-clause-ok : goal.returns-clause-ok
+returns-clause-ok g c =
+    let eq = g.U.Key.PartialEq.eq in
+    let veq = g.U.Value.PartialEq.eq in
+    let m = g.U.Universe.meaning in
+    let core = c.args.self.now.core in
+    map_ok c.commit-result.result _ _ c.commit-result.ensures.events
+    (λ e. commits eq m (events_of core) (events_of c.commit-result.new.self) c.standing-newest.ensures.lawful veq c.args.by core.cells c.args.updater.now
+        (c.cells_are_the_inputs.ensures.newest (commits_of (past_of core)) core.cells c.in_order.ensures.cells.are)
+        (e ∙ ap (λ ps. events_of core ++ event_of c.args.by (differing_of eq veq m core.cells ps)) c.pairs.ensures))
+
+pub returns-clause-err : goal.returns-clause-err
+returns-clause-err g c =
+    map_err c.commit-result.result _ _ c.commit-result.ensures.err (λ b. nothing g.U.Key.PartialEq.eq g.U.Universe.meaning _ _ c.standing-newest.ensures.lawful c.args.by b.hands.events)

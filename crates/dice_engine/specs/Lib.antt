@@ -1,0 +1,5 @@
+pub mod Turns
+pub mod Rises
+pub mod Conditions
+pub mod Calls
+pub mod Replies

@@ -1,0 +1,80 @@
+//! The engine, and how it is made.
+ghost use Rattle.std.specs.Prelude.{◌≡◌, ◌<◌, ◌+◌, ◌∷◌, ◌++◌, max, IsOk, IfOk};
+ghost use Rattle.turnstile.specs.Events.{longer};
+ghost use Rattle.turnstile.specs.Seats.{first_seat, spare, split_off, note_of, IsSeatOf};
+
+use crate::state::State;
+use dice_core::Core;
+use dice_key::{NoMemory, Universe};
+use journal::Told;
+use std::alloc::Global;
+use std::marker::Model;
+use std::sync::{Arc, Wait};
+use turnstile::Turnstile;
+
+/// A seat of an engine: what one thread has seen of the engine's journal. It may travel to another thread.
+pub type Seat<U> = turnstile::Seat<Told<<U as Universe>::Key, <U as Universe>::Value>>;
+
+/// An engine. It may be shared by threads, each with a seat of its own. Contracts see it as the identity of its turnstile.
+#[derive(Drop)]
+pub struct Engine<U: Universe> {
+    pub(crate) stile: Turnstile<State<U>>,
+    pub(crate) universe: Arc<U>,
+}
+
+impl<U: Universe> Model for Engine<U> {
+    ghost use Rattle.atomic_table.specs.Seated.{TableId, table_id_coded};
+
+    ghost Value = { TableId };
+
+    ghost coded = { table_id_coded };
+
+    ghost view = { λ e. e.stile };
+}
+
+impl<U: Universe> Engine<U> {
+    /// An engine without commits, and its first seat, which has the number 0 and the spare numbers 1 to 2^32 - 1. Seats with a
+    /// number below `writers` may commit, open and ask.
+    pub fn new<R: Wait>(
+        _rt: &R,
+        alloc: Global,
+        universe: Arc<U>,
+        writers: u64,
+    ) -> Result<(Engine<U>, Seat<U>), NoMemory>
+        ensures { IfOk result (λ t. t.1 ≡ first_seat t.0 writers) }
+    {
+        let core = Core::new(alloc, Arc::try_clone(&universe)?)?;
+        match Turnstile::new(alloc, State::new(core), writers) {
+            Ok((stile, seat)) => Ok((Engine { stile, universe }, seat)),
+            Err(_) => Err(NoMemory),
+        }
+    }
+
+    /// A new seat with the least spare number, which has seen what this one has. It takes no memory, and is never refused.
+    pub fn split(&self, seat: &mut Seat<U>) -> Result<Seat<U>, NoMemory>
+        requires seat { IsSeatOf self.now seat.old }
+        requires spare { 0 < spare seat.old }
+        ensures done { IsOk result }
+        ensures new { IfOk result (λ new. new ≡ split_off seat.old) }
+        ensures seat { seat.new ≡ record seat.old { spare_start = seat.old.spare_start + 1 } }
+    {
+        match self.stile.split(seat) {
+            Ok(new) => Ok(new),
+            Err(_) => Err(NoMemory),
+        }
+    }
+
+    /// Ends another seat, whose number it answers. This seat has seen from then on what either has, and notes the other's events
+    /// and those of the seats that were joined to it.
+    pub fn join(&self, seat: &mut Seat<U>, other: Seat<U>) -> u64
+        requires seat { IsSeatOf self.now seat.old }
+        requires other { IsSeatOf self.now other }
+        ensures number { result ≡ other.number }
+        ensures seen { seat.new.seen ≡ longer seat.old.seen other.seen }
+        ensures floor { seat.new.floor ≡ max seat.old.floor other.floor }
+        ensures ended { seat.new.ended ≡ note_of seat.old other ∷ (seat.old.ended ++ other.ended) }
+        ensures same { seat.new ≡ record seat.old { seen = seat.new.seen; floor = seat.new.floor; ended = seat.new.ended } }
+    {
+        self.stile.join(seat, other)
+    }
+}

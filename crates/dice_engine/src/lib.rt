@@ -1,0 +1,21 @@
+//! The engine: one core, whose calls many threads take in turns.
+#![tactic(auto)]
+
+mod calls;
+mod engine;
+mod gate;
+mod laws;
+mod promise;
+mod state;
+mod updater;
+mod working;
+
+pub use dice_core::CommitRefusal;
+pub use engine::{Engine, Seat};
+pub use gate::{Gate, Open};
+pub use laws::{
+    conditions_stay, one_writer_knows_all, own_asks_are_live, replies_are_exact, turns_go_on,
+};
+pub use promise::{Answer, Promise, Settled, Transaction, Worked};
+pub use state::State;
+pub use updater::Updater;

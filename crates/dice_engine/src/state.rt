@@ -1,0 +1,258 @@
+//! The state that lies in the slot of the turnstile, and the core's calls on it: one of them in each turn.
+ghost use Rattle.std.specs.Prelude.{◌≡◌, ◌≢◌, ℕ, List, [], ◌∷◌, ◌++◌, length, reverse, Some, IfOk, IfErr, IfSome, IfNone, OnOk, OnErr, MatchResult};
+ghost use Rattle.std.specs.Arc.{arc_value};
+ghost use Rattle.std.specs.Map.{keys_of};
+ghost use Rattle.journal.specs.Events.{Opened, Asking, open_at, live_at};
+ghost use Rattle.dice_core.specs.Commits.{Fault, fault_of, AreSettable, IsFirstFault};
+ghost use Rattle.journal.specs.declared.event.Told.{Told};
+ghost use Rattle.journal.specs.declared.event.Told.TheVariants.{Ask};
+ghost use Rattle.journal.specs.Law.{IsLawfulJournal};
+ghost use Rattle.dice_core.specs.Cores.{Absent, came_of, events_of, poll_of};
+ghost use Rattle.dice_core.specs.Joinings.{IsToldOfMake};
+ghost use Rattle.dice_engine.specs.Turns.{newest_in, log_of, left_of, Adds, WorksOn};
+ghost use Rattle.dice_engine.specs.Calls.{AddsNothing, Opens, Closes, Asks, Leaves, Commits};
+ghost use Rattle.dice_engine.specs.Replies.{reply_of, Tells, IsLiveIn, IsReply};
+
+use crate::promise::{Answer, Promise, Transaction};
+use crate::updater::Updater;
+use dice_core::{CommitRefusal, Core, Job, JobName, Polled, Step};
+use dice_key::{KeyRef, NoMemory, Universe, Version};
+use injected::cells_are_the_inputs;
+use journal::Told;
+use std::sync::Arc;
+use turnstile::Tale;
+
+/// The state that the seats of an engine have in turns: its core, and what it tells of itself between two turns.
+#[derive(Drop)]
+pub struct State<U: Universe> {
+    core: Core<U>,
+    left: (u64, u64, u64),
+    newest: u64,
+    ghost counted: { left ≡ left_of core },
+    ghost numbered: { newest ≡ newest_in (events_of core) },
+}
+
+impl<U: Universe> Tale for State<U> {
+    ghost use Rattle.journal.specs.Tell.{event_by};
+    ghost use Rattle.dice_core.specs.Cores.{events_of};
+    ghost use Rattle.dice_engine.specs.Turns.{newest_in, left_of};
+    ghost use Rattle.dice_engine.specs.Rises.{newest_rises};
+
+    type Event = Told<U::Key, U::Value>;
+
+    ghost list = { λ s. events_of s.core };
+
+    ghost by = { event_by };
+
+    ghost counts = { λ s. left_of s.core };
+
+    ghost version = { newest_in };
+
+    fn tally(&self) -> (u64, u64, u64) {
+        self.left
+    }
+
+    fn list_version(&self) -> u64 {
+        self.newest
+    }
+
+    ghost rises = { newest_rises };
+}
+
+/// What a core tells of itself: how many tasks are ready and how many jobs are out, and the newest version.
+fn standing<U: Universe>(core: &Core<U>) -> ((u64, u64, u64), u64)
+    ensures left { result.0 ≡ left_of core.now }
+    ensures newest { result.1 ≡ newest_in (events_of core.now) }
+    ensures lawful { IsLawfulJournal U.Key.eq U.meaning (events_of core.now) }
+{
+    core.in_order();
+    ((core.ready(), core.out(), 0), core.newest())
+}
+
+impl<U: Universe> State<U> {
+    /// A state with this core.
+    pub(crate) fn new(core: Core<U>) -> State<U>
+        ensures { result.core ≡ core }
+    {
+        let (left, newest) = standing(&core);
+        State { core, left, newest }
+    }
+
+    /// Commits changes for a seat.
+    pub(crate) fn commit<'a>(
+        &mut self,
+        by: u64,
+        updater: &'a Updater<U>,
+    ) -> Result<Version, CommitRefusal<'a, U>>
+        ensures settable { OnOk result (AreSettable U.meaning (keys_of updater.now)) }
+        ensures fault { IfErr result (λ e. IfSome (fault_of e) (IsFirstFault U.meaning (keys_of updater.now))) }
+        ensures first { (f : Fault U.Key) → IsFirstFault U.meaning (keys_of updater.now) f → MatchResult result (λ _. ⊥) (λ e. IfSome (fault_of e) (λ g. g ≡ f)) }
+        ensures version { IfOk result (λ v. v ≡ newest_in (events_of self.new.core)) }
+        ensures ok { OnOk result (Adds U.Key.eq U.meaning by (events_of self.old.core) (events_of self.new.core) (Commits U.Key.eq U.Value.eq U.meaning by (log_of (events_of self.old.core)) updater.now)) }
+        ensures err { OnErr result (Adds U.Key.eq U.meaning by (events_of self.old.core) (events_of self.new.core) AddsNothing) }
+    {
+        cells_are_the_inputs::<U>();
+        self.core.in_order();
+        let result = self.core.commit(by, updater.pairs());
+        let (left, newest) = standing(&self.core);
+        self.left = left;
+        self.newest = newest;
+        result
+    }
+
+    /// Opens a transaction for a seat.
+    pub(crate) fn open(&mut self, by: u64) -> Result<Transaction, NoMemory>
+        ensures named { IfOk result (λ t. (t.version ≡ newest_in (events_of self.old.core)) × (t.opened ≡ length (events_of self.old.core))) }
+        ensures ok { OnOk result (Adds U.Key.eq U.meaning by (events_of self.old.core) (events_of self.new.core) (Opens by (events_of self.old.core))) }
+        ensures err { OnErr result (Adds U.Key.eq U.meaning by (events_of self.old.core) (events_of self.new.core) AddsNothing) }
+    {
+        let version = self.newest;
+        let opened = self.core.open(by);
+        let (left, newest) = standing(&self.core);
+        self.left = left;
+        self.newest = newest;
+        Ok(Transaction {
+            version,
+            opened: opened?,
+        })
+    }
+
+    /// Closes a transaction.
+    pub(crate) fn close(&mut self, transaction: Transaction)
+        requires { IsLawfulJournal U.Key.eq U.meaning (events_of self.old.core) → (o : Opened) × (open_at (reverse (events_of self.old.core)) transaction.opened ≡ Some o) }
+        ensures { (o : Opened) × (open_at (reverse (events_of self.old.core)) transaction.opened ≡ Some o) × Adds U.Key.eq U.meaning o.by (events_of self.old.core) (events_of self.new.core) (Closes o.by transaction.opened o.version) }
+    {
+        self.core.in_order();
+        self.core.close(transaction.opened);
+        let (left, newest) = standing(&self.core);
+        self.left = left;
+        self.newest = newest;
+    }
+
+    /// Asks for a key in a transaction, for a seat.
+    pub(crate) fn ask(
+        &mut self,
+        by: u64,
+        transaction: &Transaction,
+        key: KeyRef<U>,
+    ) -> Result<Promise<U>, NoMemory>
+        requires { IsLawfulJournal U.Key.eq U.meaning (events_of self.old.core) → (o : Opened) × (open_at (reverse (events_of self.old.core)) transaction.now.opened ≡ Some o) × (o.version ≡ transaction.now.version) }
+        ensures named { IfOk result (λ p. (p.version ≡ transaction.now.version) × (p.opened ≡ transaction.now.opened) × (p.ask ≡ length (events_of self.old.core)) × (arc_value p.key ≡ arc_value key)) }
+        ensures ok { OnOk result (Adds U.Key.eq U.meaning by (events_of self.old.core) (events_of self.new.core) (Asks by transaction.now.opened transaction.now.version (arc_value key))) }
+        ensures err { OnErr result (Adds U.Key.eq U.meaning by (events_of self.old.core) (events_of self.new.core) AddsNothing) }
+    {
+        self.core.in_order();
+        let ask = ask_again(&mut self.core, by, transaction.opened, &key);
+        let (left, newest) = standing(&self.core);
+        self.left = left;
+        self.newest = newest;
+        Ok(Promise {
+            version: transaction.version,
+            opened: transaction.opened,
+            ask: ask?,
+            key,
+        })
+    }
+
+    /// Leaves an ask, where its transaction is still open.
+    pub(crate) fn leave(&mut self, promise: Promise<U>)
+        requires open { IsLawfulJournal U.Key.eq U.meaning (events_of self.old.core) → (o : Opened) → open_at (reverse (events_of self.old.core)) promise.opened ≡ Some o → (a : Asking U.Key) × (live_at (reverse (events_of self.old.core)) promise.ask ≡ Some a) × (a.opened ≡ promise.opened) × (o.version ≡ promise.version) }
+        requires closed { IsLawfulJournal U.Key.eq U.meaning (events_of self.old.core) → (a : Asking U.Key) → live_at (reverse (events_of self.old.core)) promise.ask ≡ Some a → (a.opened ≡ promise.opened) × ((o : Opened) × (open_at (reverse (events_of self.old.core)) promise.opened ≡ Some o)) }
+        ensures { (n : ℕ) → (IsLawfulJournal U.Key.eq U.meaning (events_of self.old.core) → (a : Asking U.Key) → live_at (reverse (events_of self.old.core)) promise.ask ≡ Some a → a.by ≡ n) → Adds U.Key.eq U.meaning n (events_of self.old.core) (events_of self.new.core) (Leaves n promise.ask promise.opened promise.version (events_of self.old.core)) }
+    {
+        self.core.in_order();
+        if self.core.stands(promise.ask) {
+            self.core.leave(promise.ask);
+        }
+        let (left, newest) = standing(&self.core);
+        self.left = left;
+        self.newest = newest;
+    }
+
+    /// What a promise has come to.
+    pub(crate) fn poll(&self, promise: &Promise<U>) -> Result<Answer<U>, NoMemory>
+        requires { IsLawfulJournal U.Key.eq U.meaning (events_of self.now.core) → (a : Asking U.Key) → live_at (reverse (events_of self.now.core)) promise.now.ask ≡ Some a → (a.opened ≡ promise.now.opened) × (a.key ≡ arc_value promise.now.key) × ((o : Opened) → open_at (reverse (events_of self.now.core)) a.opened ≡ Some o → o.version ≡ promise.now.version) }
+        ensures reply { IsReply U.Key.eq U.meaning (events_of self.now.core) promise.now.version (arc_value promise.now.key) promise.now.ask (left_of self.now.core) (reply_of result) }
+
+        // Where the ask is live, what is answered is what the core has come to.
+        ensures exact { IsLiveIn (events_of self.now.core) promise.now.ask → Tells (poll_of U.Key.eq U.meaning self.now.core promise.now.version (arc_value promise.now.key)) (reply_of result) }
+        ensures lawful { IsLawfulJournal U.Key.eq U.meaning (events_of self.now.core) }
+    {
+        self.core.in_order();
+        if !self.core.stands(promise.ask) {
+            return Ok(Answer::Gone);
+        }
+        answer_of(self.core.poll(promise.version, &promise.key))
+    }
+
+    /// Takes the job of a task that is ready.
+    pub(crate) fn take_job(&mut self) -> Option<Job<U>>
+        ensures adds { Adds U.Key.eq U.meaning 0 (events_of self.old.core) (events_of self.new.core) AddsNothing }
+        ensures none { IfNone result (self.new.core.desk.ready ≡ []) }
+    {
+        let job = self.core.take_job();
+        let (left, newest) = standing(&self.core);
+        self.left = left;
+        self.newest = newest;
+        job
+    }
+
+    /// Takes up what came of a job: a step, or the name of the job, where there was no memory for it.
+    pub(crate) fn take_up(&mut self, came: Result<Step<U>, JobName<U>>)
+        ensures { Adds U.Key.eq U.meaning 0 (events_of self.old.core) (events_of self.new.core) (λ own work. own ≡ []) }
+    {
+        match came {
+            Ok(step) => give(&mut self.core, step),
+            Err(name) => fail(&mut self.core, &name),
+        }
+        let (left, newest) = standing(&self.core);
+        self.left = left;
+        self.newest = newest;
+    }
+}
+
+/// Asks for a key, of which the caller keeps the reference.
+fn ask_again<U: Universe>(
+    core: &mut Core<U>,
+    by: u64,
+    opened: u64,
+    key: &KeyRef<U>,
+) -> Result<u64, NoMemory>
+    requires { (o : Opened) × (open_at (reverse (events_of core.old)) opened ≡ Some o) }
+    ensures index { IfOk result (λ i. i ≡ length (events_of core.old)) }
+    ensures ok { OnOk result ((o : Opened) × (made : List (Told U.Key U.Value)) × (open_at (reverse (events_of core.old)) opened ≡ Some o) × IsToldOfMake o.version (arc_value key.now) made × (events_of core.new ≡ events_of core.old ++ (Ask by opened (arc_value key.now) ∷ made))) }
+    ensures err { OnErr result (events_of core.new ≡ events_of core.old) }
+{
+    core.ask(by, opened, Arc::try_clone(key)?)
+}
+
+/// What is answered of what a key has come to.
+fn answer_of<U: Universe>(polled: Polled<'_, U>) -> Result<Answer<U>, NoMemory>
+    requires { came_of polled ≢ Absent }
+    ensures { Tells (came_of polled.entry) (reply_of result) }
+{
+    match polled {
+        Polled::Value(value) => Ok(Answer::Value(Arc::try_clone(value)?)),
+        Polled::Cycle(path) => Ok(Answer::Cycle(Arc::try_clone(path)?)),
+        Polled::Lost => Err(NoMemory),
+        Polled::Pending => Ok(Answer::Pending),
+        Polled::Absent => unreachable!(),
+    }
+}
+
+/// Gives a step. Where there is no memory for it, its job is given up.
+fn give<U: Universe>(core: &mut Core<U>, step: Step<U>)
+    ensures { WorksOn (events_of core.old) (events_of core.new) }
+{
+    match core.give(step) {
+        Ok(gave) => drop(gave),
+        Err((NoMemory, step)) => fail(core, step.assignment().name()),
+    }
+}
+
+/// Gives up the job of this name, where it is out.
+fn fail<U: Universe>(core: &mut Core<U>, name: &JobName<U>)
+    ensures { WorksOn (events_of core.old) (events_of core.new) }
+{
+    core.fail(name);
+}

@@ -1,0 +1,96 @@
+//! The calls of an engine that do jobs.
+ghost use Rattle.std.specs.Prelude.{◌≡◌, [], IfNone};
+ghost use Rattle.std.specs.Arc.{arc_value};
+ghost use Rattle.turnstile.specs.Seats.{IsSeatOf};
+ghost use Rattle.dice_engine.specs.declared.promise.Worked.TheVariants as worked;
+ghost use Rattle.dice_engine.specs.Turns.{Turn, Works, Later};
+ghost use Rattle.dice_engine.specs.Conditions.{SawAsk};
+ghost use Rattle.dice_engine.specs.Calls.{AddsNothing};
+ghost use Rattle.dice_engine.specs.Replies.{settled_of, IsReply};
+
+use crate::engine::{Engine, Seat};
+use crate::gate::Gate;
+use crate::promise::{Answer, Promise, Settled, Worked};
+use crossbeam_utils::Backoff;
+use dice_core::{Job, JobName, Step};
+use dice_key::{NoMemory, Universe};
+use std::sync::Wait;
+
+impl<U: Universe> Engine<U> {
+    /// Does one job, where a task is ready: it is taken in one turn, done outside, and given in another one. Where there is no memory
+    /// for it, it is given up.
+    pub fn work<R: Wait, G: Gate>(
+        &self,
+        rt: &R,
+        seat: &mut Seat<U>,
+        gate: &G,
+        worker: u32,
+    ) -> Worked
+        requires { IsSeatOf self.now seat.old }
+        ensures works { Works U.Key.eq U.meaning seat.old seat.new }
+        ensures later { Later U.Key.eq U.meaning seat.old seat.new × (seat.new.mine ≡ seat.old.mine) }
+        ensures idle { result ≡ worked.Idle → seat.new.left.0 ≡ 0 }
+    {
+        let Some(job) = self.take_job(rt, seat) else {
+            return Worked::Idle;
+        };
+        gate.at(worker);
+        let came = job.advance(&*self.universe);
+        self.take_up(rt, seat, came);
+        Worked::Did
+    }
+
+    // Takes the job of a task that is ready, in one turn.
+    fn take_job<R: Wait>(&self, rt: &R, seat: &mut Seat<U>) -> Option<Job<U>>
+        requires { IsSeatOf self.now seat.old }
+        ensures turn { Turn U.Key.eq U.meaning seat.old seat.new (λ found. AddsNothing) }
+        ensures none { IfNone result (seat.new.left.0 ≡ 0) }
+    {
+        let mut turn = self.stile.enter(rt, seat);
+        let job = turn.state().take_job();
+        self.stile.leave(turn);
+        job
+    }
+
+    // Gives what came of a job, in one turn.
+    fn take_up<R: Wait>(&self, rt: &R, seat: &mut Seat<U>, came: Result<Step<U>, JobName<U>>)
+        requires { IsSeatOf self.now seat.old }
+        ensures { Turn U.Key.eq U.meaning seat.old seat.new (λ found own work. own ≡ []) }
+    {
+        let mut turn = self.stile.enter(rt, seat);
+        turn.state().take_up(came);
+        self.stile.leave(turn);
+    }
+
+    /// Waits until a promise has come to something, and does jobs meanwhile. It owes no return: jobs that others have taken have to
+    /// be given.
+    pub fn wait<R: Wait, G: Gate>(
+        &self,
+        rt: &R,
+        seat: &mut Seat<U>,
+        promise: &Promise<U>,
+        gate: &G,
+        worker: u32,
+    ) -> Result<Settled<U>, NoMemory>
+        requires seat { IsSeatOf self.now seat.old }
+        requires ask { SawAsk seat.old promise.now.ask promise.now.opened promise.now.version (arc_value promise.now.key) }
+        ensures works { Works U.Key.eq U.meaning seat.old seat.new }
+        ensures later { Later U.Key.eq U.meaning seat.old seat.new × (seat.new.mine ≡ seat.old.mine) }
+        ensures reply { IsReply U.Key.eq U.meaning seat.new.seen promise.now.version (arc_value promise.now.key) promise.now.ask seat.new.left (settled_of result) }
+    {
+        let backoff = Backoff::new();
+        for _ in rt.forever() {
+            match self.poll(rt, seat, promise)? {
+                Answer::Value(value) => return Ok(Settled::Value(value)),
+                Answer::Cycle(path) => return Ok(Settled::Cycle(path)),
+                Answer::Gone => return Ok(Settled::Gone),
+                Answer::Pending => {}
+            }
+            match self.work(rt, seat, gate, worker) {
+                Worked::Did => backoff.reset(),
+                Worked::Idle => backoff.snooze(),
+            }
+        }
+        unreachable!()
+    }
+}
