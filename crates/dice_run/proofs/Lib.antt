@@ -1,4 +1,5 @@
 pub mod Changing
-pub mod Lines
 pub mod Inputs
-pub mod Working
+pub mod Seating
+pub mod Steps
+pub mod Printed

@@ -1,5 +1,7 @@
 pub mod Output
 pub mod Run
 pub mod Commits
-pub mod Clients
+pub mod Answers
+pub mod Seats
 pub mod Driving
+pub mod Printing
