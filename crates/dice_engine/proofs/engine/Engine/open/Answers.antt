@@ -1,10 +1,12 @@
-use Rattle.std.proofs.Common.{ap, subst}
+use Rattle.std.proofs.Common.{rules, ◌≡◌, length, ap, subst}
 use Rattle.dice_core.specs.Cores.{events_of}
 use Rattle.turnstile.specs.InTurn.{seat_in}
-use Rattle.dice_engine.proofs.Turned.{entered, may_leave, turned}
+use Rattle.dice_engine.proofs.Turned.{Ended, entered, may_leave, turned}
 use Rattle.dice_engine.proofs.Adding.{on_either, map_err, map_if_ok}
 use Rattle.dice_engine.proofs.Turned.{did_so}
 use Rattle.dice_engine.proofs.Begun.{has_opened, if_ok_both}
+use Rattle.std.specs.Prelude.{IfOk, OnErr}
+use Rattle.dice_engine.specs.Turns.{newest_in, Turn}
 use Rattle.dice_engine.specs.Calls.{Opens, AddsNothing}
 use Rattle.dice_engine.proofs.engine.Engine.open.Goals as goal
 
@@ -31,9 +33,10 @@ returns-clause-ok g c =
     let e = entered eq m old mid (events_of c.enter-turn.result.state.core) J (ap (λ s. events_of s.core) c.state.ensures.value) c.enter-turn.ensures.turn c.enter-turn.ensures.seen c.enter-turn.ensures.mine c.enter-turn.ensures.floor in
     let I = events_of c.open-opened.new.self.core in
     let n = c.number-number.ensures in
-    let z = (record { seen = c.leave.ensures.seen; mine = c.leave.ensures.mine; turns = c.leave.ensures.turns; floor = c.leave.ensures.floor; below = c.leave.ensures.below; noted = c.leave.ensures.noted; same = c.leave.ensures.same }) in
-    if_ok_both c.open-opened.result _ _ _ c.open-opened.ensures.named c.open-opened.ensures.ok
-    (λ t named a. turned eq m old mid J I _ _ _ e z n (did_so eq m _ J I _ _ a (λ own work d. (subst (λ n. Opens n J own work) n d, named))))
+    let z : Ended eq m mid c.leave.new.turn.0 I = (record { seen = c.leave.ensures.seen; mine = c.leave.ensures.mine; turns = c.leave.ensures.turns; floor = c.leave.ensures.floor; below = c.leave.ensures.below; noted = c.leave.ensures.noted; same = c.leave.ensures.same }) in
+    subst (λ s. IfOk c.open-opened.result (λ t. Turn eq m old s (λ found own work. Opens old.number found own work × (t.version ≡ newest_in found) × (t.opened ≡ length found)))) (search rules)
+    (if_ok_both c.open-opened.result _ _ _ c.open-opened.ensures.named c.open-opened.ensures.ok
+    (λ t named a. turned eq m old mid J I c.leave.new.turn.0 (λ found own work. Opens old.number found own work × (t.version ≡ newest_in found) × (t.opened ≡ length found)) _ e z n (did_so eq m _ J I _ (λ own work. Opens old.number J own work × (t.version ≡ newest_in J) × (t.opened ≡ length J)) a (λ own work d. let r : Opens old.number J own work × (t.version ≡ newest_in J) × (t.opened ≡ length J) = (subst (λ n. Opens n J own work) n d, named.0, named.1) in r))))
 
 pub returns-clause-has : goal.returns-clause-has
 returns-clause-has g c = map_if_ok c.open-opened.result _ _ (returns-clause-ok g c) (λ t u. has_opened g.U.Key.PartialEq.eq g.U.Universe.meaning c.args.seat.now _ t.opened t.version u)
@@ -47,4 +50,5 @@ returns-clause-err g c =
     let J = events_of c.state.result.now.core in
     let e = entered eq m old mid (events_of c.enter-turn.result.state.core) J (ap (λ s. events_of s.core) c.state.ensures.value) c.enter-turn.ensures.turn c.enter-turn.ensures.seen c.enter-turn.ensures.mine c.enter-turn.ensures.floor in
     let I = events_of c.open-opened.new.self.core in
-    map_err c.open-opened.result _ _ c.open-opened.ensures.err (λ a. turned eq m old mid J I _ (λ found. AddsNothing) _ e (record { seen = c.leave.ensures.seen; mine = c.leave.ensures.mine; turns = c.leave.ensures.turns; floor = c.leave.ensures.floor; below = c.leave.ensures.below; noted = c.leave.ensures.noted; same = c.leave.ensures.same }) c.number-number.ensures a)
+    subst (λ s. OnErr c.open-opened.result (Turn eq m old s (λ found. AddsNothing))) (search rules)
+    (map_err c.open-opened.result _ _ c.open-opened.ensures.err (λ a. turned eq m old mid J I c.leave.new.turn.0 (λ found. AddsNothing) _ e (record { seen = c.leave.ensures.seen; mine = c.leave.ensures.mine; turns = c.leave.ensures.turns; floor = c.leave.ensures.floor; below = c.leave.ensures.below; noted = c.leave.ensures.noted; same = c.leave.ensures.same }) c.number-number.ensures a))
