@@ -2,4 +2,4 @@ pub mod Changing
 pub mod Inputs
 pub mod Seating
 pub mod Steps
-pub mod Printed
+pub mod Ending

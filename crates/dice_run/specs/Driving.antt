@@ -209,3 +209,12 @@ pub record DidClose (id : TableId) (t : List ℕ) (d e : Driver) : Type 0 where
   pub answers : e.answers ≡ d.answers
   pub gathered : e.gathered ≡ d.gathered
   pub newest : e.newest ≡ d.newest
+
+-- nothing was done yet
+pub record Starts (id : TableId) (d : Driver) : Type 0 where
+  pub ours : IsOurs id d.seat
+  pub mine : d.seat.mine ≡ []
+  pub gathered : d.gathered ≡ []
+  pub newest : d.newest.items ≡ []
+  pub transactions : (t : List ℕ) → transaction_of d t ≡ None
+  pub promises : (q : List ℕ) → pledge_of d q ≡ None

@@ -4,4 +4,5 @@ pub mod Commits
 pub mod Answers
 pub mod Seats
 pub mod Driving
+pub mod Driven
 pub mod Printing

@@ -3,15 +3,19 @@
 
 mod append;
 mod client;
+mod drive;
 mod driver;
+mod named;
+mod printer;
 mod request;
 mod run_of;
 mod status;
 
+pub use dice_engine::{Gate, Open};
 pub use dice_io::{
-    Gate, MemorySink, MemorySource, Open, RealSink, RealSource, Sink, Source, SureSink, SureSource,
+    MemorySink, MemorySource, RealSink, RealSource, Sink, Source, SureSink, SureSource,
 };
-pub use driver::drive;
+pub use drive::drive;
 pub use run_of::run;
 pub use status::Status;
 

@@ -4,17 +4,20 @@ ghost use Rattle.dice_io.specs.Streams.{Rose, ReadPart, Unread, Gained, GainedPa
 ghost use Rattle.dice_words.specs.Accepted.{IsAccepted};
 ghost use Rattle.script.specs.declared.line.Line.{Line};
 ghost use Rattle.script.specs.Scripts.{IsScript};
+ghost use Rattle.dice_run.specs.Output.{IsOutput};
 ghost use Rattle.dice_run.specs.Run.{Answers, Refuses, IsWritten};
 
 use crate::append;
-use crate::driver::drive;
+use crate::drive::drive;
 use crate::status::Status;
-use dice_io::{Gate, ReadFail, Sink, Source, read_all, write_all};
+use action_digest::Buck;
+use dice_engine::{Engine, Gate};
+use dice_io::{ReadFail, Sink, Source, read_all, write_all};
 use dice_key::NoMemory;
 use dice_words::{Command, WordsFail, read_words};
 use script::{Script, ScriptRefusal};
 use std::alloc::Global;
-use std::sync::Wait;
+use std::sync::{Arc, Wait};
 use std::thread::Threads;
 
 /// How many bytes are read at most: one more than a script may have.
@@ -33,7 +36,7 @@ pub fn run<R: Threads + Wait, S: Source, K: Sink, G: Gate>(
     words: &[&str],
     source: &mut S,
     sink: &mut K,
-    _gate: &G,
+    gate: &G,
 ) -> Status
     ensures words { result ≡ Status.WordsRefused → (IsAccepted (map (λ w. w.now) words.now) → ⊥) × Unread (S.left source.old) (S.left source.new) × Unchanged (K.taken sink.old) (K.taken sink.new) }
     ensures accepted { IsAccepted (map (λ w. w.now) words.now) ⊎ ((result ≡ Status.WordsRefused) ⊎ (result ≡ Status.NoMemory)) }
@@ -54,7 +57,7 @@ pub fn run<R: Threads + Wait, S: Source, K: Sink, G: Gate>(
         Err(ReadFail::Failed) => return Status::ReadFailed,
         Err(ReadFail::NoMemory) => return Status::NoMemory,
     };
-    let (status, out) = match answer(rt, alloc, &bytes) {
+    let (status, out) = match answer(rt, alloc, gate, &bytes) {
         Ok(answer) => answer,
         Err(NoMemory) => return Status::NoMemory,
     };
@@ -65,13 +68,18 @@ pub fn run<R: Threads + Wait, S: Source, K: Sink, G: Gate>(
 }
 
 /// What is written for an input, and with which status: the output of a script, or the first fault of what is none.
-fn answer<R: Wait>(rt: &R, alloc: Global, bytes: &[u8]) -> Result<(Status, Vec<u8>), NoMemory>
+fn answer<R: Wait, G: Gate>(
+    rt: &R,
+    alloc: Global,
+    gate: &G,
+    bytes: &[u8],
+) -> Result<(Status, Vec<u8>), NoMemory>
     ensures done { IfOk result (λ a. a.0 ≡ Status.Done → Answers bytes.now a.1.items) }
     ensures refused { IfOk result (λ a. a.0 ≡ Status.ScriptRefused → Refuses bytes.now a.1.items) }
     ensures either { IfOk result (λ a. (a.0 ≡ Status.Done) ⊎ (a.0 ≡ Status.ScriptRefused)) }
 {
     match script::read(alloc, bytes) {
-        Ok(script) => Ok((Status::Done, drive(rt, alloc, &script)?)),
+        Ok(script) => Ok((Status::Done, carry_out(rt, alloc, gate, &script)?)),
         Err(ScriptRefusal::TooLong) => {
             let mut out = Vec::new(alloc);
             append::bytes(&mut out, b"script too long\n")?;
@@ -88,4 +96,19 @@ fn answer<R: Wait>(rt: &R, alloc: Global, bytes: &[u8]) -> Result<(Status, Vec<u
         }
         Err(ScriptRefusal::NoMemory) => Err(NoMemory),
     }
+}
+
+/// Carries a script out on an engine of its own.
+fn carry_out<R: Wait, G: Gate>(
+    rt: &R,
+    alloc: Global,
+    gate: &G,
+    script: &Script,
+) -> Result<Vec<u8>, NoMemory>
+    ensures { IfOk result (λ out. IsOutput script.now out.items) }
+{
+    let universe = Arc::new(alloc, Buck::new(alloc)?)?;
+    let (engine, seat) = Engine::new(rt, alloc, universe, 1)?;
+    let (_seat, output) = drive(rt, alloc, &engine, seat, script, gate);
+    output
 }

@@ -1,0 +1,42 @@
+-- A script whose lines were carried out, and whose requests are waited for at its end.
+use Rattle.std.specs.Prelude.{◌≡◌, ◌⊎◌, ℕ, Bool, true, false, List, [], ◌∷◌, ◌++◌, cond, Some}
+use Rattle.atomic_table.specs.Seated.{TableId}
+use Rattle.dice_model.specs.Log.{Has}
+use Rattle.script.specs.declared.line.Line.{Line}
+use Rattle.script.specs.declared.line.Line.TheVariants.{Wait}
+use Rattle.script.specs.declared.fate.Fate.TheVariants as fate
+use Rattle.script.specs.Past.{Past, after, nothing, after_all, fate_of, is_cancelled, is_given_up}
+use Rattle.script.specs.Plan.{Planned, no_plan, plan_of}
+use Rattle.dice_run.specs.Driving.{Matches, MayWait, DidWait, newest_from}
+use Rattle.dice_run.specs.declared.driver.Driver.{Driver}
+
+-- the lines were carried out
+pub record Carried (id : TableId) (ls : List Line) (d : Driver) : Type 0 where
+  pub stands : Matches id d (plan_of ls) (after_all nothing ls)
+  pub newest : d.newest.items ≡ newest_from (is_cancelled ls) no_plan ls
+
+-- and then all requests that the lines do not cancel were waited for
+pub record Settled (id : TableId) (ls : List Line) (d : Driver) : Type 0 where
+  pub past : Past
+  pub stands : Matches id d (plan_of ls) past
+  pub newest : d.newest.items ≡ newest_from (is_cancelled ls) no_plan ls
+  pub answered : (r : Planned) → Has (plan_of ls).requests r → r.cancelled ≡ false → fate_of past r.name ≡ Some fate.Answered
+
+-- while this is done: which requests are given up has not changed
+pub record Settling (id : TableId) (ls : List Line) (d : Driver) (past : Past) : Type 0 where
+  pub stands : Matches id d (plan_of ls) past
+  pub newest : d.newest.items ≡ newest_from (is_cancelled ls) no_plan ls
+  pub given_up : (q : List ℕ) → is_given_up (fate_of past q) ≡ is_cancelled ls q
+
+-- a request of this name was made, and it may be waited for, unless it is cancelled
+pub record MaySettle (id : TableId) (ls : List Line) (d : Driver) (q : List ℕ) : Type 0 where
+  pub past : Past
+  pub settling : Settling id ls d past
+  pub request : Planned
+  pub made : Has (plan_of ls).requests request
+  pub named : request.name ≡ q
+
+-- it was waited for, unless it is cancelled
+abbrev pub SettlesOne : TableId → List Line → List ℕ → Driver → Driver → Type 0
+SettlesOne id ls q d e = (past : Past) → Settling id ls d past
+    → Settling id ls e (cond (is_cancelled ls q) past (after past (Wait q)))
