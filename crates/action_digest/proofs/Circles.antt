@@ -1,5 +1,5 @@
 -- Cycles that begin elsewhere, and what stands on one.
-use Rattle.std.proofs.Common.{◌≡◌, ◌⊎◌, inl, inr, ℕ, Bool, true, false, List, [], ◌∷◌, ◌++◌, map, refl, sym, ap, ◌∙◌, subst, append_assoc, append-nil}
+use Rattle.std.proofs.Common.{◌≡◌, inl, inr, ℕ, Bool, true, false, List, [], ◌∷◌, ◌++◌, refl, sym, ap, ◌∙◌, subst, append_assoc, append-nil}
 use Rattle.dice_model.specs.Log.{Has, AreDistinct}
 use Rattle.dice_model.specs.Asks.{AsksFor, Reaches, here, through, IsCircle, IsCycle}
 use Rattle.buck_label.specs.Labels.{package_of, target_file_of}
@@ -14,7 +14,7 @@ use Rattle.action_digest.specs.Buck.{buck}
 use Rattle.action_digest.specs.Same.{key_equal}
 use Rattle.action_digest.specs.Cycles.{keys_of, labels_of, ReachesFirst}
 use Rattle.action_digest.proofs.Lists.{of_append, of_map}
-use Rattle.action_digest.proofs.Asking.{IsWanted, May, asks_may}
+use Rattle.action_digest.proofs.Asking.{May, asks_may}
 
 distinct_end : {X : Type 0} (xs : List X) (x : X) → AreDistinct xs → (Has xs x → ⊥) → AreDistinct (xs ++ x ∷ [])
 distinct_end [] x d n = ((λ h. h), tt)

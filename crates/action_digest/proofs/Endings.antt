@@ -1,10 +1,9 @@
 -- Where the answers are at their end.
-use Rattle.std.proofs.Common.{◌≡◌, ◌≤◌, ◌⊎◌, inl, inr, ◌∙◌, ℕ, sym, ap, refl, subst, List, [], ◌∷◌, ◌++◌, length, drop, map, min, Result, Ok, zero, suc, arith, append-nil, Bool}
+use Rattle.std.proofs.Common.{◌≡◌, ◌≤◌, ◌⊎◌, inl, inr, ◌∙◌, ℕ, sym, ap, refl, List, [], ◌∷◌, length, drop, map, min, Ok, zero, suc, arith, append-nil, Bool}
 use Rattle.std.specs.Arc.{arc_value}
 use Rattle.std.specs.declared.sync.Arc.{Arc}
 use Rattle.action_digest.specs.declared.key.Key.{Key}
 use Rattle.action_digest.specs.declared.value.Value.{Value}
-use Rattle.action_digest.specs.declared.fault.Fault.{Fault}
 use Rattle.action_digest.specs.Actions.{behind, lines_by}
 
 drop_all : {X : Type 0} (n : ℕ) (xs : List X) → length xs ≤ n → drop n xs ≡ []

@@ -1,8 +1,8 @@
 -- Labels in full.
-use Rattle.std.proofs.Common.{◌≡◌, ◌≢◌, ◌⊎◌, inl, inr, ℕ, ◌+◌, ◌<◌, Bool, true, false, nat_eq, if◌then◌else◌, List, [], ◌∷◌, ◌++◌, length, take, drop, Result, Ok, Err, refl, sym, ap, ◌∙◌, subst, arith, length-append}
+use Rattle.std.proofs.Common.{◌≡◌, ◌⊎◌, inl, inr, ℕ, ◌+◌, Bool, true, false, nat_eq, if◌then◌else◌, List, [], ◌∷◌, ◌++◌, length, take, drop, Result, Ok, Err, refl, sym, ap, ◌∙◌, subst, arith, length-append}
 use Rattle.std.specs.Cmp.{unsigned_Decides}
 use Rattle.std.proofs.Math.Seq.{take-append_seam}
-use Rattle.buck_label.specs.Labels.{Name, IsLong, IsShort, IsLocal, IsLabel, IsLabelIn, NoColon, printed, before_colon, last_from, package_of}
+use Rattle.buck_label.specs.Labels.{Name, IsLabelIn, NoColon, printed, before_colon, last_from, package_of}
 use Rattle.buck_label.specs.Reading.{IsRead}
 use Rattle.buck_label.specs.declared.path.Refused.{Refused}
 use Rattle.buck_label.specs.declared.path.Refused.TheVariants.{Bad}

@@ -1,5 +1,5 @@
 -- What is an element of a list that is made of others.
-use Rattle.std.proofs.Common.{◌≡◌, ◌⊎◌, inl, inr, List, [], ◌∷◌, ◌++◌, map, refl, sym, ap, ◌∙◌, subst}
+use Rattle.std.proofs.Common.{◌≡◌, ◌⊎◌, inl, inr, List, [], ◌∷◌, ◌++◌, map, refl, ap, subst}
 use Rattle.dice_model.specs.Log.{Has}
 
 module _ {X : Type 0} where

@@ -1,5 +1,5 @@
 -- What the target files of a log mention.
-use Rattle.std.proofs.Common.{◌≡◌, ◌⊎◌, inl, inr, ℕ, Bool, true, false, List, [], ◌∷◌, ◌++◌, take, map, Option, Some, None, Result, Ok, Err, unwrap_or, refl, sym, ap, ◌∙◌, subst}
+use Rattle.std.proofs.Common.{◌≡◌, ◌⊎◌, inl, inr, ℕ, Bool, true, false, List, [], ◌∷◌, ◌++◌, take, Option, Some, None, Result, Ok, Err, unwrap_or, refl, ◌∙◌, subst}
 use Rattle.std.specs.Map.{lookup}
 use Rattle.std.specs.Str.{bytes_eq}
 use Rattle.dice_model.specs.Log.{Has, last_value_of}
@@ -17,7 +17,7 @@ use Rattle.action_digest.specs.Written.{key_in}
 use Rattle.action_digest.specs.Buck.{file_by, package_by, found_by, rule_by}
 use Rattle.action_digest.specs.Same.{key_equal}
 use Rattle.action_digest.proofs.Lists.{has_left, has_right, of_map}
-use Rattle.action_digest.proofs.Asking.{source_at, rule_at, IsWanted}
+use Rattle.action_digest.proofs.Asking.{source_at, IsWanted}
 
 abbrev pub of_file : List Located → List Source
 of_file [] = []

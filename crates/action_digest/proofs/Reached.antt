@@ -1,7 +1,7 @@
 -- What a key reaches stands in the finitely many target files of the log.
-use Rattle.std.proofs.Common.{◌≡◌, ◌⊎◌, inl, inr, ℕ, List, [], ◌∷◌, ◌++◌, map, refl, sym, ap, ◌∙◌, subst}
+use Rattle.std.proofs.Common.{◌≡◌, inl, inr, ℕ, List, [], ◌∷◌, ◌++◌, map, refl, sym, ap, ◌∙◌, subst}
 use Rattle.dice_model.specs.Log.{Has}
-use Rattle.dice_model.specs.Asks.{AsksFor, IsClosed}
+use Rattle.dice_model.specs.Asks.{IsClosed}
 use Rattle.buck_label.specs.Labels.{NoColon, package_of, target_file_of, within}
 use Rattle.target_file.specs.declared.source.Source.{Source}
 use Rattle.target_file.specs.declared.source.Source.TheVariants as source
@@ -13,7 +13,7 @@ use Rattle.action_digest.specs.Same.{key_equal}
 use Rattle.action_digest.specs.Written.{full_label, key_in}
 use Rattle.action_digest.proofs.Lists.{has_left, has_right, of_append, has_map, of_map, crossed, has_crossed, of_crossed}
 use Rattle.action_digest.proofs.Labels.{package_stays, package_plain}
-use Rattle.action_digest.proofs.Asking.{IsWanted, May, asks_may}
+use Rattle.action_digest.proofs.Asking.{May, asks_may}
 use Rattle.action_digest.proofs.Mentioned.{mentioned, wanted_is_mentioned}
 
 abbrev text_of : Source → List ℕ

@@ -1,6 +1,6 @@
 -- The laws of the universe.
-use Rattle.std.specs.Prelude.{◌≡◌, ◌≤◌, ◌++◌, ℕ, Bool, true, false, List, [], ◌∷◌, length, Some, Result, Ok, Err, refl}
-use Rattle.std.proofs.Common.{arith, sym, ap, ◌∙◌}
+use Rattle.std.specs.Prelude.{◌≡◌, ◌≤◌, ◌++◌, ℕ, false, List, [], ◌∷◌, length, Result, Ok, Err, refl}
+use Rattle.std.proofs.Common.{arith, ap, ◌∙◌}
 use Rattle.dice_key.specs.Meaning.{Answered, Step, Asks, Ends}
 use Rattle.dice_key.specs.Lawful.{IsLawful}
 use Rattle.dice_key.specs.declared.universe.Kind.TheVariants.{Projection}
@@ -12,7 +12,6 @@ use Rattle.action_digest.specs.declared.key.Key.{Key}
 use Rattle.action_digest.specs.declared.key.Key.TheVariants as key
 use Rattle.action_digest.specs.declared.value.Value.{Value}
 use Rattle.action_digest.specs.declared.value.Value.TheVariants as value
-use Rattle.action_digest.specs.declared.value.ActionText.{ActionText}
 use Rattle.action_digest.specs.declared.fault.Fault.{Fault}
 use Rattle.action_digest.specs.Actions.{action_of, text_with, head_of, is_stamp, asked_by, lines_by, names_sources}
 use Rattle.action_digest.specs.Buck.{buck, buck_next, most_of, kind_of, base_of, projected, package_value, rule_value, digest_value, rule_in, first_of, absent_of, with_asked, with_rule, is_transient_value}

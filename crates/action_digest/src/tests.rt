@@ -112,6 +112,7 @@ fn value_of(alloc: Global, files: Files<'_>, key: Key) -> Result<Option<Arc<Valu
 fn fault_text(alloc: Global, fault: &Fault) -> Result<Vec<u8>, NoMemory> {
     let (word, place) = match fault {
         Fault::NoPackage(package) => (b"no-package ".as_slice(), package.as_bytes()),
+        Fault::BadFile(path, 2) => (b"bad-file on line 2 ".as_slice(), path.as_bytes()),
         Fault::BadFile(path, _) => (b"bad-file ".as_slice(), path.as_bytes()),
         Fault::NoTarget(label) => (b"no-target ".as_slice(), label.as_bytes()),
         Fault::NoSource(path) => (b"no-source ".as_slice(), path.as_bytes()),
@@ -195,7 +196,9 @@ fn actions_of_the_rules_from_nothing(rt: HostRuntime) -> Result<(), Fail> {
 #[test]
 fn faults_come_in_the_order_of_the_sources(rt: HostRuntime) -> Result<(), Fail> {
     let alloc = rt.alloc();
-    let rows: [(&[u8], &[u8]); 6] = [
+    let rows: [(&[u8], &[u8]); 8] = [
+        (b"write_file(name = \"x\")\n", b"bad-file a/BUCK"),
+        (b"write_file(\n", b"bad-file on line 2 a/BUCK"),
         (
             b"filegroup(name = \"x\", srcs = [\"none\", \":b\"])\n",
             b"no-source a/none",
@@ -264,9 +267,8 @@ fn a_digest_is_that_of_the_text_and_a_stamp_is_transient(rt: HostRuntime) -> Res
     Ok(())
 }
 
-#[test]
-fn the_labels_of_a_cycle_begin_with_the_least(rt: HostRuntime) -> Result<(), Fail> {
-    let alloc = rt.alloc();
+/// The keys of a circle: each action asks the next target's digest.
+fn circle(alloc: Global) -> Result<Vec<Arc<Key>>, NoMemory> {
     let mut keys = Vec::new(alloc);
     for (name, next) in [
         (b"//a:y", b"//b:x"),
@@ -282,13 +284,20 @@ fn the_labels_of_a_cycle_begin_with_the_least(rt: HostRuntime) -> Result<(), Fai
         keys.push(Arc::new(alloc, action.wrap())?)?;
         keys.push(Arc::new(alloc, digest.wrap())?)?;
     }
-    keys_are_settled();
-    cycles_are_of_labels();
-    let path = dice_key::Path::from_keys(keys);
-    let labels = labels_of_cycle(alloc, &path)?;
+    Ok(keys)
+}
+
+#[test]
+fn the_labels_of_a_cycle_begin_with_the_least(rt: HostRuntime) -> Result<(), Fail> {
+    let alloc = rt.alloc();
+    let keys = circle(alloc)?;
+    assert!(rt; keys.len() == 6);
+    let labels = labels_of_cycle(alloc, &dice_key::Path::from_keys(keys))?;
     assert_eq!(rt; labels.len(), 3);
     for (label, want) in labels.iter().zip([b"//a:x", b"//a:y", b"//b:x"]) {
         assert!(rt; label.as_bytes() == want.as_slice());
     }
+    keys_are_settled();
+    cycles_are_of_labels();
     Ok(())
 }

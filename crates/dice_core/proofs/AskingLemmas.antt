@@ -14,14 +14,14 @@ use Rattle.core_laws.specs.Changes.{Leaves}
 use Rattle.core_laws.specs.Desk.{World, Stand, AreAll, with_version, is_out}
 use Rattle.core_laws.proofs.StepsAsks.{left_stand}
 use Rattle.dice_core.specs.Askings.{IsAskAt}
-use Rattle.dice_core.specs.AtHand.{AtHand}
-use Rattle.dice_core.specs.Commits.{CellsStand}
+use Rattle.dice_steps.specs.AtHand.{AtHand}
+use Rattle.dice_steps.specs.Cells.{CellsStand}
 use Rattle.dice_core.specs.Cores.{IsWorkAt}
-use Rattle.dice_core.specs.Endings.{DropsTasks, AreTasked}
-use Rattle.dice_core.specs.Entries.{EntriesStand}
-use Rattle.dice_core.specs.Hands.{DeskSeen, desk_of, tasks_of, seen_world, with_event, Working, Cleaning}
-use Rattle.dice_core.specs.Helds.{Held}
-use Rattle.dice_core.proofs.EndsLemmas.{back_more, same_tasks}
+use Rattle.dice_tasks.specs.Endings.{DropsTasks, AreTasked}
+use Rattle.dice_tasks.specs.Entries.{EntriesStand}
+use Rattle.dice_tasks.specs.Hands.{DeskSeen, desk_of, tasks_of, seen_world, with_event, Working, Cleaning}
+use Rattle.dice_tasks.specs.Helds.{Held}
+use Rattle.dice_tasks.proofs.EndsLemmas.{back_more, same_tasks}
 use Rattle.dice_core.proofs.EventLemmas.{all_drops, all_works, entries_given_up, cells_works, count_works}
 
 module _ {K V : Type 0} (eq : K → K → Bool) (equality : IsEquality eq) (m : Meaning K V) (law : IsLawful m) (v : ℕ) where

@@ -24,18 +24,18 @@ use Rattle.core_laws.proofs.StepsAsks.{closed_stand}
 use Rattle.core_laws.proofs.StepsRests.{live_stand, rests_emptied}
 use Rattle.core_laws.proofs.Turns.{stands_here}
 use Rattle.dice_core.specs.Askings.{DropsAfter}
-use Rattle.dice_core.specs.AtHand.{AtHand}
+use Rattle.dice_steps.specs.AtHand.{AtHand}
 use Rattle.dice_core.specs.Closings.{LeftHand, is_promise_of, ArePromised, TakesPromise, TakesPromises}
-use Rattle.dice_core.specs.Commits.{CellsStand}
-use Rattle.dice_core.specs.Endings.{DropsTasks, AreTasked}
-use Rattle.dice_core.specs.Entries.{EntriesStand}
-use Rattle.dice_core.specs.Hands.{DeskSeen, desk_of, tasks_of, seen_world, AreNamed, with_event, Working, Cleaning}
-use Rattle.dice_core.specs.Helds.{Held}
+use Rattle.dice_steps.specs.Cells.{CellsStand}
+use Rattle.dice_tasks.specs.Endings.{DropsTasks, AreTasked}
+use Rattle.dice_tasks.specs.Entries.{EntriesStand}
+use Rattle.dice_tasks.specs.Hands.{DeskSeen, desk_of, tasks_of, seen_world, AreNamed, with_event, Working, Cleaning}
+use Rattle.dice_tasks.specs.Helds.{Held}
 use Rattle.dice_core.specs.Sessions.{SessionSeen, SessionsSeen, has_ask, asks_in, owed, session_at, SessionsStand, Closing}
 use Rattle.dice_core.specs.Cores.{CoreSeen, table_at, has_table, world_of, WorksOn, CoreStands}
 use Rattle.dice_core.proofs.AskingLemmas.{cleaning_by}
-use Rattle.dice_core.proofs.EndsLemmas.{back_more}
-use Rattle.dice_core.proofs.EntriesLemmas.{stand_close}
+use Rattle.dice_tasks.proofs.EndsLemmas.{back_more}
+use Rattle.dice_tasks.proofs.EntriesLemmas.{stand_close}
 use Rattle.dice_core.proofs.EventLemmas.{all_drops, all_works, entries_given_up, cells_works, count_works, sessions_works}
 use Rattle.dice_core.proofs.SessionLemmas.{closing_end, eqb_flips}
 

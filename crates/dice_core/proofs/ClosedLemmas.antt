@@ -14,11 +14,11 @@ use Rattle.journal.specs.Events.{Opened, open_at, open_count}
 use Rattle.version_epoch.specs.Standings.{open_count_of}
 use Rattle.versioned_graph.specs.Entries.{Stored}
 use Rattle.dice_jobs.specs.Jobs.{Stepped}
-use Rattle.dice_core.specs.AtHand.{AtHand}
+use Rattle.dice_steps.specs.AtHand.{AtHand}
 use Rattle.dice_core.specs.Closings.{LeftHand}
 use Rattle.dice_core.specs.Givings.{Gives}
-use Rattle.dice_core.specs.Hands.{DeskSeen}
-use Rattle.dice_core.specs.Helds.{Held}
+use Rattle.dice_tasks.specs.Hands.{DeskSeen}
+use Rattle.dice_tasks.specs.Helds.{Held}
 use Rattle.dice_core.specs.Sessions.{SessionSeen, SessionsSeen, opened_of, session_at, owed, SessionsStand}
 use Rattle.dice_core.specs.Cores.{table_at, has_table, world_of, core_of, PutsTable, Turned, CoreStands, WorksOn}
 use Rattle.dice_core.proofs.CoreLemmas.{in_hand, put_back_so, table_put}

@@ -1,5 +1,5 @@
 -- What a commit keeps, and that its event is allowed.
-use Rattle.std.proofs.Common.{◌≡◌, ◌≢◌, ◌<◌, ◌+◌, inl, inr, ℕ, zero, suc, ◌==◌, Bool, true, false, not, cond, List, [], ◌∷◌, ◌++◌, length, reverse, filter, refl, sym, ap, ◌∙◌, subst, arith, append-nil}
+use Rattle.std.proofs.Common.{◌≡◌, ◌≢◌, ◌<◌, ◌+◌, inl, inr, ℕ, suc, Bool, true, false, not, cond, List, [], ◌∷◌, ◌++◌, length, reverse, filter, refl, sym, ap, ◌∙◌, subst, arith, append-nil}
 use Rattle.std.specs.List.{AllByRecursion}
 use Rattle.std.specs.Map.{lookup, keys_of}
 use Rattle.std.proofs.lemmas.List.{reverse-append, length-append}
@@ -14,7 +14,8 @@ use Rattle.journal.specs.declared.event.Told.{Told}
 use Rattle.journal.specs.declared.event.Told.TheVariants.{Commit}
 use Rattle.journal.specs.Events.{commits_of}
 use Rattle.journal.specs.Law.{IsAllowed, IsLawfulBack, IsLawfulJournal}
-use Rattle.dice_core.specs.Commits.{AreSettable, differs, differing_of, SameSets, AreSet, event_of, Commits, CellsStand}
+use Rattle.dice_core.specs.Commits.{AreSettable, differs, differing_of, SameSets, AreSet, event_of, Commits}
+use Rattle.dice_steps.specs.Cells.{CellsStand}
 use Rattle.dice_core.proofs.CommitLemmas.{all_mapped}
 
 -- ---- filters
@@ -85,10 +86,6 @@ module _ {K V : Type 0} (eq : K → K → Bool) (veq : V → V → Bool) (values
       by_changes (p ∷ d) f o = ((f (omega arith), o), tt)
 
 -- ---- what is written
-
-pub not_empty : (b : Bool) (n : ℕ) → b ≡ (n == 0) → b ≡ false → 0 < n
-not_empty b zero e f = cc
-not_empty b (suc n) e f = omega arith
 
 module _ {K V : Type 0} (eq : K → K → Bool) where
   -- the changes that differ were set at the next version, and their event was appended

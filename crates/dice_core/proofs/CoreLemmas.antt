@@ -13,14 +13,14 @@ use Rattle.versioned_graph.specs.Entries.{Stored}
 use Rattle.core_laws.specs.Tasks.{Task}
 use Rattle.core_laws.specs.Desk.{World, Rests, AreAll, with_version, is_out}
 use Rattle.core_laws.proofs.StepsRests.{same_world, stand_with, wanted_here, rests_of, rests_room, rests_first}
-use Rattle.dice_core.specs.AtHand.{AtHand}
-use Rattle.dice_core.specs.Commits.{CellsStand}
-use Rattle.dice_core.specs.Entries.{EntriesStand}
-use Rattle.dice_core.specs.Hands.{DeskSeen, desk_of, tasks_of, AreNamed, Working}
-use Rattle.dice_core.specs.Helds.{Held, task_of}
+use Rattle.dice_steps.specs.AtHand.{AtHand}
+use Rattle.dice_steps.specs.Cells.{CellsStand}
+use Rattle.dice_tasks.specs.Entries.{EntriesStand}
+use Rattle.dice_tasks.specs.Hands.{DeskSeen, desk_of, tasks_of, AreNamed, Working}
+use Rattle.dice_tasks.specs.Helds.{Held, task_of}
 use Rattle.dice_core.specs.Sessions.{SessionsSeen, owed, SessionsStand}
 use Rattle.dice_core.specs.Cores.{CoreSeen, past_of, table_at, has_table, held_in, world_of, IsAsBefore, CoreStands}
-use Rattle.dice_core.proofs.EntriesLemmas.{none_stand}
+use Rattle.dice_tasks.proofs.EntriesLemmas.{none_stand}
 use Rattle.dice_core.proofs.SessionLemmas.{eqb_flips, same_stands}
 
 -- ---- tables

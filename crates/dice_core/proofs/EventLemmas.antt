@@ -1,5 +1,5 @@
 -- What stands along the events of tasks at one version.
-use Rattle.std.proofs.Common.{◌≡◌, inl, inr, ℕ, Bool, false, List, [], ◌∷◌, ◌++◌, map, reverse, Option, Some, None, refl, sym, ap, ◌∙◌, subst, append_assoc}
+use Rattle.std.proofs.Common.{◌≡◌, inl, inr, ℕ, Bool, false, List, [], ◌∷◌, ◌++◌, map, reverse, Option, Some, None, refl, sym, ◌∙◌, subst, append_assoc}
 use Rattle.std.proofs.lemmas.List.{append-nil}
 use Rattle.std.specs.List.{AllByRecursion}
 use Rattle.dice_key.specs.Meaning.{Meaning}
@@ -7,16 +7,16 @@ use Rattle.dice_model.specs.Log.{Has}
 use Rattle.injected.specs.Seen.{Seen}
 use Rattle.journal.specs.declared.event.Told.{Told}
 use Rattle.journal.specs.declared.event.Told.TheVariants.{Start, Keep, End, Cyclic, Drop, Lost}
-use Rattle.journal.specs.Events.{open_count, ended_at}
+use Rattle.journal.specs.Events.{open_count}
 use Rattle.versioned_graph.specs.Entries.{Stored}
 use Rattle.core_laws.specs.Tasks.{Outcome}
-use Rattle.dice_core.specs.Commits.{CellsStand}
-use Rattle.dice_core.specs.Endings.{ComesOf, told_end}
-use Rattle.dice_core.specs.Entries.{EntriesStand}
+use Rattle.dice_steps.specs.Cells.{CellsStand}
+use Rattle.dice_tasks.specs.Endings.{ComesOf, told_end}
+use Rattle.dice_tasks.specs.Entries.{EntriesStand}
 use Rattle.dice_core.specs.Sessions.{SessionsSeen, SessionsStand, moves_sessions}
 use Rattle.dice_core.specs.Cores.{IsWorkAt, WorksOn}
-use Rattle.dice_core.proofs.EndsLemmas.{back_more}
-use Rattle.dice_core.proofs.EntriesLemmas.{stand_cyclic, stand_drop, stand_lost}
+use Rattle.dice_tasks.proofs.EndsLemmas.{back_more}
+use Rattle.dice_tasks.proofs.EntriesLemmas.{stand_cyclic, stand_drop, stand_lost}
 use Rattle.dice_core.proofs.SessionLemmas.{quiet_stands}
 
 -- what each event keeps stands after all of them
@@ -123,16 +123,6 @@ module _ {K V : Type 0} (v : ℕ) where
   pub all_given_up : (E : List (Told K V)) → AllByRecursion EndsSo E → AllByRecursion GivesUp E
   all_given_up [] a = tt
   all_given_up (e ∷ E) a = (given_up_so e a.0, all_given_up E a.1)
-
-  ended_so : (e : Told K V) (R : List (Told K V)) → EndsSo e → ended_at (e ∷ R) ≡ Some v
-  ended_so (Cyclic w k) R h = ap Some h
-  ended_so (Lost w k) R h = ap Some h
-  ended_so _ R h = absurd h
-
-  -- after some of them the cascade may follow
-  pub ended_after : (J E : List (Told K V)) (e : Told K V) → Has E e → AllByRecursion EndsSo E → ended_at (reverse (J ++ E)) ≡ Some v
-  ended_after J [] e h a = absurd h
-  ended_after J (d ∷ E) e h a = subst (λ X. ended_at (reverse X) ≡ Some v) (append_assoc J (d ∷ []) E) (along (λ R. ended_at R ≡ Some v) EndsSo (λ x R i p. ended_so x R i) (J ++ d ∷ []) E a.1 (subst (λ R. ended_at R ≡ Some v) (sym (back_more J d)) (ended_so d (reverse J) a.0)))
 
 -- drops
 module _ {K : Type 0} (V : Type 0) (v : ℕ) where

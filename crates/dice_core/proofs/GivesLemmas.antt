@@ -11,13 +11,13 @@ use Rattle.journal.specs.declared.event.Told.TheVariants.{Start, Keep, Drop}
 use Rattle.journal.specs.declared.event.Reason.TheVariants.{Differs}
 use Rattle.core_laws.specs.Tasks.{IsOut, IsWaiting, Outcome}
 use Rattle.core_laws.specs.Desk.{out_in}
-use Rattle.dice_core.specs.Batches.{IsOfMakes, IsGiven, IsToldOf, TakesUp, ending_events}
-use Rattle.dice_core.specs.Endings.{told_end}
+use Rattle.dice_steps.specs.Batches.{IsOfMakes, IsGiven, IsToldOf, TakesUp, ending_events}
+use Rattle.dice_tasks.specs.Endings.{told_end}
 use Rattle.dice_core.specs.Givings.{IsToldBy, Gives}
-use Rattle.dice_core.specs.Hands.{DeskSeen}
-use Rattle.dice_core.specs.Helds.{Held, held_of, held_ended}
-use Rattle.dice_core.specs.Makings.{held_run}
-use Rattle.dice_core.specs.Waitings.{IsTurned}
+use Rattle.dice_tasks.specs.Hands.{DeskSeen}
+use Rattle.dice_tasks.specs.Helds.{Held, held_of, held_ended}
+use Rattle.dice_tasks.specs.Makings.{held_run}
+use Rattle.dice_tasks.specs.Waitings.{IsTurned}
 use Rattle.dice_core.specs.Cores.{IsWorkAt}
 use Rattle.dice_core.proofs.EventLemmas.{GivesUp, all_tell, all_given_up, all_drops, all_both, all_works}
 

@@ -15,19 +15,19 @@ use Rattle.core_laws.specs.Tasks.{Phase, IsOut, IsReady, IsWaiting}
 use Rattle.core_laws.specs.Desk.{World, is_ready, out_in}
 use Rattle.core_laws.proofs.Counts.{has_last}
 use Rattle.dice_jobs.specs.Jobs.{Name, Assigned}
-use Rattle.dice_core.specs.AtHand.{AtHand}
-use Rattle.dice_core.specs.Commits.{CellsStand}
-use Rattle.dice_core.specs.Endings.{Knows, IsJobNamed}
-use Rattle.dice_core.specs.Entries.{EntriesStand}
-use Rattle.dice_core.specs.Hands.{DeskSeen, tasks_of, AreNamed, Working}
+use Rattle.dice_steps.specs.AtHand.{AtHand}
+use Rattle.dice_steps.specs.Cells.{CellsStand}
+use Rattle.dice_tasks.specs.Endings.{Knows, IsJobNamed}
+use Rattle.dice_tasks.specs.Entries.{EntriesStand}
+use Rattle.dice_tasks.specs.Hands.{DeskSeen, tasks_of, AreNamed, Working}
 use Rattle.std.specs.Prelude.{IfSome, IfNone}
-use Rattle.dice_core.specs.Helds.{Held, held_of, task_of}
+use Rattle.dice_tasks.specs.Helds.{Held, held_of, task_of}
 use Rattle.dice_core.specs.Sessions.{SessionsSeen, owed, SessionsStand}
-use Rattle.dice_core.specs.Waitings.{IsTurned, KeepsTable, TakesJob, ReturnsJob}
+use Rattle.dice_tasks.specs.Waitings.{IsTurned, KeepsTable, TakesJob, ReturnsJob}
 use Rattle.dice_core.specs.Cores.{CoreSeen, table_at, has_table, world_of, core_of, PutsTable, Turned, IsAsBefore, CoreStands, WorksOn}
 use Rattle.dice_core.proofs.TurnLemmas.{worked_stands}
 use Rattle.dice_core.proofs.CoreLemmas.{working_in, in_hand, open_by_task, put_back_so, stands_same, table_put, has_put}
-use Rattle.dice_core.proofs.EndsLemmas.{working_knows}
+use Rattle.dice_tasks.proofs.EndsLemmas.{working_knows}
 use Rattle.dice_core.proofs.OpeningLemmas.{same_sessions}
 
 module _ {K V : Type 0} where

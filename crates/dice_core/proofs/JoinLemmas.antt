@@ -28,22 +28,22 @@ use Rattle.core_laws.proofs.Opens.{there_open, open_within}
 use Rattle.core_laws.proofs.Shapes.{both_parts, not_both, same_or_other}
 use Rattle.core_laws.proofs.StepsAsks.{asked_stand}
 use Rattle.core_laws.proofs.StepsWanted.{all_wanted_on_ask}
-use Rattle.dice_core.specs.AtHand.{AtHand}
-use Rattle.dice_core.specs.Commits.{CellsStand}
+use Rattle.dice_steps.specs.AtHand.{AtHand}
+use Rattle.dice_steps.specs.Cells.{CellsStand}
 use Rattle.dice_core.specs.Cores.{IsWorkAt, WorksOn}
-use Rattle.dice_core.specs.Endings.{AreTasked}
-use Rattle.dice_core.specs.Entries.{EntriesStand}
-use Rattle.dice_core.specs.Hands.{DeskSeen, desk_of, tasks_of, seen_world, with_event, Stays, KeepsHands, KeepsDeskRoom, HasDeskRoom, Working}
-use Rattle.dice_core.specs.Helds.{Held, held_of, works as work_of}
+use Rattle.dice_tasks.specs.Endings.{AreTasked}
+use Rattle.dice_tasks.specs.Entries.{EntriesStand}
+use Rattle.dice_tasks.specs.Hands.{DeskSeen, desk_of, tasks_of, seen_world, with_event, Stays, KeepsHands, KeepsDeskRoom, HasDeskRoom, Working}
+use Rattle.dice_tasks.specs.Helds.{Held, held_of, works as work_of}
 use Rattle.dice_core.specs.Joinings.{KeepsAtHand, IsNewTask, AsksForKey, IsOpenAt}
-use Rattle.dice_core.specs.Makings.{IsFree, HasTask, IsOfMake, MayMake, IsMaking, CanMake, IsMade, MakesAlone}
-use Rattle.dice_core.specs.declared.make.Making.{Making}
-use Rattle.dice_core.specs.declared.make.Making.TheVariants.{Join, Match, Run, Check}
-use Rattle.dice_core.proofs.EndsLemmas.{back_more, same_tasks, same_table, working_knows}
-use Rattle.dice_core.proofs.EntriesLemmas.{stand_ask}
+use Rattle.dice_tasks.specs.Makings.{IsFree, HasTask, IsOfMake, MayMake, IsMaking, CanMake, IsMade, MakesAlone}
+use Rattle.dice_tasks.specs.declared.making.Making.{Making}
+use Rattle.dice_tasks.specs.declared.making.Making.TheVariants.{Join, Match, Run, Check}
+use Rattle.dice_tasks.proofs.EndsLemmas.{back_more, same_tasks, same_table, working_knows}
+use Rattle.dice_tasks.proofs.EntriesLemmas.{stand_ask}
 use Rattle.dice_core.proofs.EventLemmas.{cells_works, count_works}
-use Rattle.dice_core.proofs.MakeFrames.{can_make, made_has}
-use Rattle.dice_core.proofs.MakeLemmas.{idle_at_hand}
+use Rattle.dice_tasks.proofs.MakeFrames.{can_make, made_has}
+use Rattle.dice_tasks.proofs.MakeLemmas.{idle_at_hand}
 
 -- room for a promise is at a place
 pub place_of_room : {K T : Type 0} (eq : K → K → Bool) (ps : List (K × Share K T)) (k : K) → 0 < promise_room eq ps k → has_place eq ps k ≡ true

@@ -16,16 +16,16 @@ use Rattle.core_laws.proofs.Indices.{opened_counts}
 use Rattle.core_laws.proofs.Opens.{there_open}
 use Rattle.core_laws.proofs.StepsRests.{rests_open}
 use Rattle.dice_core.specs.Askings.{DropsAfter, StaysAtHand}
-use Rattle.dice_core.specs.AtHand.{AtHand}
-use Rattle.dice_core.specs.Commits.{CellsStand}
-use Rattle.dice_core.specs.Entries.{EntriesStand}
-use Rattle.dice_core.specs.Hands.{DeskSeen, desk_of, tasks_of, with_event, KeepsHands, KeepsDeskRoom, HasDeskRoom}
-use Rattle.dice_core.specs.Helds.{Held}
+use Rattle.dice_steps.specs.AtHand.{AtHand}
+use Rattle.dice_steps.specs.Cells.{CellsStand}
+use Rattle.dice_tasks.specs.Entries.{EntriesStand}
+use Rattle.dice_tasks.specs.Hands.{DeskSeen, desk_of, tasks_of, with_event, KeepsHands, KeepsDeskRoom, HasDeskRoom}
+use Rattle.dice_tasks.specs.Helds.{Held}
 use Rattle.dice_core.specs.Sessions.{SessionSeen, SessionsSeen, opened_of, session_at, transaction_at, ask_at, owed, IsSame, Leaves, SessionsStand}
 use Rattle.dice_core.specs.Cores.{table_at, has_table, world_of, core_of, PutsTable, Turned, IsAsBefore, KeepsTasksOf, CoreStands, WorksOn}
 use Rattle.dice_core.proofs.CoreLemmas.{in_hand, put_back_so}
-use Rattle.dice_core.proofs.EndsLemmas.{back_more}
-use Rattle.dice_core.proofs.EntriesLemmas.{stand_open}
+use Rattle.dice_tasks.proofs.EndsLemmas.{back_more}
+use Rattle.dice_tasks.proofs.EntriesLemmas.{stand_open}
 use Rattle.dice_core.proofs.EventLemmas.{all_drops, all_works, sessions_works, count_works}
 use Rattle.dice_core.proofs.SessionLemmas.{asking_opened}
 

@@ -17,8 +17,8 @@ use Rattle.core_laws.specs.Tasks.{Standing, Works, Ended, WithValue, WithCycle, 
 use Rattle.core_laws.specs.Stands.{CycleStands, lost_in_epoch, IsStanding, TaskStands}
 use Rattle.core_laws.proofs.Indices.{opened_counts}
 use Rattle.core_laws.proofs.StepsRests.{quiet_all}
-use Rattle.dice_core.specs.Hands.{desk_of}
-use Rattle.dice_core.specs.Helds.{Held, task_of}
+use Rattle.dice_tasks.specs.Hands.{desk_of}
+use Rattle.dice_tasks.specs.Helds.{Held, task_of}
 use Rattle.dice_core.specs.Sessions.{owed}
 use Rattle.version_epoch.specs.Standings.{open_count_of}
 use Rattle.dice_core.specs.Cores.{CoreSeen, Came, ToValue, ToCycle, ToNothing, Pending, Absent, decision_of, past_of, table_at, comes_to, held_to, injected_to, held_in, world_of, poll_of, CoreStands}

@@ -12,11 +12,11 @@ use Rattle.journal.specs.declared.event.Told.TheVariants.{Lost, Drop}
 use Rattle.versioned_graph.specs.Entries.{Stored}
 use Rattle.dice_jobs.specs.Jobs.{Assigned}
 use Rattle.core_laws.specs.Tasks.{Outcome, WithNothing}
-use Rattle.dice_core.specs.Endings.{told_end, GivesUpAll}
-use Rattle.dice_core.specs.Hands.{DeskSeen}
-use Rattle.dice_core.specs.Helds.{Held, held_ended}
+use Rattle.dice_tasks.specs.Endings.{told_end, GivesUpAll}
+use Rattle.dice_tasks.specs.Hands.{DeskSeen}
+use Rattle.dice_tasks.specs.Helds.{Held, held_ended}
 use Rattle.dice_core.specs.Sessions.{SessionsSeen}
-use Rattle.dice_core.specs.Waitings.{TakesJob}
+use Rattle.dice_tasks.specs.Waitings.{TakesJob}
 use Rattle.dice_core.specs.Cores.{table_at, core_of, PutsTable, Turned, TakesOut, DropsOnly, GivesUpOnly}
 use Rattle.dice_core.proofs.CoreLemmas.{table_put}
 use Rattle.dice_core.proofs.ResultLemmas.{takes_out}

@@ -16,17 +16,18 @@ use Rattle.versioned_graph.specs.Entries.{Stored}
 use Rattle.dice_jobs.specs.Jobs.{Assigned}
 use Rattle.core_laws.specs.Tasks.{IsOut}
 use Rattle.core_laws.proofs.StepsRests.{rests_commit}
-use Rattle.dice_core.specs.Commits.{Commits, SameSets, CellsStand, event_of}
-use Rattle.dice_core.specs.Hands.{DeskSeen, desk_of, KeepsHands, KeepsDeskRoom, KeepsWork}
-use Rattle.dice_core.specs.Helds.{Held, held_of}
+use Rattle.dice_core.specs.Commits.{Commits, SameSets, event_of}
+use Rattle.dice_steps.specs.Cells.{CellsStand}
+use Rattle.dice_tasks.specs.Hands.{DeskSeen, desk_of, KeepsHands, KeepsDeskRoom, KeepsWork}
+use Rattle.dice_tasks.specs.Helds.{Held, held_of}
 use Rattle.dice_core.specs.Sessions.{SessionsSeen, owed, SessionsStand}
-use Rattle.dice_core.specs.Entries.{EntriesStand}
+use Rattle.dice_tasks.specs.Entries.{EntriesStand}
 use Rattle.core_laws.specs.Desk.{Rests, AreAll, is_out}
-use Rattle.dice_core.specs.Waitings.{TakesJob}
+use Rattle.dice_tasks.specs.Waitings.{TakesJob}
 use Rattle.dice_core.specs.Cores.{table_at, world_of, core_of, PutsTable, IsAsBefore, CoreStands, TakesOut}
 use Rattle.dice_core.proofs.CoreLemmas.{stands_same, table_put}
-use Rattle.dice_core.proofs.EndsLemmas.{back_more}
-use Rattle.dice_core.proofs.EntriesLemmas.{stand_commit}
+use Rattle.dice_tasks.proofs.EndsLemmas.{back_more}
+use Rattle.dice_tasks.proofs.EntriesLemmas.{stand_commit}
 use Rattle.dice_core.proofs.OpeningLemmas.{same_sessions}
 use Rattle.dice_core.proofs.SessionLemmas.{quiet_stands, eqb_flips}
 

@@ -14,15 +14,15 @@ use Rattle.journal.specs.Events.{Opened, open_at, open_count}
 use Rattle.versioned_graph.specs.Entries.{Stored}
 use Rattle.core_laws.proofs.Indices.{opened_counts}
 use Rattle.core_laws.proofs.Opens.{there_open}
-use Rattle.dice_core.specs.AtHand.{AtHand}
-use Rattle.dice_core.specs.Hands.{DeskSeen}
-use Rattle.dice_core.specs.Helds.{Held}
+use Rattle.dice_steps.specs.AtHand.{AtHand}
+use Rattle.dice_tasks.specs.Hands.{DeskSeen}
+use Rattle.dice_tasks.specs.Helds.{Held}
 use Rattle.dice_core.specs.Joinings.{IsToldOfMake, AsksForKey, KeepsAtHand}
-use Rattle.dice_core.specs.Makings.{IsOfMake}
+use Rattle.dice_tasks.specs.Makings.{IsOfMake}
 use Rattle.dice_core.specs.Sessions.{SessionSeen, SessionsSeen, opened_of, session_at, owed, IsSame, SessionsStand}
 use Rattle.dice_core.specs.Cores.{table_at, world_of, core_of, PutsTable, Turned, IsAsBefore, CoreStands, IsWorkAt, WorksOn}
 use Rattle.dice_core.proofs.CoreLemmas.{in_hand, put_back_so, table_put, has_put}
-use Rattle.dice_core.proofs.EndsLemmas.{back_more}
+use Rattle.dice_tasks.proofs.EndsLemmas.{back_more}
 use Rattle.dice_core.proofs.EventLemmas.{sessions_works, count_works}
 
 module _ {K V : Type 0} (v : ℕ) (k : K) where

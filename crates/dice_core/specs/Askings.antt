@@ -9,9 +9,9 @@ use Rattle.journal.specs.declared.event.Told.TheVariants.{Drop}
 use Rattle.journal.specs.Events.{Asking, opened_at, live_at}
 use Rattle.versioned_graph.specs.Entries.{Stored}
 use Rattle.core_laws.specs.Desk.{World}
-use Rattle.dice_core.specs.Helds.{Held}
-use Rattle.dice_core.specs.Hands.{DeskSeen}
-use Rattle.dice_core.specs.AtHand.{AtHand}
+use Rattle.dice_tasks.specs.Helds.{Held}
+use Rattle.dice_tasks.specs.Hands.{DeskSeen}
+use Rattle.dice_steps.specs.AtHand.{AtHand}
 
 module _ {K V : Type 0} (eq : K → K → Bool) (m : Meaning K V) where
   -- a version may be in hand

@@ -8,11 +8,11 @@ use Rattle.journal.specs.declared.event.Told.{Told}
 use Rattle.journal.specs.Events.{Asking, live_at}
 use Rattle.versioned_graph.specs.Entries.{Stored}
 use Rattle.core_laws.specs.Desk.{World}
-use Rattle.dice_core.specs.Helds.{Held}
-use Rattle.dice_core.specs.Hands.{DeskSeen, Working}
-use Rattle.dice_core.specs.Endings.{AreTasked}
-use Rattle.dice_core.specs.Entries.{EntriesStand}
-use Rattle.dice_core.specs.Commits.{CellsStand}
+use Rattle.dice_tasks.specs.Helds.{Held}
+use Rattle.dice_tasks.specs.Hands.{DeskSeen, Working}
+use Rattle.dice_tasks.specs.Endings.{AreTasked}
+use Rattle.dice_tasks.specs.Entries.{EntriesStand}
+use Rattle.dice_steps.specs.Cells.{CellsStand}
 use Rattle.dice_core.specs.Sessions.{SessionsSeen, has_ask, Closing}
 
 module _ {K V : Type 0} (eq : K → K → Bool) (m : Meaning K V) where

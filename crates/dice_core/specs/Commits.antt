@@ -7,10 +7,9 @@ use Rattle.dice_key.specs.Meaning.{Meaning}
 use Rattle.dice_key.specs.declared.universe.Kind.TheVariants.{Injected}
 use Rattle.dice_model.specs.Log.{Has, AreDistinct}
 use Rattle.injected.specs.Seen.{Seen, sets_at, room_at, newest_at}
-use Rattle.injected.specs.Inputs.{AreOf, set_if}
+use Rattle.injected.specs.Inputs.{set_if}
 use Rattle.journal.specs.declared.event.Told.{Told}
 use Rattle.journal.specs.declared.event.Told.TheVariants.{Commit}
-use Rattle.journal.specs.Events.{commits_of}
 use Rattle.dice_core.specs.declared.commit.CommitRefusal.{CommitRefusal}
 use Rattle.dice_core.specs.declared.commit.CommitRefusal.TheVariants as refusal
 
@@ -87,8 +86,3 @@ module _ {K V : Type 0} (eq : K → K → Bool) where
     pub events : I ≡ J
     pub last : t.last ≡ s.last
     pub sets : SameSets eq s t
-
-  -- the cells are those of the commits of R, a journal backwards, and the newest version is their number
-  pub record CellsStand (R : List (Told K V)) (s : Seen K V) : Type 0 where
-    pub are : AreOf eq (commits_of R) s
-    pub newest : s.last ≡ length (commits_of R)

@@ -17,10 +17,11 @@ use Rattle.versioned_graph.specs.Entries.{Stored}
 use Rattle.dice_jobs.specs.Jobs.{Name, Assigned}
 use Rattle.core_laws.specs.Tasks.{IsReady, IsOut, WithValue, WithCycle, WithNothing, Standing, Works, Ended}
 use Rattle.core_laws.specs.Desk.{World, Rests, AreAll, is_out}
-use Rattle.dice_core.specs.Commits.{SameSets, CellsStand}
-use Rattle.dice_core.specs.Entries.{EntriesStand}
-use Rattle.dice_core.specs.Hands.{DeskSeen, desk_of, KeepsHands, KeepsDeskRoom, AreNamed, tasks_of}
-use Rattle.dice_core.specs.Helds.{Held, held_of, held_ended}
+use Rattle.dice_core.specs.Commits.{SameSets}
+use Rattle.dice_steps.specs.Cells.{CellsStand}
+use Rattle.dice_tasks.specs.Entries.{EntriesStand}
+use Rattle.dice_tasks.specs.Hands.{DeskSeen, desk_of, KeepsHands, KeepsDeskRoom, AreNamed, tasks_of}
+use Rattle.dice_tasks.specs.Helds.{Held, held_of, held_ended}
 use Rattle.dice_core.specs.Sessions.{SessionsSeen, owed, IsSame, SessionsStand}
 use Rattle.dice_core.specs.declared.polled.Polled.{Polled}
 use Rattle.dice_core.specs.declared.polled.Polled.TheVariants as polled

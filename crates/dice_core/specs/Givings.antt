@@ -8,9 +8,9 @@ use Rattle.journal.specs.declared.event.Told.{Told}
 use Rattle.journal.specs.declared.event.Told.TheVariants.{Start, Keep, End}
 use Rattle.journal.specs.declared.event.Reason.TheVariants.{Differs}
 use Rattle.core_laws.specs.Tasks.{IsOut, Outcome as Ended}
-use Rattle.dice_core.specs.Helds.{Held, held_of}
-use Rattle.dice_core.specs.Hands.{DeskSeen}
-use Rattle.dice_core.specs.Batches.{LeavesOut, IsOfMakes, ending_events}
+use Rattle.dice_tasks.specs.Helds.{Held, held_of}
+use Rattle.dice_tasks.specs.Hands.{DeskSeen}
+use Rattle.dice_steps.specs.Batches.{LeavesOut, IsOfMakes, ending_events}
 use Rattle.dice_core.specs.Cores.{IsWorkAt}
 use Rattle.dice_core.specs.declared.giving.Gave.{Gave}
 use Rattle.dice_core.specs.declared.giving.Gave.TheVariants.{Taken, Stale}

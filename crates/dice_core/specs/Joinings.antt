@@ -9,10 +9,10 @@ use Rattle.journal.specs.Events.{Opened, open_at}
 use Rattle.versioned_graph.specs.Entries.{Stored}
 use Rattle.core_laws.specs.Tasks.{Ended, WithValue}
 use Rattle.core_laws.specs.Desk.{World, ready_in}
-use Rattle.dice_core.specs.Helds.{Held}
-use Rattle.dice_core.specs.Hands.{DeskSeen, Stays, KeepsHands, KeepsDeskRoom}
-use Rattle.dice_core.specs.AtHand.{AtHand}
-use Rattle.dice_core.specs.Makings.{IsFree, IsOfMake}
+use Rattle.dice_tasks.specs.Helds.{Held}
+use Rattle.dice_tasks.specs.Hands.{DeskSeen, Stays, KeepsHands, KeepsDeskRoom}
+use Rattle.dice_steps.specs.AtHand.{AtHand}
+use Rattle.dice_tasks.specs.Makings.{IsFree, IsOfMake}
 
 module _ {K V : Type 0} (eq : K → K → Bool) where
   -- all that is seen of the tasks and of the desk is as before; there may be more room

@@ -4,10 +4,8 @@ ghost use Rattle.std.specs.Arc.{arc_value};
 ghost use Rattle.dice_key.specs.declared.universe.Kind.TheVariants.{Injected};
 ghost use Rattle.dice_core.specs.Joinings.{KeepsAtHand, AsksForKey, IsOpenAt, MayBeWith, OwesOneMore};
 
-use crate::Tasks;
-use crate::desk::Desk;
-use crate::make::{make, prepare};
 use dice_key::{KeyRef, Kind, NoMemory, Universe, laws_of};
+use dice_tasks::{Desk, Tasks, make, prepare};
 use journal::Event;
 use std::alloc::Global;
 use std::sync::Arc;

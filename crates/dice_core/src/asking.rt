@@ -4,10 +4,8 @@ ghost use Rattle.std.specs.Arc.{arc_value};
 ghost use Rattle.journal.specs.declared.event.Told.TheVariants.{Leave};
 ghost use Rattle.dice_core.specs.Askings.{MayBeAtHand, StaysAtHand, IsAskAt, DropsAfter};
 
-use crate::Tasks;
-use crate::desk::Desk;
-use crate::end::cascade;
 use dice_key::{KeyRef, Universe, laws_of};
+use dice_tasks::{Desk, Tasks, cascade};
 use journal::Event;
 use task_share::Asker;
 

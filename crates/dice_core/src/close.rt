@@ -8,15 +8,13 @@ ghost use Rattle.journal.specs.Events.{Opened, open_at, open_count};
 ghost use Rattle.versioned_graph.specs.Entries.{Stored};
 ghost use Rattle.core_laws.specs.Desk.{World};
 ghost use Rattle.dice_core.specs.Askings.{MayBeAtHand, DropsAfter};
-ghost use Rattle.dice_core.specs.AtHand.{AtHand};
+ghost use Rattle.dice_steps.specs.AtHand.{AtHand};
 ghost use Rattle.dice_core.specs.Closings.{LeftHand, ArePromised, TakesPromise, TakesPromises};
 ghost use Rattle.dice_core.specs.Sessions.{has_ask, asks_in, owed, opened_of, Closing, SessionsStand};
 
-use crate::Tasks;
-use crate::desk::Desk;
-use crate::end::cascade;
 use crate::sessions::{Session, Sessions};
 use dice_key::{Universe, laws_of};
+use dice_tasks::{Desk, Tasks, cascade};
 use journal::Event;
 use task_share::Asker;
 

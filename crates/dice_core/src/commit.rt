@@ -6,11 +6,13 @@ ghost use Rattle.std.specs.Map.{keys_of};
 ghost use Rattle.dice_model.specs.Log.{AreDistinct, pairs_of};
 ghost use Rattle.injected.specs.Inputs.{AreOf};
 ghost use Rattle.journal.specs.Law.{IsAllowed, IsLawfulJournal};
-ghost use Rattle.dice_core.specs.Hands.{KeepsWork};
-ghost use Rattle.dice_core.specs.Commits.{Fault, fault_of, AreSettable, IsFirstFault, differing_of, HaveRoom, SameSets, AreSet, event_of, Commits, IsAsBefore, CellsStand};
+ghost use Rattle.dice_tasks.specs.Hands.{KeepsWork};
+ghost use Rattle.dice_core.specs.Commits.{Fault, fault_of, AreSettable, IsFirstFault, differing_of, HaveRoom, SameSets, AreSet, event_of, Commits, IsAsBefore};
+ghost use Rattle.dice_steps.specs.Cells.{CellsStand};
 
-use crate::desk::Desk;
 use dice_key::{KeyRef, Kind, NoMemory, Universe, ValueRef, Version, laws_of};
+use dice_steps::note;
+use dice_tasks::Desk;
 use injected::{Cells, cells_are_the_inputs, cells_in_order};
 use journal::{Changes, Event};
 use std::alloc::Global;
@@ -54,17 +56,6 @@ pub(crate) fn check_changes<'a, U: Universe>(
         }
     }
     Ok(())
-}
-
-/// Adds a key to those that were seen; whether it is new there.
-pub(crate) fn note<K: Eq + Hash + Drop>(
-    seen: &mut HashSet<Arc<K>>,
-    key: &Arc<K>,
-) -> Result<bool, NoMemory>
-    ensures added { IfOk result (λ is_new. is_new ≡ not (list_any (λ k. K.eq (arc_value key.now) (arc_value k)) seen.old.keys)) }
-    ensures seen { OnOk result ((q : K) → list_any (λ k. K.eq q (arc_value k)) seen.new.keys ≡ (if K.eq (arc_value key.now) q then true else list_any (λ k. K.eq q (arc_value k)) seen.old.keys)) }
-{
-    Ok(seen.insert(Arc::try_clone(key)?)?)
 }
 
 /// The changes whose value is not the key's newest one, in order, shared.

@@ -5,23 +5,21 @@ ghost use Rattle.task_share.specs.Seen.{task_at, is_live};
 ghost use Rattle.journal.specs.Events.{commits_of};
 ghost use Rattle.dice_jobs.specs.Jobs.{Assigned};
 ghost use Rattle.core_laws.specs.Tasks.{IsOut};
-ghost use Rattle.dice_core.specs.Helds.{held_of};
-ghost use Rattle.dice_core.specs.Waitings.{TakesJob, ReturnsJob};
+ghost use Rattle.dice_tasks.specs.Helds.{held_of};
+ghost use Rattle.dice_tasks.specs.Waitings.{TakesJob, ReturnsJob};
 ghost use Rattle.injected.specs.Seen.{Seen};
 ghost use Rattle.versioned_graph.specs.Entries.{Stored};
 ghost use Rattle.core_laws.specs.Desk.{World};
-ghost use Rattle.dice_core.specs.AtHand.{AtHand};
+ghost use Rattle.dice_steps.specs.AtHand.{AtHand};
 ghost use Rattle.dice_core.specs.Askings.{MayBeAtHand};
-ghost use Rattle.dice_core.specs.Endings.{path_of, ReachesPath, GivesUpAll, IsJobNamed};
+ghost use Rattle.dice_tasks.specs.Endings.{path_of, ReachesPath, GivesUpAll, IsJobNamed};
 ghost use Rattle.dice_core.specs.Cores.{table_at, core_of, Turned, IsAsBefore, MayStand, StandsOn};
 ghost use Rattle.dice_core.specs.Sessions.{SessionsSeen};
 
-use crate::Tasks;
-use crate::desk::Desk;
-use crate::end::{How, cascade, end_all};
-use crate::wait::{put_back, take};
 use dice_jobs::{Job, JobName};
-use dice_key::{KeyRef, Universe, laws_of};
+use dice_key::{Universe, laws_of};
+use dice_steps::give_up;
+use dice_tasks::{Desk, How, Tasks, put_back, take};
 use std::collections::HashMap;
 
 /// Takes the job of the ready task that is to be taken next; `None` exactly where no task is ready. It takes no memory.
@@ -111,24 +109,4 @@ fn is_name_out<U: Universe>(tasks: &Tasks<U>, name: &JobName<U>) -> bool
         Some(own) => task.is_out() && own.name().is_same(name),
         None => false,
     }
-}
-
-/// Ends the task at work of a key and all that wait for it, as lost or with a circle that the key reaches; then the tasks at work that
-/// nobody asks for any more are dropped. It takes no memory.
-pub(crate) fn give_up<U: Universe>(
-    desk: &mut Desk<U>,
-    tasks: &mut Tasks<U>,
-    version: u64,
-    key: &KeyRef<U>,
-    how: &How<'_, U::Key>,
-)
-    requires hand { (owed : ℕ) × MayBeAtHand U.Key.eq U.meaning version owed tasks.old desk.old }
-    requires live { is_live U.Key.eq tasks.old (arc_value key.now) ≡ true }
-    requires reached { ReachesPath U.Key.eq U.meaning (path_of how.now) (commits_of (reverse desk.old.events)) version (arc_value key.now) }
-    ensures ends { GivesUpAll U.Key.eq version (path_of how.now) (arc_value key.now) tasks.old tasks.new desk.old desk.new }
-    ensures kept { (w : World U.Key U.Value) (owed : ℕ) (es : List (U.Key × Stored U.Key U.Value)) (s : Seen U.Key U.Value) → AtHand U.Key.eq U.meaning version w owed tasks.old desk.old es s → AtHand U.Key.eq U.meaning version w owed tasks.new desk.new es s }
-{
-    laws_of::<U>();
-    end_all::<U>(desk, tasks, version, key, how);
-    cascade::<U>(desk, tasks, version);
 }

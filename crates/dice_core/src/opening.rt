@@ -11,13 +11,12 @@ ghost use Rattle.versioned_graph.specs.Entries.{Stored};
 ghost use Rattle.injected.specs.Seen.{Seen};
 ghost use Rattle.dice_core.specs.Sessions.{SessionsSeen};
 
-use crate::Tasks;
 use crate::ask::ask_key;
 use crate::asking::leave_promise;
 use crate::close::close_asks;
-use crate::desk::Desk;
 use crate::sessions::Sessions;
 use dice_key::{KeyRef, NoMemory, Universe, Version, laws_of};
+use dice_tasks::{Desk, Tasks};
 use journal::Event;
 use std::alloc::Global;
 use std::collections::HashMap;

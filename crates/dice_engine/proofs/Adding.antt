@@ -10,10 +10,11 @@ use Rattle.journal.specs.declared.event.Told.TheVariants.{Commit, Open, Close, A
 use Rattle.journal.specs.Events.{Opened, Asking, open_at, live_at}
 use Rattle.journal.specs.Law.{IsLawfulJournal}
 use Rattle.journal.specs.Tell.{event_by}
-use Rattle.dice_core.specs.Commits.{differing_of, event_of, CellsStand}
+use Rattle.dice_core.specs.Commits.{differing_of, event_of}
+use Rattle.dice_steps.specs.Cells.{CellsStand}
 use Rattle.dice_core.specs.Cores.{IsWorkAt}
 use Rattle.dice_core.specs.Joinings.{IsToldOfMake}
-use Rattle.dice_core.specs.Makings.{IsOfMake}
+use Rattle.dice_tasks.specs.Makings.{IsOfMake}
 use Rattle.dice_engine.specs.Turns.{log_of, newest_in, AreBy, AreOfTasks, WorksOn, Adds}
 use Rattle.dice_engine.specs.Calls.{AddsNothing, AreDrops, Opens, Closes, Asks, Leaves, differs_from, differing_from, Commits}
 

@@ -197,3 +197,8 @@ module _ {K V : Type 0} (eq : K → K → Bool) (m : Meaning K V) where
   pub work_later : (old mid new : SeatView (Told K V)) → Works eq m old mid → Turn eq m mid new (λ found own work. own ≡ []) → Later eq m old new × (new.mine ≡ old.mine)
   work_later old mid new rests t = (t.later, same_mine old new t)
   work_later old mid new (works w u) t = let r = work_later old _ mid w u in (later_later old mid new r.0 t.later, same_mine mid new t ∙ r.1)
+
+  -- works after works
+  pub works_both : (a b c : SeatView (Told K V)) → Works eq m a b → Works eq m b c → Works eq m a c
+  works_both a b c w rests = w
+  works_both a b c w (works {mid} u t) = works (works_both a b mid w u) t

@@ -1,12 +1,12 @@
 //! The calls of an engine that do jobs.
-ghost use Rattle.std.specs.Prelude.{◌≡◌, [], IfNone};
+ghost use Rattle.std.specs.Prelude.{◌≡◌, [], IfSome, IfNone};
 ghost use Rattle.std.specs.Arc.{arc_value};
 ghost use Rattle.turnstile.specs.Seats.{IsSeatOf};
 ghost use Rattle.dice_engine.specs.declared.promise.Worked.TheVariants as worked;
 ghost use Rattle.dice_engine.specs.Turns.{Turn, Works, Later};
 ghost use Rattle.dice_engine.specs.Conditions.{SawAsk};
 ghost use Rattle.dice_engine.specs.Calls.{AddsNothing};
-ghost use Rattle.dice_engine.specs.Replies.{settled_of, IsReply};
+ghost use Rattle.dice_engine.specs.Replies.{reply_of, settled_of, IsReply};
 
 use crate::engine::{Engine, Seat};
 use crate::gate::Gate;
@@ -80,11 +80,8 @@ impl<U: Universe> Engine<U> {
     {
         let backoff = Backoff::new();
         for _ in rt.forever() {
-            match self.poll(rt, seat, promise)? {
-                Answer::Value(value) => return Ok(Settled::Value(value)),
-                Answer::Cycle(path) => return Ok(Settled::Cycle(path)),
-                Answer::Gone => return Ok(Settled::Gone),
-                Answer::Pending => {}
+            if let Some(settled) = settled(self.poll(rt, seat, promise)) {
+                return settled;
             }
             match self.work(rt, seat, gate, worker) {
                 Worked::Did => backoff.reset(),
@@ -92,5 +89,20 @@ impl<U: Universe> Engine<U> {
             }
         }
         unreachable!()
+    }
+}
+
+/// What a promise has come to, where it is not pending.
+fn settled<U: Universe>(
+    answer: Result<Answer<U>, NoMemory>,
+) -> Option<Result<Settled<U>, NoMemory>>
+    ensures { IfSome result (λ s. settled_of s ≡ reply_of answer) }
+{
+    match answer {
+        Ok(Answer::Pending) => None,
+        Ok(Answer::Value(value)) => Some(Ok(Settled::Value(value))),
+        Ok(Answer::Cycle(path)) => Some(Ok(Settled::Cycle(path))),
+        Ok(Answer::Gone) => Some(Ok(Settled::Gone)),
+        Err(NoMemory) => Some(Err(NoMemory)),
     }
 }

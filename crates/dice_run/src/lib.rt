@@ -20,4 +20,6 @@ pub use run_of::run;
 pub use status::Status;
 
 #[cfg(test)]
+mod core_tests;
+#[cfg(test)]
 mod tests;

@@ -28,8 +28,8 @@ const MOST: usize = 4_194_305;
 ///
 /// The status says how it ended, and is tested in this order: words, reading, length, grammar, running, writing; want of memory
 /// comes where it is met, before anything is written. At most 4,194,305 bytes are read, and at most 65,536 asked for in one
-/// call; the whole rest of the output is handed to the sink in each call, and no memory is taken once it is built. The runtime
-/// and the gate serve workers, which are not there yet.
+/// call; the whole rest of the output is handed to the sink in each call, and no memory is taken once it is built. The gate
+/// serves workers, which are not there yet.
 pub fn run<R: Threads + Wait, S: Source, K: Sink, G: Gate>(
     rt: &R,
     alloc: Global,

@@ -220,7 +220,7 @@ fn hostile_target_files(rt: HostRuntime) -> Result<(), Fail> {
             b"commit 1\nopen t 1\nr 1 fault bad-file a/BUCK 1\n",
         ),
         (
-            b"put a/BUCK 25\nexport_file(name = \"x\")\n\ncommit\nopen t\nask t r //a:x\n",
+            b"put a/BUCK 25\n\x0cexport_file(name = \"x\")\n\ncommit\nopen t\nask t r //a:x\n",
             0,
             b"commit 1\nopen t 1\nr 1 fault bad-file a/BUCK 1\n",
         ),

@@ -1,8 +1,5 @@
-use Rattle.std.proofs.Common.{◌≡◌, ◌≤◌, ◌∙◌, ℕ, sym, ap, refl, List, [], ◌∷◌, ◌++◌, length, drop, map, min, Result, Ok, zero, suc, arith, append-nil, Bool}
-use Rattle.std.specs.Arc.{arc_value}
+use Rattle.std.proofs.Common.{◌≡◌, ◌∙◌, length, min}
 use Rattle.std.proofs.lemmas.Slice.Zip.{zip_end}
-use Rattle.action_digest.specs.declared.fault.Fault.{Fault}
-use Rattle.action_digest.specs.Actions.{behind, lines_by}
 use Rattle.action_digest.proofs.Endings.{no_lines}
 use Rattle.action_digest.proofs.action.with_lines.Goals as goal
 

@@ -1,4 +1,4 @@
-use Rattle.std.proofs.Common.{◌≡◌, ◌<◌, ◌∙◌, ◌++◌, List, ℕ, [], length, take, drop, get_or, sym, ap, subst}
+use Rattle.std.proofs.Common.{◌≡◌, ◌<◌, ◌∙◌, List, ℕ, [], length, get_or, ap, subst}
 use Rattle.std.specs.List.{AllByRecursion}
 use Rattle.action_digest.specs.Cycles.{labels_of, IsAtMost}
 use Rattle.action_digest.proofs.Turning.{from_least_of, leads_least}

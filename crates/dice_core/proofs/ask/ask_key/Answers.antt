@@ -1,8 +1,8 @@
 use Rattle.std.proofs.Common.{◌+◌, refl, sym, ap, ◌∙◌, subst}
 use Rattle.std.specs.Arc.{arc_value}
 use Rattle.journal.specs.declared.event.Told.TheVariants.{Ask}
-use Rattle.dice_core.specs.AtHand.{AtHand}
-use Rattle.dice_core.specs.Hands.{with_event}
+use Rattle.dice_steps.specs.AtHand.{AtHand}
+use Rattle.dice_tasks.specs.Hands.{with_event}
 use Rattle.dice_core.proofs.CloseLemmas.{keeps_on}
 use Rattle.dice_core.proofs.JoinLemmas.{kept_room, hand_injected, can_make_there, hand_made, asks_made}
 use Rattle.dice_core.proofs.ask.ask_key.Goals as goal

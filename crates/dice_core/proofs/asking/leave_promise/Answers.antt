@@ -6,10 +6,10 @@ use Rattle.task_share.specs.Seen.{asks}
 use Rattle.journal.specs.declared.event.Told.TheVariants.{Leave, Drop}
 use Rattle.journal.specs.Events.{ended_at}
 use Rattle.core_laws.proofs.Shapes.{both_parts}
-use Rattle.dice_core.specs.Hands.{DeskSeen, Cleaning}
-use Rattle.dice_core.specs.Endings.{DropsTasks}
+use Rattle.dice_tasks.specs.Hands.{DeskSeen, Cleaning}
+use Rattle.dice_tasks.specs.Endings.{DropsTasks}
 use Rattle.dice_core.proofs.AskingLemmas.{left_cleaning, left_tasked, in_hand_again}
-use Rattle.dice_core.proofs.EntriesLemmas.{stand_leave}
+use Rattle.dice_tasks.proofs.EntriesLemmas.{stand_leave}
 use Rattle.dice_core.proofs.asking.leave_promise.Goals as goal
 
 pub cascade-requires-clause-cleaning : goal.cascade-requires-clause-cleaning

@@ -3,8 +3,8 @@ use Rattle.journal.specs.declared.event.Told.TheVariants.{Close}
 use Rattle.journal.specs.Events.{ended_at}
 use Rattle.core_laws.proofs.Shapes.{both_parts}
 use Rattle.dice_core.specs.Sessions.{owed}
-use Rattle.dice_core.specs.Hands.{DeskSeen, with_event, Cleaning}
-use Rattle.dice_core.specs.Endings.{DropsTasks}
+use Rattle.dice_tasks.specs.Hands.{DeskSeen, with_event, Cleaning}
+use Rattle.dice_tasks.specs.Endings.{DropsTasks}
 use Rattle.dice_core.proofs.AskingLemmas.{left_tasked}
 use Rattle.dice_core.proofs.CloseLemmas.{promised_here, closed_cleaning, closed_log, closed_sessions, closed_counts, left_again}
 use Rattle.dice_core.proofs.close.close_asks.Goals as goal

@@ -7,8 +7,9 @@ use Rattle.std.proofs.Common.{◌+◌, take, drop}
 use Rattle.dice_key.specs.declared.universe.Kind.TheVariants.{Injected}
 use Rattle.dice_model.specs.Log.{pairs_of}
 use Rattle.dice_core.specs.Commits.{NotInjected, Twice, AreSettable, IsFirstFault}
-use Rattle.dice_core.proofs.SeenLemmas.{was_seen, was_new}
-use Rattle.dice_core.proofs.CommitLemmas.{AreSeen, keys_more, keys_split, any_has, has_any, settable_more, settable_has_none, one_fault, seen_more}
+use Rattle.dice_steps.proofs.SeenLemmas.{was_seen, was_new}
+use Rattle.dice_core.proofs.CommitLemmas.{keys_more, keys_split, settable_more, settable_has_none, one_fault}
+use Rattle.dice_steps.proofs.NotedLemmas.{AreSeen, any_has, has_any, seen_more}
 use Rattle.dice_core.proofs.commit.check_changes.Goals as goal
 
 pub returns-in_default : goal.returns-in_default

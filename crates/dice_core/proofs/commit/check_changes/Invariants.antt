@@ -2,7 +2,7 @@ use Rattle.std.proofs.Common.{take}
 use Rattle.std.specs.Map.{keys_of}
 use Rattle.dice_model.specs.Log.{pairs_of}
 use Rattle.dice_core.specs.Commits.{AreSettable}
-use Rattle.dice_core.proofs.CommitLemmas.{AreSeen}
+use Rattle.dice_steps.proofs.NotedLemmas.{AreSeen}
 use Rattle.dice_core.proofs.commit.check_changes.Given as goal
 
 -- the keys so far are injected and distinct, and they are those that were seen

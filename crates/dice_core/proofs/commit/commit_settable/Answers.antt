@@ -5,8 +5,9 @@ use Rattle.std.proofs.lemmas.List.{length-map}
 use Rattle.dice_model.specs.Log.{AreDistinct, pair_of, pairs_of}
 use Rattle.journal.specs.declared.event.Told.TheVariants.{Commit}
 use Rattle.dice_core.specs.Commits.{differs, differing_of}
-use Rattle.dice_core.specs.Hands.{DeskSeen}
-use Rattle.dice_core.proofs.CommitLaws.{distinct_left, not_empty, committed}
+use Rattle.dice_tasks.specs.Hands.{DeskSeen}
+use Rattle.dice_core.proofs.CommitLaws.{distinct_left, committed}
+use Rattle.dice_steps.proofs.NotedLemmas.{not_empty}
 use Rattle.dice_core.proofs.commit.commit_settable.Goals as goal
 
 pub set_cells-requires-clause-distinct : goal.set_cells-requires-clause-distinct

@@ -4,10 +4,10 @@ use Rattle.journal.specs.declared.event.Told.TheVariants.{Start}
 use Rattle.journal.specs.declared.event.Reason.TheVariants.{Differs}
 use Rattle.dice_jobs.specs.Jobs.{Checks}
 use Rattle.core_laws.specs.Tasks.{IsOut}
-use Rattle.dice_core.specs.AtHand.{AtHand}
-use Rattle.dice_core.specs.Helds.{held_of}
-use Rattle.dice_core.specs.Makings.{held_run}
-use Rattle.dice_core.specs.Waitings.{IsTurned}
+use Rattle.dice_steps.specs.AtHand.{AtHand}
+use Rattle.dice_tasks.specs.Helds.{held_of}
+use Rattle.dice_tasks.specs.Makings.{held_run}
+use Rattle.dice_tasks.specs.Waitings.{IsTurned}
 use Rattle.dice_core.proofs.GivesLemmas.{always_ok, begun_gives}
 use Rattle.dice_core.proofs.ResultLemmas.{newest_below, both_ok, on_ok}
 use Rattle.dice_core.proofs.giving.end_or_differ.Goals as goal

@@ -3,9 +3,9 @@ use Rattle.std.specs.Prelude.{IsSome}
 use Rattle.std.specs.Map.{lookup}
 use Rattle.std.specs.Option.{option_copied_mut}
 use Rattle.core_laws.specs.Tasks.{IsOut}
-use Rattle.dice_core.specs.AtHand.{AtHand}
+use Rattle.dice_steps.specs.AtHand.{AtHand}
 use Rattle.dice_core.specs.Givings.{stale_of}
-use Rattle.dice_core.specs.Helds.{held_of}
+use Rattle.dice_tasks.specs.Helds.{held_of}
 use Rattle.dice_core.specs.Cores.{PutsTable, world_of, table_at}
 use Rattle.dice_core.proofs.ClosedLemmas.{given_ok, gives_works}
 use Rattle.dice_core.proofs.JobsLemmas.{table_found, none_held, hand_there}

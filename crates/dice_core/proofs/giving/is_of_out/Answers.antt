@@ -1,7 +1,7 @@
 use Rattle.std.proofs.Common.{◌≡◌, sym, ap, ◌∙◌}
 use Rattle.std.specs.Option.{option_copied}
 use Rattle.core_laws.specs.Tasks.{IsOut}
-use Rattle.dice_core.specs.Helds.{held_of}
+use Rattle.dice_tasks.specs.Helds.{held_of}
 use Rattle.dice_core.proofs.JobsLemmas.{held_found, held_missing, found_iff, none_iff}
 use Rattle.dice_core.proofs.giving.is_of_out.Goals as goal
 

@@ -3,8 +3,8 @@ use Rattle.std.specs.Prelude.{IsSome}
 use Rattle.std.specs.Map.{lookup}
 use Rattle.std.specs.Option.{option_copied_mut}
 use Rattle.core_laws.specs.Tasks.{IsOut}
-use Rattle.dice_core.specs.Helds.{held_of}
-use Rattle.dice_core.specs.Endings.{Knows}
+use Rattle.dice_tasks.specs.Helds.{held_of}
+use Rattle.dice_tasks.specs.Endings.{Knows}
 use Rattle.dice_core.proofs.JobsLemmas.{table_found, none_held, knows_at, back_stands, back_same_core, back_turned, unchanged, back_events}
 use Rattle.dice_core.specs.Cores.{core_of, PutsTable, IsAsBefore}
 use Rattle.dice_core.proofs.jobs_out.bring_back.Goals as goal

@@ -5,8 +5,8 @@ use Rattle.std.specs.Option.{option_copied_mut}
 use Rattle.std.specs.Arc.{arc_value}
 use Rattle.task_share.specs.Seen.{task_at}
 use Rattle.core_laws.specs.Tasks.{IsOut}
-use Rattle.dice_core.specs.Helds.{held_of}
-use Rattle.dice_core.specs.Endings.{GivesUpAll}
+use Rattle.dice_tasks.specs.Helds.{held_of}
+use Rattle.dice_tasks.specs.Endings.{GivesUpAll}
 use Rattle.dice_core.specs.Sessions.{owed}
 use Rattle.dice_core.specs.Cores.{PutsTable, world_of, table_at}
 use Rattle.dice_core.proofs.GivingUp.{given_up_works}
@@ -23,7 +23,7 @@ give_up-requires-clause-hand g c κs within =
     let out = c.if-not-is_out_among.ensures.0 refl in
     let known : lookup (nat_eq v) ts ≡ Some c.in-Some.tasks.now = sym c.get_mut.ensures.value ∙ ap option_copied_mut c.in-Some.is in
     let there : task_at eq (table_at ts v) n.key ≡ Some (held_of out.0 IsOut) = ap (λ z. task_at eq (table_at ts z) n.key) c.version-version.ensures ∙ out.1 in
-    (owed r.2, (world_of eq ts, r.0, r.1, hand_there eq c.laws_of.ensures.keys g.U.Universe.meaning c.laws_of.ensures.lawful c.args.desk.now ts r.0 r.1 r.2 r.3 v n.key (held_of out.0 IsOut) c.in-Some.tasks.now (table_found ts v c.in-Some.tasks.now known) there))
+    (world_of eq ts, owed r.2, r.0, r.1, hand_there eq c.laws_of.ensures.keys g.U.Universe.meaning c.laws_of.ensures.lawful c.args.desk.now ts r.0 r.1 r.2 r.3 v n.key (held_of out.0 IsOut) c.in-Some.tasks.now (table_found ts v c.in-Some.tasks.now known) there)
 
 pub returns-clause-failed : goal.returns-clause-failed
 returns-clause-failed g c = λ t.

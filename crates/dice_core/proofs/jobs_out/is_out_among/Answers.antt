@@ -2,8 +2,8 @@ use Rattle.std.proofs.Common.{◌≡◌, ◌↔◌, IsTrue, nat_eq, true, false,
 use Rattle.std.specs.Map.{lookup}
 use Rattle.std.specs.Option.{option_copied}
 use Rattle.core_laws.specs.Tasks.{IsOut}
-use Rattle.dice_core.specs.Helds.{held_of}
-use Rattle.dice_core.specs.Endings.{IsJobNamed}
+use Rattle.dice_tasks.specs.Helds.{held_of}
+use Rattle.dice_tasks.specs.Endings.{IsJobNamed}
 use Rattle.dice_core.proofs.JobsLemmas.{table_found, none_held}
 use Rattle.dice_core.proofs.jobs_out.is_out_among.Goals as goal
 

@@ -3,7 +3,7 @@ use Rattle.std.specs.Prelude.{IsSome}
 use Rattle.std.specs.Map.{lookup}
 use Rattle.std.specs.Option.{option_copied_mut}
 use Rattle.std.specs.Arc.{arc_value}
-use Rattle.dice_core.specs.Hands.{Working, AreNamed}
+use Rattle.dice_tasks.specs.Hands.{Working, AreNamed}
 use Rattle.dice_core.specs.Sessions.{owed}
 use Rattle.dice_core.specs.Cores.{world_of}
 use Rattle.dice_core.proofs.CoreLemmas.{working_in}

@@ -5,7 +5,7 @@ use Rattle.std.specs.Option.{option_copied, option_copied_mut}
 use Rattle.journal.specs.declared.event.Told.TheVariants.{Leave}
 use Rattle.core_laws.proofs.Indices.{opened_counts}
 use Rattle.dice_core.specs.Askings.{DropsAfter, StaysAtHand}
-use Rattle.dice_core.specs.AtHand.{AtHand}
+use Rattle.dice_steps.specs.AtHand.{AtHand}
 use Rattle.dice_core.specs.Sessions.{owed}
 use Rattle.dice_core.specs.Cores.{world_of}
 use Rattle.dice_core.proofs.JobsLemmas.{table_found, none_found}

@@ -1,6 +1,6 @@
 use Rattle.std.proofs.Common.{◌<◌, reverse, sym, ◌∙◌, subst}
 use Rattle.std.proofs.lemmas.List.{length-reverse}
-use Rattle.dice_core.specs.Hands.{HasDeskRoom}
+use Rattle.dice_tasks.specs.Hands.{HasDeskRoom}
 use Rattle.dice_core.specs.Cores.{CoreStands, core_of}
 use Rattle.dice_core.proofs.SessionLemmas.{fresh_transaction, open_fits}
 use Rattle.dice_core.proofs.OpeningLemmas.{opened_stands, same_tables}

@@ -2,7 +2,7 @@ use Rattle.std.proofs.Common.{◌≡◌, ◌↔◌, ◌++◌, IsTrue, List, map,
 use Rattle.dice_model.specs.Log.{Has}
 use Rattle.journal.specs.declared.event.Told.TheVariants.{Lost, Drop}
 use Rattle.dice_core.specs.Cores.{CoreSeen, IsNameOut, GivesUpOnly, core_of, events_of}
-use Rattle.dice_core.specs.Endings.{IsJobNamed}
+use Rattle.dice_tasks.specs.Endings.{IsJobNamed}
 use Rattle.dice_core.specs.Cores.{table_at}
 use Rattle.dice_core.proofs.PublicLemmas.{named_iff, lost_log, gives_up_only}
 use Rattle.dice_core.proofs.machine.Core.fail.Goals as goal

@@ -28,7 +28,8 @@ leave-requires-clause-closed g c = λ κs within lawful a live.
     let J = events_of c.state.result.now.core in
     let e = entered eq m old mid (events_of c.enter-turn.result.state.core) J (ap (λ s. events_of s.core) c.state.ensures.value) c.enter-turn.ensures.turn c.enter-turn.ensures.seen c.enter-turn.ensures.mine c.enter-turn.ensures.floor in
     let p = c.args.promise in
-    leaves_closed eq m old J e.begins lawful e.found p.ask p.opened p.version (arc_value p.key) c.requires.ask a live
+    let r = leaves_closed eq m old J e.begins lawful e.found p.ask p.opened p.version (arc_value p.key) c.requires.ask a live in
+    (r.0, (r.1, r.2))
 
 pub leave-requires-2-clause-grows : goal.leave-requires-2-clause-grows
 leave-requires-2-clause-grows g c =

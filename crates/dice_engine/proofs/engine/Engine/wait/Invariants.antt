@@ -1,0 +1,5 @@
+use Rattle.dice_engine.specs.Turns.{Works}
+use Rattle.dice_engine.proofs.engine.Engine.wait.Given as goal
+
+abbrev pub invariant-loop : goal.invariant-loop
+invariant-loop g l = Works g.U.Key.PartialEq.eq g.U.Universe.meaning l.initial.seat l.seat

@@ -1,0 +1,15 @@
+pub mod AskedLemmas
+pub mod BatchLemmas
+pub mod FinishLemmas
+pub mod GiveUpLemmas
+pub mod MakesLemmas
+pub mod NotedLemmas
+pub mod PartLemmas
+pub mod PlacedLemmas
+pub mod PlanLemmas
+pub mod QuietLemmas
+pub mod SeenLemmas
+pub mod SurveyLemmas
+pub mod WakeLemmas
+pub mod WakesLemmas
+pub mod WokenLemmas

@@ -1,0 +1,59 @@
+-- One key of a batch after the other is looked at.
+use Rattle.std.proofs.Common.{◌≡◌, ◌⊎◌, inl, inr, ◌<◌, ◌+◌, ℕ, zero, suc, Bool, true, false, cond, ◌&&◌, ◌||◌, List, [], ◌∷◌, ◌++◌, length, map, take, get_or, refl, sym, ap, ◌∙◌, subst, arith}
+use Rattle.std.specs.Arc.{arc_value}
+use Rattle.std.specs.declared.sync.Arc.{Arc}
+use Rattle.std.specs.List.{list_any}
+use Rattle.dice_key.specs.Meaning.{Meaning}
+use Rattle.dice_key.specs.Lawful.{IsEquality}
+use Rattle.dice_key.specs.declared.universe.Kind.TheVariants.{Injected}
+use Rattle.dice_model.specs.Log.{Has}
+use Rattle.task_share.specs.Asked.{Leads}
+use Rattle.task_share.specs.Seen.{Share, asked_of}
+use Rattle.versioned_graph.specs.Entries.{Stored}
+use Rattle.core_laws.proofs.Shapes.{not_both}
+use Rattle.dice_tasks.specs.Helds.{Held}
+use Rattle.dice_steps.specs.Plans.{key_in, IsPart, AreParts}
+use Rattle.dice_steps.specs.declared.plan.Part.{Part}
+use Rattle.dice_steps.proofs.NotedLemmas.{AreSeen, seen_more, any_has, has_any}
+use Rattle.dice_steps.proofs.PartLemmas.{keys_next, map_has, parts_skip, parts_more}
+
+-- what stands at an index is in the list
+get_has : {X : Type 0} (xs : List X) (i : ℕ) (x : X) → i < length xs → x ≡ get_or xs i x → Has xs x
+get_has [] i x l e = absurd (omega arith)
+get_has (y ∷ xs) zero x l e = inl (sym e)
+get_has (y ∷ xs) (suc i) x l e = inr (get_has xs i x (omega arith) e)
+
+module _ {K A : Type 0} (eq : K → K → Bool) (equality : IsEquality eq) where
+  -- a key of a batch
+  pub key_of_batch : (items : List (Arc K A)) (ks : List K) (i : ℕ) (x : Arc K A) → map arc_value items ≡ ks → i < length items → x ≡ get_or items i x → Has ks (arc_value x)
+  key_of_batch items ks i x all l e = subst (λ z. Has z (arc_value x)) all (map_has arc_value items x (get_has items i x l e))
+
+  module _ (old new : List (Arc K A)) (ks : List K) (k : K) (seen : AreSeen eq old ks) where
+    -- no key was noted
+    pub seen_same : (b : Bool) → b ≡ false → ((q : K) → list_any (λ a. eq q (arc_value a)) new ≡ ((b && eq k q) || list_any (λ a. eq q (arc_value a)) old)) → AreSeen eq new ks
+    seen_same b off h q = h q ∙ (ap (λ c. (c && eq k q) || list_any (λ a. eq q (arc_value a)) old) off ∙ seen q)
+
+    -- a key was noted
+    pub seen_new : (b : Bool) → b ≡ true → ((q : K) → list_any (λ a. eq q (arc_value a)) new ≡ ((b && eq k q) || list_any (λ a. eq q (arc_value a)) old)) → AreSeen eq new (ks ++ k ∷ [])
+    seen_new b on h = seen_more eq equality old new ks k seen (λ q. h q ∙ (ap (λ c. (c && eq k q) || list_any (λ a. eq q (arc_value a)) old) on ∙ by_or (eq k q) (list_any (λ a. eq q (arc_value a)) old)))
+      where
+        by_or : (x y : Bool) → (x || y) ≡ cond x true y
+        by_or true y = refl
+        by_or false y = refl
+
+    -- a key that was seen is one of these, and one that was not is none
+    pub seen_has : list_any (λ a. eq k (arc_value a)) old ≡ true → Has ks k
+    seen_has e = any_has eq equality ks k (sym (seen k) ∙ e)
+
+    pub unseen : list_any (λ a. eq k (arc_value a)) old ≡ false → Has ks k → ⊥
+    unseen e h = not_both (has_any eq equality ks k h) (sym (seen k) ∙ e)
+
+module _ {U K V R A : Type 0} (eq : K → K → Bool) (equality : IsEquality eq) (m : Meaning K V) (v born : ℕ) (ps : List (K × Share K (Held K V))) (es : List (K × Stored K V)) (k : K) (items : List (Arc K A)) (i : ℕ) (x : Arc K A) (l : i < length items) (e : x ≡ get_or items i x) (xs : List (Part U K V R)) (so_far : AreParts eq m v born ps es k (map arc_value (take i items)) xs) where
+  pub skips : (m.kind (arc_value x) ≡ Injected) ⊎ Has (map key_in xs) (arc_value x) → AreParts eq m v born ps es k (map arc_value (take (i + 1) items)) xs
+  skips known = subst (λ z. AreParts eq m v born ps es k z xs) (sym (keys_next items i x l e)) (parts_skip eq m v born ps es k (map arc_value (take i items)) (arc_value x) xs so_far known)
+
+  pub adds : (p : Part U K V R) → key_in p ≡ arc_value x → IsPart eq m v born ps es p → (Leads (asked_of eq ps) (arc_value x) k → ⊥) → (Has (map key_in xs) (arc_value x) → ⊥) → AreParts eq m v born ps es k (map arc_value (take (i + 1) items)) (xs ++ p ∷ [])
+  adds p is part apart new =
+      subst (λ z. AreParts eq m v born ps es k z (xs ++ p ∷ [])) (sym (keys_next items i x l e))
+      (subst (λ z. AreParts eq m v born ps es k (map arc_value (take i items) ++ z ∷ []) (xs ++ p ∷ [])) is
+      (parts_more eq m v born ps es k (map arc_value (take i items)) xs p so_far part (subst (λ z. Leads (asked_of eq ps) z k → ⊥) (sym is) apart) (subst (λ z. Has (map key_in xs) z → ⊥) (sym is) new)))

@@ -1,0 +1,50 @@
+use Rattle.std.proofs.Common.{◌∙◌, sym, ap}
+use Rattle.dice_jobs.specs.Jobs.{Name, Assigned}
+use Rattle.dice_steps.proofs.PlanLemmas.{at_hand_kept, takes_from, parked_so, plan_as, takes_as, hand_as}
+use Rattle.dice_steps.proofs.batch.ask_batch.Goals as goal
+
+pub returns-in-Err-clause-kept : goal.returns-in-Err-clause-kept
+returns-in-Err-clause-kept g c w h =
+    let e = c.plan_step.ensures in
+    at_hand_kept g.U.Key.PartialEq.eq g.U.Universe.meaning c.args.step.job.name.version _ _ _ _ e.tasks e.asks e.hands w c.args.owed _ _ e.desk_room.spare h
+
+pub take_up-requires-clause-hand : goal.take_up-requires-clause-hand
+take_up-requires-clause-hand g c l o =
+    let eq = g.U.Key.PartialEq.eq in
+    let m = g.U.Universe.meaning in
+    let e = c.plan_step.ensures in
+    let a = c.args.step.job in
+    let r = c.requires.hand in
+    let asks = c.requires.asks in
+    let version = c.version-version.ensures ∙ ap (λ (n : Name g.row.U-Key.Denot). n.version) (c.name.ensures ∙ ap (λ (x : Assigned g.row.U-Key.Denot g.row.U-Value.Denot). x.name) c.assignment.ensures) in
+    let p = parked_so a c.args.step.outcome asks.0 c.in-Some.parked asks.1 c.in-Some.ensures in (
+      r.0,
+      c.args.owed,
+      c.args.cells.now,
+      hand_as eq m a.name.version c.version-version.result (sym version) r.0 c.args.owed _ _ _ _ (at_hand_kept eq m a.name.version _ _ _ _ e.tasks e.asks e.hands r.0 c.args.owed _ _ e.desk_room.spare r.1),
+      plan_as eq m a.name.version c.version-version.result (sym version) c.args.owed a c.in-Some.parked.job asks.0 c.in-Some.parked.keys _ _ _ _ _ (sym p.0) (sym p.1) (c.in-Ok.ensures.plan asks.0 asks.1),
+    )
+
+pub returns-clause-given : goal.returns-clause-given
+returns-clause-given g c ks wants =
+    let eq = g.U.Key.PartialEq.eq in
+    let m = g.U.Universe.meaning in
+    let e = c.plan_step.ensures in
+    let a = c.args.step.job in
+    let version = c.version-version.ensures ∙ ap (λ (n : Name g.row.U-Key.Denot). n.version) (c.name.ensures ∙ ap (λ (x : Assigned g.row.U-Key.Denot g.row.U-Value.Denot). x.name) c.assignment.ensures) in
+    let p = parked_so a c.args.step.outcome ks c.in-Some.parked wants c.in-Some.ensures in
+    takes_from eq m a.name.version _ _ _ _ e.tasks e.asks e.hands a ks _ _ (takes_as eq m c.version-version.result a.name.version version c.in-Some.parked.job a c.in-Some.parked.keys ks _ _ _ _ p.0 p.1 c.take_up.ensures.given)
+
+pub returns-clause-kept : goal.returns-clause-kept
+returns-clause-kept g c w h =
+    let eq = g.U.Key.PartialEq.eq in
+    let m = g.U.Universe.meaning in
+    let e = c.plan_step.ensures in
+    let a = c.args.step.job in
+    let asks = c.requires.asks in
+    let version = c.version-version.ensures ∙ ap (λ (n : Name g.row.U-Key.Denot). n.version) (c.name.ensures ∙ ap (λ (x : Assigned g.row.U-Key.Denot g.row.U-Value.Denot). x.name) c.assignment.ensures) in
+    let p = parked_so a c.args.step.outcome asks.0 c.in-Some.parked asks.1 c.in-Some.ensures in
+    hand_as eq m c.version-version.result a.name.version version w c.args.owed _ _ _ _
+    (c.take_up.ensures.kept w c.args.owed c.args.cells.now
+    (hand_as eq m a.name.version c.version-version.result (sym version) w c.args.owed _ _ _ _ (at_hand_kept eq m a.name.version _ _ _ _ e.tasks e.asks e.hands w c.args.owed _ _ e.desk_room.spare h))
+    (plan_as eq m a.name.version c.version-version.result (sym version) c.args.owed a c.in-Some.parked.job asks.0 c.in-Some.parked.keys _ _ _ _ _ (sym p.0) (sym p.1) (c.in-Ok.ensures.plan asks.0 asks.1)))

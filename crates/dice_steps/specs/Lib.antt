@@ -1,0 +1,6 @@
+pub mod AtHand
+pub mod Batches
+pub mod Cells
+pub mod Finishings
+pub mod Plans
+pub mod Wokens

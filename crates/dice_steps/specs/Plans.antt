@@ -1,0 +1,130 @@
+-- What the batch comes to that the task of a key asks: what is made of each of its keys, which of them are waited for, and the answers where all have
+-- values at hand.
+use Rattle.std.specs.Prelude.{◌≡◌, ◌≢◌, ◌⊎◌, ◌<◌, ◌≤◌, ℕ, Bool, true, false, List, length, map, filter, Some, None}
+use Rattle.std.specs.Arc.{arc_value}
+use Rattle.std.specs.List.{AllZip}
+use Rattle.dice_key.specs.Meaning.{Meaning}
+use Rattle.dice_key.specs.declared.universe.Kind.TheVariants.{Injected}
+use Rattle.dice_model.specs.Log.{Has, AreDistinct}
+use Rattle.dice_jobs.specs.Jobs.{Assigned, answered_more}
+use Rattle.task_share.specs.Asked.{WaitOf, Leads}
+use Rattle.task_share.specs.Seen.{Share, task_at, is_live, asked_of, has_place, asker_room, wait_room}
+use Rattle.cycle_guard.specs.Circle.{IsCircle}
+use Rattle.injected.specs.Seen.{Seen, cell_at}
+use Rattle.versioned_graph.specs.Entries.{Stored, entry_at}
+use Rattle.versioned_graph.specs.Looks.{Matches, look}
+use Rattle.core_laws.specs.Tasks.{value_of}
+use Rattle.dice_tasks.specs.Circles.{path_with}
+use Rattle.dice_tasks.specs.Helds.{Held, Ahead}
+use Rattle.dice_tasks.specs.Hands.{DeskSeen, HasDeskRoom, tasks_of}
+use Rattle.dice_tasks.specs.Makings.{IsMaking, IsOfKey}
+use Rattle.dice_tasks.specs.declared.making.Making.{Making}
+use Rattle.dice_tasks.specs.declared.making.Making.TheVariants.{Join, Match, Run, Check}
+use Rattle.dice_steps.specs.declared.plan.Part.{Part}
+use Rattle.dice_steps.specs.declared.plan.Survey.{Survey}
+use Rattle.dice_steps.specs.declared.plan.Survey.TheVariants as survey
+use Rattle.dice_steps.specs.declared.plan.Plan.{Plan}
+use Rattle.dice_steps.specs.declared.plan.Plan.TheVariants as plan
+
+module _ {U K V R : Type 0} where
+  -- the key of a part
+  abbrev pub key_in : Part U K V R → K
+  key_in p = arc_value p.key
+
+  -- the waits of the task of k for the keys that are waited for
+  abbrev pub wait_for : K → Part U K V R → WaitOf K
+  wait_for k p = record { key = key_in p; asker = k }
+
+  abbrev pub waits_of : K → List (Part U K V R) → List (WaitOf K)
+  waits_of k xs = map (wait_for k) (filter (λ (p : Part U K V R). p.awaited) xs)
+
+module _ {U K V R : Type 0} (eq : K → K → Bool) (ps : List (K × Share K (Held K V))) (q : K) where
+  -- whether the key is waited for, where this is made of it: a task that is at work, or comes to be
+  abbrev pub is_awaited : Making U K V R → Bool
+  is_awaited Join = is_live eq ps q
+  is_awaited (Match event base task) = false
+  is_awaited (Run event cause ready task) = true
+  is_awaited (Check ready task) = true
+
+module _ {K V : Type 0} (eq : K → K → Bool) (ps : List (K × Share K (Held K V))) where
+  -- the task of q has not ended with a circle
+  abbrev pub HasNoPath : K → Type 0
+  HasNoPath q = path_with (task_at eq ps q) ≡ None
+
+  -- the path is the circle that the wait of the task of k for q would close, or that with which the task of q has ended
+  abbrev pub IsPathAt : K → K → List K → Type 0
+  IsPathAt k q path = IsCircle (asked_of eq ps) k q path ⊎ (path_with (task_at eq ps q) ≡ Some path)
+
+  -- so it is with some of these keys
+  pub record IsPathOf (k : K) (ks : List K) (path : List K) : Type 0 where
+    pub key : K
+    pub among : Has ks key
+    pub found : IsPathAt k key path
+
+module _ {K V : Type 0} (eq : K → K → Bool) (m : Meaning K V) (v : ℕ) (ps : List (K × Share K (Held K V))) (es : List (K × Stored K V)) where
+  -- x is at hand as the value of q at v: it is the input of an injected key, what the task of q has ended with, or what its entry keeps there
+  abbrev pub IsAtHand : Seen K V → K → V → Type 0
+  IsAtHand s q x = ((m.kind q ≡ Injected) × (x ≡ cell_at eq m s v q)) ⊎ (value_of (tasks_of eq ps q) ≡ Some x) ⊎ ((b : ℕ) × (look m.is_transient (entry_at eq es q) v ≡ Matches x b))
+
+  -- no value of q is at hand
+  pub record HasNone (q : K) : Type 0 where
+    pub computed : m.kind q ≢ Injected
+    pub unended : value_of (tasks_of eq ps q) ≡ None
+    pub unmatched : (x : V) (b : ℕ) → look m.is_transient (entry_at eq es q) v ≡ Matches x b → ⊥
+
+module _ {U K V R : Type 0} (eq : K → K → Bool) (m : Meaning K V) (v born : ℕ) (ps : List (K × Share K (Held K V))) (es : List (K × Stored K V)) where
+  -- this is to be made of a key, which is not injected, and whose task has not ended with a circle; and whether it is waited for
+  pub record IsPart (p : Part U K V R) : Type 0 where
+    pub computed : m.kind (key_in p) ≢ Injected
+    pub whole : HasNoPath eq ps (key_in p)
+    pub making : IsMaking eq m v (key_in p) born ps es p.making
+    pub own : IsOfKey v (key_in p) p.making
+    pub awaited : p.awaited ≡ is_awaited eq ps (key_in p) p.making
+
+  -- these are the parts of the batch ks, which the task of k asks: one for each of its keys that is not injected; and no wait for one of them would
+  -- close a circle
+  pub record AreParts (k : K) (ks : List K) (xs : List (Part U K V R)) : Type 0 where
+    pub each : (p : Part U K V R) → Has xs p → IsPart p
+    pub among : (p : Part U K V R) → Has xs p → Has ks (key_in p)
+    pub apart : (p : Part U K V R) → Has xs p → Leads (asked_of eq ps) (key_in p) k → ⊥
+    pub distinct : AreDistinct (map key_in xs)
+    pub all : (q : K) → Has ks q → (m.kind q ≡ Injected) ⊎ ((p : Part U K V R) × Has xs p × (key_in p ≡ q))
+
+  -- what a batch comes to: a circle, or its parts
+  abbrev pub IsSurvey : K → List K → Survey U K V R → Type 0
+  IsSurvey k ks (survey.Circle path) = IsPathOf eq ps k ks (arc_value path)
+  IsSurvey k ks (survey.Parts xs) = AreParts k ks xs.items
+
+module _ {U K V R : Type 0} (eq : K → K → Bool) (xs : List (Part U K V R)) (ps : List (K × Share K (Held K V))) where
+  -- there is room in the table to make these and to wait for those that are waited for
+  pub record ArePlaced : Type 0 where
+    pub places : (p : Part U K V R) → Has xs p → has_place eq ps (key_in p) ≡ true
+    pub askers : (p : Part U K V R) → Has xs p → p.awaited ≡ true → 0 < asker_room eq ps (key_in p)
+
+module _ {U K V R : Type 0} (eq : K → K → Bool) (m : Meaning K V) (v owed : ℕ) (a : Assigned K V) (ks : List K) (ps : List (K × Share K (Held K V))) (d : DeskSeen K V) (es : List (K × Stored K V)) (s : Seen K V) where
+  -- these can be made
+  pub record IsRoomy (xs : List (Part U K V R)) : Type 0 where
+    pub parts : AreParts {U = U} {R = R} eq m v (length d.events) ps es a.name.key ks xs
+    pub placed : ArePlaced eq xs ps
+    pub desk : HasDeskRoom owed (length xs) (length xs) d
+
+  -- all keys have values at hand, and with these the job goes on
+  pub record GoesOnSo (xs : List (Part U K V R)) (n : Ahead K V) : Type 0 where
+    pub roomy : IsRoomy xs
+    pub known : (p : Part U K V R) → Has xs p → p.awaited ≡ false
+    pub job : n.job ≡ answered_more a ks n.values
+    pub count : length n.values ≡ length ks
+    pub answers : AllZip (IsAtHand eq m v ps es s) ks n.values
+
+  -- the job waits, for one key at least
+  pub record WaitsSo (xs : List (Part U K V R)) (ws : List (WaitOf K)) : Type 0 where
+    pub roomy : IsRoomy xs
+    pub waits : ws ≡ waits_of a.name.key xs
+    pub room : length ws ≤ wait_room eq ps a.name.key
+    pub some : (x : WaitOf K) × Has ws x
+
+  -- what was planned, with the memory for it
+  abbrev pub IsPlan : Plan U K V R → Type 0
+  IsPlan (plan.Ends path) = IsPathOf eq ps a.name.key ks (arc_value path)
+  IsPlan (plan.GoesOn xs n) = GoesOnSo xs.items n
+  IsPlan (plan.Waits xs ws) = WaitsSo xs.items ws.items

@@ -1,0 +1,336 @@
+//! What a batch comes to that a task asks, prepared before anything is seen of it.
+ghost use Rattle.std.specs.Prelude.{◌≡◌, ◌≢◌, ◌<◌, ◌≤◌, ◌⊎◌, ◌&&◌, ◌||◌, ◌++◌, ◌∷◌, [], ℕ, true, false, Some, length, MatchBool, IfOk, IfSome, IfNone, OnOk};
+ghost use Rattle.std.specs.Arc.{arc_value};
+ghost use Rattle.std.specs.List.{list_any, AllZip};
+ghost use Rattle.std.specs.Option.{option_map};
+ghost use Rattle.dice_key.specs.declared.universe.Kind.TheVariants.{Injected};
+ghost use Rattle.dice_model.specs.Log.{Has};
+ghost use Rattle.task_share.specs.Asked.{Leads};
+ghost use Rattle.task_share.specs.Seen.{task_at, asked_of, has_place, asker_room, wait_room, KeepsTasks, KeepsAsks, KeepsRoom};
+ghost use Rattle.versioned_graph.specs.Entries.{entry_at};
+ghost use Rattle.versioned_graph.specs.Looks.{Matches, look};
+ghost use Rattle.core_laws.specs.Tasks.{value_of};
+ghost use Rattle.core_laws.specs.Desk.{World};
+ghost use Rattle.dice_steps.specs.AtHand.{AtHand};
+ghost use Rattle.dice_tasks.specs.Circles.{path_with};
+ghost use Rattle.dice_tasks.specs.Hands.{KeepsHands, KeepsDeskRoom, tasks_of};
+ghost use Rattle.dice_steps.specs.Plans.{key_in, waits_of, is_awaited, HasNoPath, IsPathAt, IsAtHand, HasNone, IsPart, IsSurvey, ArePlaced, IsPlan};
+
+use crate::noted::note;
+use cycle_guard::would_close;
+use dice_jobs::Assignment;
+use dice_key::{Answers, Batch, KeyRef, Kind, NoMemory, Path, Universe, ValueRef, laws_of};
+use dice_tasks::{Desk, Making, Next, Tasks, looked, prepare};
+use injected::Cells;
+use std::alloc::Global;
+use std::collections::HashSet;
+use std::sync::Arc;
+use task_share::Wait;
+use versioned_graph::{Found, Graph};
+
+/// What is planned of a key of a batch: what is made of it, and whether it is waited for.
+#[derive(Drop)]
+pub(crate) struct Part<U: Universe> {
+    pub(crate) key: KeyRef<U>,
+    pub(crate) making: Making<U>,
+    pub(crate) awaited: bool,
+}
+
+/// What the keys of a batch come to.
+#[derive(Drop)]
+pub(crate) enum Survey<U: Universe> {
+    /// A circle: a wait for one of them would close it, or the task of one has ended with it.
+    Circle(Arc<Path<U::Key>>),
+    /// A part for each key that is not injected, the last first.
+    Parts(Vec<Part<U>>),
+}
+
+/// What a batch comes to, with all the memory that it takes.
+#[derive(Drop)]
+pub(crate) enum Plan<U: Universe> {
+    /// The task that asks it ends with this circle.
+    Ends(Arc<Path<U::Key>>),
+    /// Where these are made, all keys have values, and the task goes on.
+    GoesOn(Vec<Part<U>>, Next<U>),
+    /// Where these are made, the task waits.
+    Waits(Vec<Part<U>>, Vec<Wait<U::Key>>),
+}
+
+/// Plans what comes of the batch that the job of this assignment asks, in the order of its keys. It takes all the memory for it, and
+/// makes room for `owed` events beside; nothing else changes, also where memory is refused.
+///
+/// It costs a look-up for each key, and a walk over the waits that begin there.
+pub(crate) fn plan_batch<U: Universe>(
+    alloc: Global,
+    universe: &U,
+    cells: &Cells<U>,
+    graph: &Graph<U>,
+    desk: &mut Desk<U>,
+    tasks: &mut Tasks<U>,
+    owed: usize,
+    assignment: &Assignment<U>,
+    batch: &Batch<U::Key>,
+) -> Result<Plan<U>, NoMemory>
+    requires { (w : World U.Key U.Value) × AtHand U.Key.eq U.meaning assignment.now.name.version w owed tasks.old desk.old graph.now cells.now }
+    ensures tasks { KeepsTasks U.Key.eq tasks.old tasks.new }
+    ensures asks { KeepsAsks U.Key.eq tasks.old tasks.new }
+    ensures room { KeepsRoom U.Key.eq tasks.old tasks.new }
+    ensures hands { KeepsHands desk.old desk.new }
+    ensures desk_room { KeepsDeskRoom desk.old desk.new }
+    ensures plan { IfOk result (IsPlan U.Key.eq U.meaning assignment.now.name.version owed assignment.now batch.now tasks.new desk.new graph.now cells.now) }
+{
+    laws_of::<U>();
+    let name = assignment.name();
+    let version = name.version();
+    let own = name.key();
+    let born = told_so_far::<U>(desk);
+    let parts = match look_over::<U>(alloc, universe, graph, tasks, version, own, batch, born)? {
+        Survey::Circle(path) => return Ok(Plan::Ends(path)),
+        Survey::Parts(parts) => parts,
+    };
+    let waits = reserve_parts::<U>(alloc, tasks, own, &parts)?;
+    let count = parts.len();
+    desk.reserve(owed, count, count)?;
+    if !waits.is_empty() {
+        return Ok(Plan::Waits(parts, waits));
+    }
+    let Some(answers) = answers_of::<U>(alloc, universe, cells, graph, tasks, version, batch)?
+    else {
+        return Ok(Plan::Waits(parts, waits));
+    };
+    let next = Next::of_batch(assignment, batch, answers)?;
+    Ok(Plan::GoesOn(parts, next))
+}
+
+/// How many events the journal has.
+fn told_so_far<U: Universe>(desk: &Desk<U>) -> u64
+    ensures { result ≡ length desk.now.events }
+{
+    desk.journal().len() as u64
+}
+
+/// What the keys of a batch come to, in their order: where one comes to a circle the others are not looked at. It changes nothing.
+fn look_over<U: Universe>(
+    alloc: Global,
+    universe: &U,
+    graph: &Graph<U>,
+    tasks: &Tasks<U>,
+    version: u64,
+    own: &KeyRef<U>,
+    batch: &Batch<U::Key>,
+    born: u64,
+) -> Result<Survey<U>, NoMemory>
+    ensures { IfOk result (IsSurvey U.Key.eq U.meaning version born tasks.now graph.now (arc_value own.now) batch.now) }
+{
+    laws_of::<U>();
+    let mut seen = HashSet::new(alloc);
+    let mut parts = Vec::new(alloc);
+    let keys = batch.keys();
+    for key in keys {
+        if !is_new::<U>(universe, &mut seen, key)? {
+            continue;
+        }
+        if let Some(path) = circle_at::<U>(alloc, tasks, own, key)? {
+            return Ok(Survey::Circle(path));
+        }
+        let part = part_of::<U>(alloc, graph, tasks, version, key, born)?;
+        parts.push(part)?;
+    }
+    parts.reverse();
+    Ok(Survey::Parts(parts))
+}
+
+/// Whether a key is not injected and was not seen before. It is noted then.
+fn is_new<U: Universe>(
+    universe: &U,
+    seen: &mut HashSet<KeyRef<U>>,
+    key: &KeyRef<U>,
+) -> Result<bool, NoMemory>
+    ensures new { IfOk result (λ b. MatchBool b ((U.meaning.kind (arc_value key.now) ≢ Injected) × (list_any (λ k. U.Key.eq (arc_value key.now) (arc_value k)) seen.old.keys ≡ false)) ((U.meaning.kind (arc_value key.now) ≡ Injected) ⊎ (list_any (λ k. U.Key.eq (arc_value key.now) (arc_value k)) seen.old.keys ≡ true))) }
+    ensures seen { IfOk result (λ b. (q : U.Key) → list_any (λ k. U.Key.eq q (arc_value k)) seen.new.keys ≡ ((b && U.Key.eq (arc_value key.now) q) || list_any (λ k. U.Key.eq q (arc_value k)) seen.old.keys)) }
+{
+    laws_of::<U>();
+    match universe.kind(key) {
+        Kind::Injected => Ok(false),
+        _ => note(seen, key),
+    }
+}
+
+/// The circle to which a wait of the task of `own` for a key comes: that which it would close, or with which the key's task has
+/// ended.
+fn circle_at<U: Universe>(
+    alloc: Global,
+    tasks: &Tasks<U>,
+    own: &KeyRef<U>,
+    key: &KeyRef<U>,
+) -> Result<Option<Arc<Path<U::Key>>>, NoMemory>
+    ensures some { IfOk result (λ o. IfSome o (λ p. IsPathAt U.Key.eq tasks.now (arc_value own.now) (arc_value key.now) (arc_value p))) }
+    ensures apart { IfOk result (λ o. IfNone o (Leads (asked_of U.Key.eq tasks.now) (arc_value key.now) (arc_value own.now) → ⊥)) }
+    ensures whole { IfOk result (λ o. IfNone o (HasNoPath U.Key.eq tasks.now (arc_value key.now))) }
+{
+    if let Some(path) = would_close(alloc, tasks, own, key)? {
+        return Ok(Some(Arc::new(alloc, path)?));
+    }
+    match ended_circle::<U>(tasks, key) {
+        Some(path) => Ok(Some(Arc::try_clone(path)?)),
+        None => Ok(None),
+    }
+}
+
+/// The circle with which the task of a key has ended, where it has.
+fn ended_circle<'a, U: Universe>(
+    tasks: &'a Tasks<U>,
+    key: &KeyRef<U>,
+) -> Option<&'a Arc<Path<U::Key>>>
+    ensures { option_map (λ p. arc_value p.now) result ≡ path_with (task_at U.Key.eq tasks.now (arc_value key.now)) }
+{
+    tasks.task(key)?.circle()
+}
+
+/// What is planned of a key that is not injected, and whose task has not ended with a circle.
+fn part_of<U: Universe>(
+    alloc: Global,
+    graph: &Graph<U>,
+    tasks: &Tasks<U>,
+    version: u64,
+    key: &KeyRef<U>,
+    born: u64,
+) -> Result<Part<U>, NoMemory>
+    requires computed { U.meaning.kind (arc_value key.now) ≢ Injected }
+    requires whole { HasNoPath U.Key.eq tasks.now (arc_value key.now) }
+    ensures part { IfOk result (IsPart U.Key.eq U.meaning version born tasks.now graph.now) }
+    ensures key { IfOk result (λ p. key_in p ≡ arc_value key.now) }
+{
+    let making = prepare::<U>(alloc, graph, tasks, version, key, born)?;
+    let awaited = is_awaited::<U>(tasks, key, &making);
+    let key = Arc::try_clone(key)?;
+    Ok(Part {
+        key,
+        making,
+        awaited,
+    })
+}
+
+/// Whether a key is waited for where this is made of it.
+fn is_awaited<U: Universe>(tasks: &Tasks<U>, key: &KeyRef<U>, making: &Making<U>) -> bool
+    ensures { result ≡ is_awaited U.Key.eq tasks.now (arc_value key.now) making.now }
+{
+    match making {
+        Making::Join => tasks.is_live(key),
+        Making::Match { .. } => false,
+        Making::Run { .. } | Making::Check { .. } => true,
+    }
+}
+
+/// Makes room for what is planned, and the waits of the task of `own` for the keys that are waited for.
+fn reserve_parts<U: Universe>(
+    alloc: Global,
+    tasks: &mut Tasks<U>,
+    own: &KeyRef<U>,
+    parts: &[Part<U>],
+) -> Result<Vec<Wait<U::Key>>, NoMemory>
+    ensures tasks { KeepsTasks U.Key.eq tasks.old tasks.new }
+    ensures asks { KeepsAsks U.Key.eq tasks.old tasks.new }
+    ensures room { KeepsRoom U.Key.eq tasks.old tasks.new }
+    ensures placed { OnOk result (ArePlaced U.Key.eq parts.now tasks.new) }
+    ensures waits { IfOk result (λ ws. ws.items ≡ waits_of (arc_value own.now) parts.now) }
+    ensures fits { IfOk result (λ ws. length ws.items ≤ wait_room U.Key.eq tasks.new (arc_value own.now)) }
+{
+    laws_of::<U>();
+    let mut waits = Vec::new(alloc);
+    for part in parts {
+        reserve_part::<U>(tasks, own, part, &mut waits)?;
+    }
+    tasks.reserve_waits(own, waits.len())?;
+    Ok(waits)
+}
+
+/// Makes room for one part, and adds its wait to these where it is waited for.
+fn reserve_part<U: Universe>(
+    tasks: &mut Tasks<U>,
+    own: &KeyRef<U>,
+    part: &Part<U>,
+    waits: &mut Vec<Wait<U::Key>>,
+) -> Result<(), NoMemory>
+    ensures tasks { KeepsTasks U.Key.eq tasks.old tasks.new }
+    ensures asks { KeepsAsks U.Key.eq tasks.old tasks.new }
+    ensures room { KeepsRoom U.Key.eq tasks.old tasks.new }
+    ensures place { OnOk result (has_place U.Key.eq tasks.new (key_in part.now) ≡ true) }
+    ensures asker { OnOk result (part.now.awaited ≡ true → 0 < asker_room U.Key.eq tasks.new (key_in part.now)) }
+    ensures waits { OnOk result (waits.new.items ≡ waits.old.items ++ waits_of (arc_value own.now) (part.now ∷ [])) }
+{
+    if !part.awaited {
+        return tasks.reserve(&part.key);
+    }
+    let wait = Wait::new(&part.key, own)?;
+    waits.push(wait)?;
+    tasks.reserve_asker(&part.key)
+}
+
+/// The answers to a batch, where each of its keys has a value at hand.
+fn answers_of<U: Universe>(
+    alloc: Global,
+    universe: &U,
+    cells: &Cells<U>,
+    graph: &Graph<U>,
+    tasks: &Tasks<U>,
+    version: u64,
+    batch: &Batch<U::Key>,
+) -> Result<Option<Answers<U::Value>>, NoMemory>
+    ensures some { IfOk result (λ o. IfSome o (AllZip (IsAtHand U.Key.eq U.meaning version tasks.now graph.now cells.now) batch.now)) }
+    ensures none { IfOk result (λ o. IfNone o ((q : U.Key) × Has batch.now q × HasNone U.Key.eq U.meaning version tasks.now graph.now q)) }
+{
+    laws_of::<U>();
+    let mut answers = Answers::new(alloc);
+    let keys = batch.keys();
+    for key in keys {
+        let Some(value) = value_at_hand::<U>(universe, cells, graph, tasks, version, key) else {
+            return Ok(None);
+        };
+        answers.push(Arc::try_clone(value)?)?;
+    }
+    Ok(Some(answers))
+}
+
+/// The value of a key at a version, where it is at hand.
+fn value_at_hand<'a, U: Universe>(
+    universe: &U,
+    cells: &'a Cells<U>,
+    graph: &'a Graph<U>,
+    tasks: &'a Tasks<U>,
+    version: u64,
+    key: &KeyRef<U>,
+) -> Option<&'a ValueRef<U>>
+    ensures some { IfSome result (λ x. IsAtHand U.Key.eq U.meaning version tasks.now graph.now cells.now (arc_value key.now) (arc_value x.now)) }
+    ensures none { IfNone result (HasNone U.Key.eq U.meaning version tasks.now graph.now (arc_value key.now)) }
+{
+    match universe.kind(key) {
+        Kind::Injected => Some(cells.at(version, key)),
+        _ => match ended_value::<U>(tasks, key) {
+            Some(value) => Some(value),
+            None => kept_value::<U>(graph, key, version),
+        },
+    }
+}
+
+/// The value with which the task of a key has ended, where it has.
+fn ended_value<'a, U: Universe>(tasks: &'a Tasks<U>, key: &KeyRef<U>) -> Option<&'a ValueRef<U>>
+    ensures { option_map (λ x. arc_value x.now) result ≡ value_of (tasks_of U.Key.eq tasks.now (arc_value key.now)) }
+{
+    tasks.task(key)?.value()
+}
+
+/// The value that the entry of a key keeps at a version, where it does.
+fn kept_value<'a, U: Universe>(
+    graph: &'a Graph<U>,
+    key: &KeyRef<U>,
+    version: u64,
+) -> Option<&'a ValueRef<U>>
+    ensures some { IfSome result (λ x. (b : ℕ) × (look U.meaning.is_transient (entry_at U.Key.eq graph.now (arc_value key.now)) version ≡ Matches (arc_value x.now) b)) }
+    ensures none { IfNone result ((x : U.Value) (b : ℕ) → look U.meaning.is_transient (entry_at U.Key.eq graph.now (arc_value key.now)) version ≡ Matches x b → ⊥) }
+{
+    match looked::<U>(graph, key, version) {
+        Found::Match(value, _) => Some(value),
+        _ => None,
+    }
+}

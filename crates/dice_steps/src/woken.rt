@@ -1,0 +1,110 @@
+//! The tasks that wait for one key alone, and what they go on with.
+ghost use Rattle.std.specs.Prelude.{◌≡◌, true, false, IfOk, IfSome, IsSome};
+ghost use Rattle.std.specs.Arc.{arc_value};
+ghost use Rattle.dice_steps.specs.Wokens.{AsksAlone, AsksMore, HasAnswer, IsAnswer, WaitsAlone, HasAnswers, IsAnswered, AreWoken};
+
+use crate::wake::Woken;
+use dice_key::{Answers, KeyRef, Kind, NoMemory, Universe, ValueRef, laws_of};
+use dice_tasks::{Next, Tasks};
+use injected::Cells;
+use std::alloc::Global;
+use std::sync::Arc;
+use task_share::table_in_order;
+
+/// The tasks that wait for a key alone, each with what it goes on with when the key's task ends with this value: the answers to its
+/// batch. It takes the memory for them, and changes nothing.
+///
+/// It costs the number of tasks that ask for the key, and that of the keys and values of those that wait for it alone.
+pub(crate) fn woken_by<U: Universe>(
+    alloc: Global,
+    universe: &U,
+    cells: &Cells<U>,
+    tasks: &Tasks<U>,
+    version: u64,
+    key: &KeyRef<U>,
+    value: &ValueRef<U>,
+) -> Result<Vec<Woken<U>>, NoMemory>
+    requires { HasAnswers U.Key.eq U.meaning (arc_value key.now) tasks.now }
+    ensures { IfOk result (λ ws. AreWoken U.Key.eq U.meaning cells.now version (arc_value key.now) (arc_value value.now) tasks.now ws.items) }
+{
+    laws_of::<U>();
+    let askers = tasks.askers(key).tasks;
+    let mut woken = Vec::new(alloc);
+    for asker in askers {
+        if asks_alone::<U>(tasks, asker, key) {
+            let next = next_of::<U>(alloc, universe, cells, tasks, version, key, value, asker)?;
+            let one = Woken::new(version, asker, next)?;
+            woken.push(one)?;
+        }
+    }
+    Ok(woken)
+}
+
+/// Whether a task that asks for a key asks for no other. It looks at two keys at most.
+fn asks_alone<U: Universe>(tasks: &Tasks<U>, asker: &KeyRef<U>, key: &KeyRef<U>) -> bool
+    ensures alone { result ≡ true → AsksAlone U.Key.eq (arc_value key.now) tasks.now (arc_value asker.now) }
+    ensures more { result ≡ false → AsksMore U.Key.eq (arc_value key.now) tasks.now (arc_value asker.now) }
+{
+    laws_of::<U>();
+    table_in_order(tasks);
+    let waits = tasks.waits(asker);
+    for asked in waits {
+        if **asked != **key {
+            return false;
+        }
+    }
+    true
+}
+
+/// What a task that waits for a key alone goes on with when the key's task ends with this value.
+fn next_of<U: Universe>(
+    alloc: Global,
+    universe: &U,
+    cells: &Cells<U>,
+    tasks: &Tasks<U>,
+    version: u64,
+    key: &KeyRef<U>,
+    value: &ValueRef<U>,
+    asker: &KeyRef<U>,
+) -> Result<Next<U>, NoMemory>
+    requires { WaitsAlone U.Key.eq U.meaning (arc_value key.now) tasks.now (arc_value asker.now) }
+    ensures { IfOk result (IsAnswered U.Key.eq U.meaning cells.now version (arc_value key.now) (arc_value value.now) tasks.now (arc_value asker.now)) }
+{
+    let Some(task) = tasks.task(asker) else {
+        return Err(NoMemory);
+    };
+    let Some(batch) = task.batch() else {
+        return Err(NoMemory);
+    };
+    let mut answers = Answers::new(alloc);
+    let keys = batch.keys();
+    for asked in keys {
+        let Some(answer) = answer_of::<U>(universe, cells, tasks, version, key, value, asked) else {
+            return Err(NoMemory);
+        };
+        answers.push(Arc::try_clone(answer)?)?;
+    }
+    task.next(answers)
+}
+
+/// The answer to a key of a batch: the input of an injected key at the version, the value with which the task of `key` ends, and of
+/// any other that with which its task has ended.
+fn answer_of<'a, U: Universe>(
+    universe: &U,
+    cells: &'a Cells<U>,
+    tasks: &'a Tasks<U>,
+    version: u64,
+    key: &KeyRef<U>,
+    value: &'a ValueRef<U>,
+    asked: &KeyRef<U>,
+) -> Option<&'a ValueRef<U>>
+    ensures answer { IfSome result (λ x. IsAnswer U.Key.eq U.meaning cells.now version (arc_value key.now) (arc_value value.now) tasks.now (arc_value asked.now) (arc_value x.now)) }
+    ensures some { HasAnswer U.Key.eq U.meaning (arc_value key.now) tasks.now (arc_value asked.now) → IsSome result }
+{
+    laws_of::<U>();
+    match universe.kind(asked) {
+        Kind::Injected => Some(cells.at(version, asked)),
+        _ if **asked == **key => Some(value),
+        _ => tasks.task(asked)?.value(),
+    }
+}

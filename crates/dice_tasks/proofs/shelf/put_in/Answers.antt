@@ -1,0 +1,65 @@
+use Rattle.std.proofs.Common.{◌≡◌, ◌+◌, arith, ap, ◌∙◌, length, map}
+use Rattle.std.proofs.lemmas.List.{length_push}
+use Rattle.std.proofs.lemmas.List.Edits.{length-swap}
+use Rattle.dice_model.specs.Log.{AreDistinct}
+use Rattle.dice_tasks.specs.Shelves.{place_of}
+use Rattle.dice_tasks.proofs.Laid.{ready_eq, same_place, one_place, inserted, put_in_is}
+use Rattle.dice_tasks.proofs.Parts.{distinct_places}
+use Rattle.dice_tasks.proofs.shelf.put_in.Goals as goal
+
+pub swap_indices-requires-clause-a_in_bounds : goal.swap_indices-requires-clause-a_in_bounds
+swap_indices-requires-clause-a_in_bounds g c =
+    let eq = g.U.Key.PartialEq.eq in
+    let law = c.laws_of.ensures.keys in
+    let xs = c.args.shelf.now.keys in
+    let i = inserted place_of (ready_eq eq law) (one_place eq law) xs c.insert.new.self.keys c.args.task c.insert.result c.requires.new (c.insert.ensures.succeeds c.requires.room) c.insert.ensures.keys in
+    let m : length c.insert.new.self.keys ≡ length xs + 1 = ap length i ∙ length_push xs c.args.task in
+    omega (arith, m, c.len-last.ensures.len)
+
+pub swap_indices-requires-clause-b_in_bounds : goal.swap_indices-requires-clause-b_in_bounds
+swap_indices-requires-clause-b_in_bounds g c =
+    let eq = g.U.Key.PartialEq.eq in
+    let law = c.laws_of.ensures.keys in
+    let xs = c.args.shelf.now.keys in
+    let i = inserted place_of (ready_eq eq law) (one_place eq law) xs c.insert.new.self.keys c.args.task c.insert.result c.requires.new (c.insert.ensures.succeeds c.requires.room) c.insert.ensures.keys in
+    let m : length c.insert.new.self.keys ≡ length xs + 1 = ap length i ∙ length_push xs c.args.task in
+    omega (arith, m, c.requires.bound)
+
+pub returns-clause-ready : goal.returns-clause-ready
+returns-clause-ready g c =
+    let eq = g.U.Key.PartialEq.eq in
+    let law = c.laws_of.ensures.keys in
+    let xs = c.args.shelf.now.keys in
+    let ys = c.insert.new.self.keys in
+    let zs = c.swap_indices.new.self.keys in
+    let i = inserted place_of (ready_eq eq law) (one_place eq law) xs ys c.args.task c.insert.result c.requires.new (c.insert.ensures.succeeds c.requires.room) c.insert.ensures.keys in
+    let u : AreDistinct (map place_of ys) = distinct_places place_of (ready_eq eq law) (same_place eq law) ys c.insert.ensures.unique in
+    let v : AreDistinct (map place_of zs) = distinct_places place_of (ready_eq eq law) (same_place eq law) zs c.swap_indices.ensures.unique in
+    (put_in_is place_of xs ys zs c.args.ready c.len-last.result c.args.task c.requires.bound c.len-last.ensures.len i c.swap_indices.ensures.keys u v).0
+
+pub returns-clause-out : goal.returns-clause-out
+returns-clause-out g c =
+    let eq = g.U.Key.PartialEq.eq in
+    let law = c.laws_of.ensures.keys in
+    let xs = c.args.shelf.now.keys in
+    let ys = c.insert.new.self.keys in
+    let zs = c.swap_indices.new.self.keys in
+    let i = inserted place_of (ready_eq eq law) (one_place eq law) xs ys c.args.task c.insert.result c.requires.new (c.insert.ensures.succeeds c.requires.room) c.insert.ensures.keys in
+    let u : AreDistinct (map place_of ys) = distinct_places place_of (ready_eq eq law) (same_place eq law) ys c.insert.ensures.unique in
+    let v : AreDistinct (map place_of zs) = distinct_places place_of (ready_eq eq law) (same_place eq law) zs c.swap_indices.ensures.unique in
+    (put_in_is place_of xs ys zs c.args.ready c.len-last.result c.args.task c.requires.bound c.len-last.ensures.len i c.swap_indices.ensures.keys u v).1
+
+pub returns-clause-len : goal.returns-clause-len
+returns-clause-len g c =
+    let eq = g.U.Key.PartialEq.eq in
+    let law = c.laws_of.ensures.keys in
+    let xs = c.args.shelf.now.keys in
+    let ys = c.insert.new.self.keys in
+    let i = inserted place_of (ready_eq eq law) (one_place eq law) xs ys c.args.task c.insert.result c.requires.new (c.insert.ensures.succeeds c.requires.room) c.insert.ensures.keys in
+    ap length c.swap_indices.ensures.keys ∙ (length-swap ys c.len-last.result c.args.ready ∙ (ap length i ∙ length_push xs c.args.task))
+
+pub returns-clause-distinct : goal.returns-clause-distinct
+returns-clause-distinct g c =
+    let eq = g.U.Key.PartialEq.eq in
+    let law = c.laws_of.ensures.keys in
+    distinct_places place_of (ready_eq eq law) (same_place eq law) c.swap_indices.new.self.keys c.swap_indices.ensures.unique

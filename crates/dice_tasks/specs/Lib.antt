@@ -1,0 +1,9 @@
+pub mod Circles
+pub mod Endings
+pub mod Entries
+pub mod Hands
+pub mod Helds
+pub mod Loads
+pub mod Makings
+pub mod Shelves
+pub mod Waitings

@@ -1,0 +1,286 @@
+//! Tasks that are made.
+ghost use Rattle.std.specs.Prelude.{◌≡◌, ◌≢◌, ◌+◌, ◌∷◌, ℕ, List, reverse, cond, IfOk, MatchBool};
+ghost use Rattle.std.specs.Arc.{arc_value};
+ghost use Rattle.std.specs.Option.{option_map};
+ghost use Rattle.dice_jobs.specs.Jobs.{Name};
+ghost use Rattle.task_share.specs.Seen.{task_at};
+ghost use Rattle.journal.specs.declared.event.Told.TheVariants.{Start, Keep};
+ghost use Rattle.journal.specs.Law.{IsTrueCause};
+ghost use Rattle.journal.specs.Tell.{reason_of};
+ghost use Rattle.versioned_graph.specs.Entries.{entry_at, seen_at};
+ghost use Rattle.core_laws.specs.Desk.{World};
+ghost use Rattle.core_laws.specs.Stands.{WasSeen};
+ghost use Rattle.core_laws.specs.Tasks.{WithValue};
+ghost use Rattle.dice_key.specs.Meaning.{Answered};
+ghost use Rattle.dice_key.specs.declared.universe.Kind.TheVariants.{Injected};
+ghost use Rattle.versioned_graph.specs.Looks.{Matches, Computes, Checks};
+ghost use Rattle.dice_tasks.specs.Loads.{AreCopies};
+ghost use Rattle.dice_tasks.specs.Entries.{EntriesStand, IsMatched};
+ghost use Rattle.dice_tasks.specs.Helds.{held_ended};
+ghost use Rattle.dice_tasks.specs.Hands.{Readies, Working, with_event, with_made};
+ghost use Rattle.dice_tasks.specs.Makings.{CanMake, HasMakeRoom, HasTask, IsFree, IsMade, IsMaking, IsMakingFor, IsOfKey, Makes, MakesAlone, MakesEnded, MayMake, held_run, held_check};
+ghost use Rattle.dice_tasks.specs.Shelves.{place_of};
+
+use crate::Tasks;
+use crate::desk::Desk;
+use crate::shelf::ReadyTask;
+use crate::task::{Spare, Task};
+use crate::value::{cause_of, looked, seen};
+use dice_jobs::{Earlier, JobName};
+use dice_key::{KeyRef, NoMemory, Universe, ValueRef, laws_of};
+use journal::{Cause, Event};
+use std::alloc::Global;
+use std::sync::Arc;
+use versioned_graph::{Found, Graph, Why};
+
+/// What is to be made of a key at a version, with the memory that it takes.
+#[derive(Drop)]
+pub enum Making<U: Universe> {
+    /// Nothing: the key has a task.
+    Join,
+    /// A task that has ended with a value that was looked up: the value at the base.
+    Match {
+        event: KeyRef<U>,
+        base: u64,
+        task: Task<U>,
+    },
+    /// A task that computes the value.
+    Run {
+        event: KeyRef<U>,
+        cause: Cause<U::Key>,
+        ready: ReadyTask<U::Key>,
+        task: Task<U>,
+    },
+    /// A task that checks an earlier value.
+    Check {
+        ready: ReadyTask<U::Key>,
+        task: Task<U>,
+    },
+}
+
+/// Makes what was prepared for a key: its task, and what is told of it. It takes no memory.
+pub fn make<U: Universe>(
+    desk: &mut Desk<U>,
+    tasks: &mut Tasks<U>,
+    graph: &mut Graph<U>,
+    version: u64,
+    key: &KeyRef<U>,
+    making: Making<U>,
+)
+    requires own { IsOfKey version (arc_value key.now) making }
+    requires room { CanMake U.Key.eq version (arc_value key.now) tasks.old desk.old making }
+    ensures made { IsMade U.Key.eq version (arc_value key.now) tasks.old desk.old graph.old making tasks.new desk.new graph.new }
+    ensures alone { MakesAlone U.Key.eq version (arc_value key.now) tasks.old desk.old graph.old tasks.new desk.new graph.new }
+    ensures kept { (w : World U.Key U.Value) (W : List U.Key) (owed born : ℕ) → Working U.Key.eq U.meaning version W w (owed + 3) tasks.old desk.old → EntriesStand U.Key.eq U.meaning (reverse desk.old.events) graph.old → MayMake U.Key.eq U.meaning (reverse desk.old.events) version (arc_value key.now) born → IsMaking U.Key.eq U.meaning version (arc_value key.now) born tasks.old graph.old making → Working U.Key.eq U.meaning version W w owed tasks.new desk.new × EntriesStand U.Key.eq U.meaning (reverse desk.new.events) graph.new }
+{
+    laws_of::<U>();
+    match making {
+        Making::Join => {}
+        Making::Match { event, base, task } => {
+            make_match::<U>(desk, tasks, graph, version, key, event, base, task);
+        }
+        Making::Run {
+            event,
+            cause,
+            ready,
+            task,
+        } => make_run::<U>(desk, tasks, version, key, event, cause, ready, task),
+        Making::Check { ready, task } => make_check::<U>(desk, tasks, version, key, ready, task),
+    }
+}
+
+/// Puts a task that has ended with a value that was looked up. It takes no memory.
+fn make_match<U: Universe>(
+    desk: &mut Desk<U>,
+    tasks: &mut Tasks<U>,
+    graph: &mut Graph<U>,
+    version: u64,
+    key: &KeyRef<U>,
+    event: KeyRef<U>,
+    base: u64,
+    task: Task<U>,
+)
+    requires room { HasMakeRoom U.Key.eq version (arc_value key.now) tasks.old desk.old }
+    requires event { arc_value event ≡ arc_value key.now }
+    ensures tasks { MakesEnded U.Key.eq (arc_value key.now) task tasks.old tasks.new }
+    ensures desk { desk.new ≡ with_event desk.old (Keep version (arc_value key.now) base) }
+    ensures entries { (q : U.Key) → entry_at U.Key.eq graph.new q ≡ cond (U.Key.eq (arc_value key.now) q) (option_map (seen_at version) (entry_at U.Key.eq graph.old (arc_value key.now))) (entry_at U.Key.eq graph.old q) }
+    ensures stands { (x : U.Value) (w : World U.Key U.Value) (W : List U.Key) (owed born : ℕ) → Working U.Key.eq U.meaning version W w (owed + 1) tasks.old desk.old → EntriesStand U.Key.eq U.meaning (reverse desk.old.events) graph.old → MayMake U.Key.eq U.meaning (reverse desk.old.events) version (arc_value key.now) born → IsFree (task_at U.Key.eq tasks.old (arc_value key.now)) → IsMatched U.Key.eq U.meaning (reverse desk.old.events) graph.old version (arc_value key.now) x base → task ≡ held_ended (record { version = version; key = arc_value key.now; born = born }) (WithValue x) → Working U.Key.eq U.meaning version W w owed tasks.new desk.new × EntriesStand U.Key.eq U.meaning (reverse desk.new.events) graph.new }
+{
+    laws_of::<U>();
+    desk.push(Event::Keep(version, event, base));
+    tasks.make_reserved(key, task);
+    tasks.ended(key);
+    seen::<U>(graph, key, version);
+}
+
+/// Puts a task that computes its key's value, which is begun. It takes no memory.
+fn make_run<U: Universe>(
+    desk: &mut Desk<U>,
+    tasks: &mut Tasks<U>,
+    version: u64,
+    key: &KeyRef<U>,
+    event: KeyRef<U>,
+    cause: Cause<U::Key>,
+    ready: ReadyTask<U::Key>,
+    task: Task<U>,
+)
+    requires room { HasMakeRoom U.Key.eq version (arc_value key.now) tasks.old desk.old }
+    requires event { arc_value event ≡ arc_value key.now }
+    requires ready { place_of ready ≡ (version, arc_value key.now) }
+    ensures tasks { Makes U.Key.eq (arc_value key.now) task tasks.old tasks.new }
+    ensures desk { Readies (version, arc_value key.now) (with_made (with_event desk.old (Start version (arc_value key.now) (reason_of cause)))) desk.new }
+    ensures kept { (w : World U.Key U.Value) (W : List U.Key) (owed born : ℕ) → Working U.Key.eq U.meaning version W w (owed + 3) tasks.old desk.old → MayMake U.Key.eq U.meaning (reverse desk.old.events) version (arc_value key.now) born → IsFree (task_at U.Key.eq tasks.old (arc_value key.now)) → IsTrueCause U.Key.eq U.meaning (reverse desk.old.events) version (arc_value key.now) (reason_of cause) → task ≡ held_run (record { version = version; key = arc_value key.now; born = born }) → Working U.Key.eq U.meaning version W w owed tasks.new desk.new }
+{
+    laws_of::<U>();
+    desk.push(Event::Start(version, event, cause));
+    desk.made();
+    desk.readied(ready);
+    tasks.make_reserved(key, task);
+}
+
+/// Puts a task that checks an earlier value of its key. It takes no memory.
+fn make_check<U: Universe>(
+    desk: &mut Desk<U>,
+    tasks: &mut Tasks<U>,
+    version: u64,
+    key: &KeyRef<U>,
+    ready: ReadyTask<U::Key>,
+    task: Task<U>,
+)
+    requires room { HasMakeRoom U.Key.eq version (arc_value key.now) tasks.old desk.old }
+    requires ready { place_of ready ≡ (version, arc_value key.now) }
+    ensures tasks { Makes U.Key.eq (arc_value key.now) task tasks.old tasks.new }
+    ensures desk { Readies (version, arc_value key.now) (with_made desk.old) desk.new }
+    ensures kept { (x : U.Value) (T : List (Answered U.Key U.Value)) (b : ℕ) (w : World U.Key U.Value) (W : List U.Key) (owed born : ℕ) → Working U.Key.eq U.meaning version W w (owed + 2) tasks.old desk.old → MayMake U.Key.eq U.meaning (reverse desk.old.events) version (arc_value key.now) born → IsFree (task_at U.Key.eq tasks.old (arc_value key.now)) → WasSeen U.Key.eq U.meaning (reverse desk.old.events) (arc_value key.now) x T b → task ≡ held_check (record { version = version; key = arc_value key.now; born = born }) x T b → Working U.Key.eq U.meaning version W w owed tasks.new desk.new }
+{
+    laws_of::<U>();
+    desk.made();
+    desk.readied(ready);
+    tasks.make_reserved(key, task);
+}
+
+/// Whether the key has a task that was not given up.
+fn has_task<U: Universe>(tasks: &Tasks<U>, key: &KeyRef<U>) -> bool
+    ensures { MatchBool result (HasTask (task_at U.Key.eq tasks.now (arc_value key.now))) (IsFree (task_at U.Key.eq tasks.now (arc_value key.now))) }
+{
+    match tasks.task(key) {
+        Some(task) => !task.is_lost(),
+        None => false,
+    }
+}
+
+/// The name of a task that is made now.
+fn name_of<U: Universe>(version: u64, key: &KeyRef<U>, born: u64) -> Result<JobName<U>, NoMemory>
+    ensures { IfOk result (λ n. n ≡ record { version = version; key = arc_value key.now; born = born }) }
+{
+    Ok(JobName::new(version, Arc::try_clone(key)?, born))
+}
+
+/// Copies of the key, for the events that end its task.
+fn copies_of<U: Universe>(key: &KeyRef<U>) -> Result<Spare<U>, NoMemory>
+    ensures { IfOk result (AreCopies (arc_value key.now)) }
+{
+    let first = Arc::try_clone(key)?;
+    let second = Arc::try_clone(key)?;
+    Ok(Spare { first, second })
+}
+
+/// The place of the task among those that are ready.
+fn ready_task<U: Universe>(version: u64, key: &KeyRef<U>) -> Result<ReadyTask<U::Key>, NoMemory>
+    ensures { IfOk result (λ r. place_of r ≡ (version, arc_value key.now)) }
+{
+    let key = Arc::try_clone(key)?;
+    Ok(ReadyTask { version, key })
+}
+
+/// What is made of a match with a value and its base.
+fn prepare_match<U: Universe>(
+    version: u64,
+    key: &KeyRef<U>,
+    born: u64,
+    value: &ValueRef<U>,
+    base: u64,
+) -> Result<Making<U>, NoMemory>
+    ensures making { IfOk result (IsMakingFor version (arc_value key.now) born (Matches (arc_value value.now) base)) }
+    ensures own { IfOk result (IsOfKey version (arc_value key.now)) }
+{
+    let name = name_of::<U>(version, key, born)?;
+    let event = Arc::try_clone(key)?;
+    let value = Arc::try_clone(value)?;
+    let task = Task::matched(name, value);
+    Ok(Making::Match { event, base, task })
+}
+
+/// What is made where the value has to be computed.
+fn prepare_run<U: Universe>(
+    alloc: Global,
+    version: u64,
+    key: &KeyRef<U>,
+    born: u64,
+    why: Why,
+) -> Result<Making<U>, NoMemory>
+    requires { U.meaning.kind (arc_value key.now) ≢ Injected }
+    ensures making { IfOk result (IsMakingFor version (arc_value key.now) born (Computes why)) }
+    ensures own { IfOk result (IsOfKey version (arc_value key.now)) }
+{
+    let name = name_of::<U>(version, key, born)?;
+    let spare = copies_of::<U>(key)?;
+    let task = Task::run(alloc, name, spare)?;
+    let event = Arc::try_clone(key)?;
+    let ready = ready_task::<U>(version, key)?;
+    let cause = cause_of(why);
+    Ok(Making::Run {
+        event,
+        cause,
+        ready,
+        task,
+    })
+}
+
+/// What is made where an earlier value has to be checked.
+fn prepare_check<U: Universe>(
+    alloc: Global,
+    version: u64,
+    key: &KeyRef<U>,
+    born: u64,
+    earlier: Earlier<U>,
+) -> Result<Making<U>, NoMemory>
+    ensures making { IfOk result (IsMakingFor version (arc_value key.now) born (Checks (arc_value earlier.value) (arc_value earlier.trace) earlier.base)) }
+    ensures own { IfOk result (IsOfKey version (arc_value key.now)) }
+{
+    let name = name_of::<U>(version, key, born)?;
+    let spare = copies_of::<U>(key)?;
+    let task = Task::check(alloc, name, spare, earlier)?;
+    let ready = ready_task::<U>(version, key)?;
+    Ok(Making::Check { ready, task })
+}
+
+/// What is to be made of a key, which is not injected, at a version, where the journal has `born` events: nothing where it has
+/// a task that was not given up, else what a look-up says. It takes the memory for it, and changes nothing.
+pub fn prepare<U: Universe>(
+    alloc: Global,
+    graph: &Graph<U>,
+    tasks: &Tasks<U>,
+    version: u64,
+    key: &KeyRef<U>,
+    born: u64,
+) -> Result<Making<U>, NoMemory>
+    requires { U.meaning.kind (arc_value key.now) ≢ Injected }
+    ensures making { IfOk result (IsMaking U.Key.eq U.meaning version (arc_value key.now) born tasks.now graph.now) }
+    ensures own { IfOk result (IsOfKey version (arc_value key.now)) }
+{
+    if has_task::<U>(tasks, key) {
+        return Ok(Making::Join);
+    }
+    match looked::<U>(graph, key, version) {
+        Found::Match(value, base) => prepare_match::<U>(version, key, born, value, base),
+        Found::Compute(why) => prepare_run::<U>(alloc, version, key, born, why),
+        Found::CheckDeps(value, trace, base) => {
+            let value = Arc::try_clone(value)?;
+            let trace = Arc::try_clone(trace)?;
+            let earlier = Earlier { value, trace, base };
+            prepare_check::<U>(alloc, version, key, born, earlier)
+        }
+    }
+}

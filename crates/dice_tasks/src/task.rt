@@ -1,0 +1,382 @@
+//! Tasks.
+ghost use Rattle.std.specs.Prelude.{◌≡◌, ◌≢◌, ◌↔◌, [], true, false, length, List, ℕ, IfOk, IfSome, IfNone, Some, None, IsTrue};
+ghost use Rattle.std.specs.Arc.{arc_value};
+ghost use Rattle.std.specs.Option.{option_map};
+ghost use Rattle.dice_key.specs.declared.universe.Kind.TheVariants.{Injected};
+ghost use Rattle.dice_key.specs.Meaning.{Answered};
+ghost use Rattle.dice_jobs.specs.Jobs.{Waits, Computes, Checks, answered_more};
+ghost use Rattle.dice_jobs.specs.Shapes.{work_of};
+ghost use Rattle.core_laws.specs.Tasks.{Phase, IsReady, IsOut, IsWaiting, Ended, WithValue, WithNothing, goes_on, waits_for, value_in};
+ghost use Rattle.core_laws.specs.Desk.{ready_in, out_in};
+ghost use Rattle.dice_tasks.specs.Helds.{came, held_of, held_ended, FollowsOn};
+ghost use Rattle.dice_tasks.specs.Circles.{path_in};
+ghost use Rattle.dice_tasks.specs.Loads.{AreCopies};
+
+use dice_jobs::{Assignment, Earlier, Job, JobName, Parked, Step};
+use dice_key::{Answers, Batch, KeyRef, NoMemory, Path, Universe, ValueRef};
+use std::alloc::Global;
+use std::marker::Model;
+use std::mem;
+use std::sync::Arc;
+use task_state::{Outcome, Stage, TaskState};
+
+/// What a task keeps of its work.
+#[derive(Drop)]
+enum Load<U: Universe> {
+    /// The job that can be taken, and what it is for.
+    Job(Job<U>, Assignment<U>),
+    /// What the job that was taken is for.
+    Away(Assignment<U>),
+    /// The job that waits for answers.
+    Parked(Parked<U>),
+    /// Nothing: it has ended.
+    Nothing,
+}
+
+/// Two copies of a task's key, for the events that end it: so ending it takes no memory.
+#[derive(Drop)]
+pub(crate) struct Spare<U: Universe> {
+    pub(crate) first: KeyRef<U>,
+    pub(crate) second: KeyRef<U>,
+}
+
+/// What a waiting task goes on with when its batch is answered, made ahead: what its job is for then, twice, and the answers.
+#[derive(Drop)]
+pub struct Next<U: Universe> {
+    own: Assignment<U>,
+    job: Assignment<U>,
+    answers: Answers<U::Value>,
+}
+
+impl<U: Universe> Model for Next<U> {
+    ghost use Rattle.std.specs.Prelude.{◌≡◌};
+    ghost use Rattle.dice_tasks.specs.Helds.{Ahead};
+
+    ghost Value = { Ahead U.Key U.Value };
+
+    ghost view = { λ n. record { job = n.job; values = n.answers } };
+
+    ghost invariant = { λ n. n.own ≡ n.job };
+}
+
+impl<U: Universe> Next<U> {
+    /// What a parked job goes on with when its batch has these answers, a value for each key.
+    pub(crate) fn of(parked: &Parked<U>, answers: Answers<U::Value>) -> Result<Next<U>, NoMemory>
+        requires { length answers ≡ length parked.now.keys }
+        ensures { IfOk result (λ n. n ≡ record { job = answered_more parked.now.job parked.now.keys answers; values = answers }) }
+    {
+        let job = parked.answered(&answers)?;
+        let own = job.try_clone()?;
+        Ok(Next { own, job, answers })
+    }
+
+    /// What a job goes on with when the batch that it asks has these answers, a value for each key.
+    pub fn of_batch(
+        assignment: &Assignment<U>,
+        batch: &Batch<U::Key>,
+        answers: Answers<U::Value>,
+    ) -> Result<Next<U>, NoMemory>
+        requires { length answers ≡ length batch.now }
+        ensures { IfOk result (λ n. n ≡ record { job = answered_more assignment.now batch.now answers; values = answers }) }
+    {
+        let job = assignment.extended(batch, &answers)?;
+        let own = job.try_clone()?;
+        Ok(Next { own, job, answers })
+    }
+
+    /// The job that goes on, and what the task keeps of it. It takes no memory.
+    fn of_parked(self, parked: Parked<U>) -> (Job<U>, Assignment<U>)
+        requires count { length self.values ≡ length parked.keys }
+        requires job { self.job ≡ answered_more parked.job parked.keys self.values }
+        ensures { (result.0 ≡ self.job) × (result.1 ≡ self.job) }
+    {
+        let Next { own, job, answers } = self;
+        (parked.resume(job, answers), own)
+    }
+}
+
+/// A task: the work for one key at one version.
+#[derive(Drop)]
+pub struct Task<U: Universe> {
+    name: JobName<U>,
+    state: TaskState<U::Key, U::Value>,
+    load: Load<U>,
+    spare: Option<Spare<U>>,
+}
+
+impl<U: Universe> Model for Task<U> {
+    ghost use Rattle.dice_tasks.specs.Helds.{Held};
+
+    ghost Value = { Held U.Key U.Value };
+
+    ghost use Rattle.dice_tasks.specs.Loads.{standing_of, IsLoaded, IsSupplied};
+
+    ghost view = { λ t. record { name = t.name; standing = standing_of t.load t.state } };
+
+    ghost invariant = { λ t. IsLoaded t.name t.load t.state × IsSupplied t.name.key t.load t.spare };
+}
+
+impl<U: Universe> Task<U> {
+    /// A task that computes its key's value, ready to be taken.
+    pub(crate) fn run(alloc: Global, name: JobName<U>, spare: Spare<U>) -> Result<Task<U>, NoMemory>
+        requires kind { U.meaning.kind name.key ≢ Injected }
+        requires spare { AreCopies name.key spare }
+        ensures { IfOk result (λ t. t ≡ held_of (record { name = name; answered = []; work = Computes }) IsReady) }
+    {
+        let job = Job::begin(alloc, name.try_clone()?);
+        let own = job.assignment().try_clone()?;
+        Ok(Task {
+            name,
+            state: TaskState::Computing(Stage::Ready),
+            load: Load::Job(job, own),
+            spare: Some(spare),
+        })
+    }
+
+    /// A task that checks an earlier value of its key, ready to be taken.
+    pub(crate) fn check(
+        alloc: Global,
+        name: JobName<U>,
+        spare: Spare<U>,
+        earlier: Earlier<U>,
+    ) -> Result<Task<U>, NoMemory>
+        requires { AreCopies name.key spare }
+        ensures { IfOk result (λ t. t ≡ held_of (record { name = name; answered = []; work = work_of (Some earlier) }) IsReady) }
+    {
+        let job = Job::check(alloc, name.try_clone()?, earlier)?;
+        let own = job.assignment().try_clone()?;
+        Ok(Task {
+            name,
+            state: TaskState::Checking(Stage::Ready),
+            load: Load::Job(job, own),
+            spare: Some(spare),
+        })
+    }
+
+    /// A task that has ended with a value that was looked up. It takes no memory.
+    pub(crate) fn matched(name: JobName<U>, value: ValueRef<U>) -> Task<U>
+        ensures { result ≡ held_ended name (WithValue (arc_value value)) }
+    {
+        Task {
+            name,
+            state: TaskState::Ended(Outcome::Value(value)),
+            load: Load::Nothing,
+            spare: None,
+        }
+    }
+
+    /// Takes the job of a ready task: it goes out. `None` where the task is not ready.
+    pub(crate) fn take(&mut self) -> Option<Job<U>>
+        ensures some { IfSome result (λ j. (self.old ≡ held_of j IsReady) × (self.new ≡ held_of j IsOut)) }
+        ensures none { IfNone result ((self.new ≡ self.old) × (ready_in self.old.standing ≡ false)) }
+    {
+        match mem::replace(&mut self.load, Load::Nothing) {
+            Load::Job(job, own) => {
+                self.state.taken();
+                self.load = Load::Away(own);
+                Some(job)
+            }
+            other => {
+                self.load = other;
+                None
+            }
+        }
+    }
+
+    /// Whether this job of the task is out.
+    fn is_away(&self, job: &Assignment<U>) -> bool
+        ensures { IsTrue result ↔ (self.now ≡ held_of job.now IsOut) }
+    {
+        match &self.load {
+            Load::Away(own) => job.is_same(own),
+            _ => false,
+        }
+    }
+
+    /// Takes back the job that is out, undone: the task is ready again. Another job is handed back. It takes no memory.
+    pub(crate) fn back(&mut self, job: Job<U>) -> Option<Job<U>>
+        ensures some { IfSome result (λ j. (j ≡ job) × (self.new ≡ self.old) × (self.old ≡ held_of job IsOut → ⊥)) }
+        ensures none { IfNone result ((self.old ≡ held_of job IsOut) × (self.new ≡ held_of job IsReady)) }
+    {
+        if !self.is_away(job.assignment()) {
+            return Some(job);
+        }
+        match mem::replace(&mut self.load, Load::Nothing) {
+            Load::Away(own) => {
+                self.state.back();
+                self.load = Load::Job(job, own);
+                None
+            }
+            other => {
+                self.load = other;
+                Some(job)
+            }
+        }
+    }
+
+    /// Whether it is a step of the job that is out.
+    pub fn is_of(&self, step: &Step<U>) -> bool
+        ensures { IsTrue result ↔ (self.now ≡ held_of step.now.job IsOut) }
+    {
+        self.is_away(step.assignment())
+    }
+
+    /// The job that was out waits for answers. It takes no memory.
+    pub(crate) fn park(&mut self, parked: Parked<U>)
+        requires { self.old ≡ held_of parked.job IsOut }
+        ensures { self.new ≡ held_of parked.job (IsWaiting parked.keys) }
+    {
+        self.state.given(false);
+        self.load = Load::Parked(parked);
+    }
+
+    /// What a waiting task goes on with when its batch has these answers, a value for each key. It costs the number of keys and
+    /// values, over all batches.
+    pub fn next(&self, answers: Answers<U::Value>) -> Result<Next<U>, NoMemory>
+        requires { (w : Waits U.Key U.Value) × (self.now ≡ held_of w.job (IsWaiting w.keys)) × (length answers ≡ length w.keys) }
+        ensures { IfOk result (λ n. FollowsOn self.now n × (n.values ≡ answers)) }
+    {
+        match &self.load {
+            Load::Parked(parked) => Next::of(parked, answers),
+            _ => Err(NoMemory),
+        }
+    }
+
+    /// The batch of a waiting task is answered: it is ready again. It takes no memory.
+    pub fn resume(&mut self, next: Next<U>)
+        requires { FollowsOn self.old next }
+        ensures { self.new ≡ held_of next.job IsReady }
+    {
+        match mem::replace(&mut self.load, Load::Nothing) {
+            Load::Parked(parked) => {
+                let (job, own) = next.of_parked(parked);
+                self.state.answered();
+                self.load = Load::Job(job, own);
+            }
+            other => self.load = other,
+        }
+    }
+
+    /// The job that was out asked a batch that is answered already: the task is ready again. It takes no memory.
+    pub(crate) fn go_on(&mut self, parked: Parked<U>, next: Next<U>)
+        requires out { self.old ≡ held_of parked.job IsOut }
+        requires count { length next.values ≡ length parked.keys }
+        requires next { next.job ≡ answered_more parked.job parked.keys next.values }
+        ensures { self.new ≡ held_of next.job IsReady }
+    {
+        let (job, own) = next.of_parked(parked);
+        self.state.given(true);
+        self.load = Load::Job(job, own);
+    }
+
+    /// The check that was out found a difference: the key's value is computed. It takes no memory.
+    pub(crate) fn begin_anew(&mut self, job: Job<U>, own: Assignment<U>)
+        requires check { (x : U.Value) × (T : List (Answered U.Key U.Value)) × (b : ℕ) × (A : List (Answered U.Key U.Value)) × (self.old ≡ held_of (record { name = job.name; answered = A; work = Checks x T b }) IsOut) }
+        requires own { own ≡ job }
+        requires job { job ≡ record { name = job.name; answered = []; work = Computes } }
+        ensures { self.new ≡ held_of job IsReady }
+    {
+        self.state.differs();
+        self.load = Load::Job(job, own);
+    }
+
+    /// Ends the task, and hands out the copies of its key. It takes no memory.
+    pub(crate) fn end(&mut self, outcome: Outcome<U::Key, U::Value>) -> Option<Spare<U>>
+        requires { goes_on self.old.standing ≡ true }
+        ensures ended { self.new ≡ held_ended self.old.name (came outcome) }
+        ensures spare { IfSome result (AreCopies self.old.name.key) }
+        ensures some { IfNone result ⊥ }
+    {
+        self.state.end(outcome);
+        self.load = Load::Nothing;
+        self.spare.take()
+    }
+
+    /// The name.
+    pub fn name(&self) -> &JobName<U>
+        ensures { result.now ≡ self.now.name }
+    {
+        &self.name
+    }
+
+    /// What the task's job is for; `None` where it has ended.
+    pub fn assignment(&self) -> Option<&Assignment<U>>
+        ensures some { IfSome result (λ a. (p : Phase U.Key) × (self.now ≡ held_of a.now p)) }
+        ensures none { IfNone result (goes_on self.now.standing ≡ false) }
+    {
+        match &self.load {
+            Load::Job(_, own) | Load::Away(own) => Some(own),
+            Load::Parked(parked) => Some(parked.assignment()),
+            Load::Nothing => None,
+        }
+    }
+
+    /// The batch that the task waits for, where it waits.
+    pub fn batch(&self) -> Option<&Batch<U::Key>>
+        ensures { option_map (λ b. b.now) result ≡ waits_for self.now.standing }
+    {
+        match &self.load {
+            Load::Parked(parked) => Some(parked.batch()),
+            _ => None,
+        }
+    }
+
+    /// How the task ended, where it has.
+    pub fn outcome(&self) -> Option<&Outcome<U::Key, U::Value>>
+        ensures some { IfSome result (λ o. self.now.standing ≡ Ended (came o.now)) }
+        ensures none { IfNone result (goes_on self.now.standing ≡ true) }
+    {
+        match (&self.load, &self.state) {
+            (Load::Nothing, TaskState::Ended(outcome)) => Some(outcome),
+            _ => None,
+        }
+    }
+
+    /// The value that the task ended with, where it has.
+    pub fn value(&self) -> Option<&ValueRef<U>>
+        ensures { option_map (λ x. arc_value x.now) result ≡ value_in self.now.standing }
+    {
+        match self.outcome() {
+            Some(Outcome::Value(value)) => Some(value),
+            _ => None,
+        }
+    }
+
+    /// The circle that the task ended with, where it has.
+    pub fn circle(&self) -> Option<&Arc<Path<U::Key>>>
+        ensures { option_map (λ p. arc_value p.now) result ≡ path_in self.now.standing }
+    {
+        match self.outcome() {
+            Some(Outcome::Cycle(path)) => Some(path),
+            _ => None,
+        }
+    }
+
+    /// Whether the task was given up for want of memory.
+    pub(crate) fn is_lost(&self) -> bool
+        ensures { IsTrue result ↔ (self.now.standing ≡ Ended WithNothing) }
+    {
+        matches!(self.outcome(), Some(Outcome::Lost))
+    }
+
+    /// Whether the task has not ended.
+    pub fn is_live(&self) -> bool
+        ensures { result ≡ goes_on self.now.standing }
+    {
+        !matches!(&self.load, Load::Nothing)
+    }
+
+    /// Whether its job can be taken.
+    pub(crate) fn is_ready(&self) -> bool
+        ensures { result ≡ ready_in self.now.standing }
+    {
+        matches!(&self.load, Load::Job(..))
+    }
+
+    /// Whether its job is out.
+    pub fn is_out(&self) -> bool
+        ensures { result ≡ out_in self.now.standing }
+    {
+        matches!(&self.load, Load::Away(_))
+    }
+}
