@@ -1,5 +1,5 @@
 -- The end of a script: the requests that were neither waited for nor cancelled are waited for, and the transactions closed.
-use Rattle.std.proofs.Common.{◌≡◌, ◌≢◌, ◌⊎◌, inl, inr, ℕ, Bool, true, false, cond, List, [], ◌∷◌, ◌++◌, Option, Some, None, refl, sym, ap, ◌∙◌, subst, arith, append-nil, append_assoc}
+use Rattle.std.proofs.Common.{◌≡◌, ◌≢◌, ◌≤◌, ◌<◌, ◌+◌, ◌⊎◌, inl, inr, zero, suc, drop, get_or, drop-cons, add-one, length, ℕ, Bool, true, false, cond, List, [], ◌∷◌, ◌++◌, Option, Some, None, refl, sym, ap, ◌∙◌, subst, arith, append-nil, append_assoc}
 use Rattle.std.specs.Option.{option_map}
 use Rattle.std.specs.Str.{bytes_eq}
 use Rattle.std.proofs.lemmas.Slice.Eq.{bytes_eq-Decides}
@@ -19,7 +19,7 @@ use Rattle.journal.specs.declared.event.Told.{Told}
 use Rattle.dice_engine.specs.Turns.{log_of as engine_log}
 use Rattle.action_digest.specs.declared.key.Key.{Key}
 use Rattle.action_digest.specs.declared.value.Value.{Value}
-use Rattle.dice_run.specs.Driving.{IsAt, IsTold, Matches, Starts, Steps, answer_of, newest_of, newest_from}
+use Rattle.dice_run.specs.Driving.{IsAt, IsTold, IsReady, Matches, Starts, Steps, answer_of, newest_of, newest_from}
 use Rattle.dice_run.specs.Driven.{Carried, Settled, Settling}
 use Rattle.dice_run.specs.Printing.{IsDone}
 use Rattle.dice_run.specs.declared.driver.Driver.{Driver}
@@ -80,6 +80,9 @@ going_more id ls rest l d e g s = record {
   fates = g.fates;
   newest = g.newest ∙ (sym (append_assoc d.newest.items (newest_of g.plan l) (newest_from (is_cancelled ls) (planned (is_cancelled ls) g.plan l) rest)) ∙ ap (λ (ns : List ℕ). ns ++ newest_from (is_cancelled ls) (planned (is_cancelled ls) g.plan l) rest) (sym s.newest));
 }
+
+pub going_ready : (id : TableId) (ls rest : List Line) (l : Line) (d : Driver) → Going id ls (l ∷ rest) d → IsReady id d l
+going_ready id ls rest l d g = record { plan = g.plan; past = g.past; stands = g.stands; fits = g.order.0 }
 
 pub going_end : (id : TableId) (ls : List Line) (d : Driver) → Going id ls [] d → Carried id ls d
 going_end id ls d g = record {
@@ -149,7 +152,7 @@ had_later ends (Ask q ∷ ls) p r h = had_later ends ls (planned ends p (Ask q))
 had_later ends (Action q ∷ ls) p r h = had_later ends ls (planned ends p (Action q)) r (has_kept_end p.requests _ r h)
 
 -- each request says whether its name is given up
-AllSay : Ends → List Planned → Type 0
+abbrev pub AllSay : Ends → List Planned → Type 0
 AllSay ends rs = (r : Planned) → Has rs r → r.cancelled ≡ ends r.name
 
 say_end : (ends : Ends) (rs : List Planned) (s : Planned) → AllSay ends rs → s.cancelled ≡ ends s.name → AllSay ends (rs ++ s ∷ [])
@@ -320,3 +323,14 @@ settled_done id ls d s = record {
       let t = told_at d r m.asked.fate f m.at in
       (t.text, t.held, subst (λ C. IsToldOf C r.version (key_of r.wish) t.text) s.stands.log t.told);
 }
+
+-- ---- lists, from a place on
+
+pub drop_item : {X : Type 0} (xs : List X) (k : ℕ) (x : X) → k < length xs → x ≡ get_or xs k x → drop k xs ≡ x ∷ drop (k + 1) xs
+drop_item xs k x h e = drop-cons xs k x h ∙ ap (λ (y : _). y ∷ drop (suc k) xs) (sym e) ∙ ap (λ (n : ℕ). x ∷ drop n xs) (sym (add-one k))
+
+pub drop_whole : {X : Type 0} (xs : List X) (k : ℕ) → length xs ≤ k → drop k xs ≡ []
+drop_whole [] zero h = refl
+drop_whole [] (suc k) h = refl
+drop_whole (x ∷ xs) zero h = absurd (let e : length (x ∷ xs) ≡ suc (length xs) = refl in omega arith)
+drop_whole (x ∷ xs) (suc k) h = drop_whole xs k (let e : length (x ∷ xs) ≡ suc (length xs) = refl in omega arith)

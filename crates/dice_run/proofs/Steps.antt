@@ -27,7 +27,7 @@ use Rattle.script.specs.declared.fate.Fate.TheVariants as fate
 use Rattle.script.specs.declared.requests.Asked.{Asked}
 use Rattle.script.specs.Past.{Past, after, fate_of, come_to, left_by, given_up, made_in}
 use Rattle.script.specs.Order.{Fits, IsNew}
-use Rattle.script.specs.Plan.{Ends, Plan, Planned, Change, Wish, version_of, wanted, requested, gathering, planned, differs, committed, with_commit}
+use Rattle.script.specs.Plan.{Ends, Plan, Planned, Change, Wish, Digest, Text, version_of, wanted, requested, gathering, planned, differs, committed, with_commit}
 use Rattle.action_digest.specs.declared.key.Key.{Key}
 use Rattle.action_digest.specs.declared.key.Key.TheVariants as key
 use Rattle.action_digest.specs.declared.value.Value.{Value}
@@ -39,7 +39,7 @@ use Rattle.dice_run.specs.Output.{log_of, pair_of_change, pairs_of_changes, key_
 use Rattle.dice_run.specs.Answers.{IsToldOf, told_value, told_cycle}
 use Rattle.dice_run.specs.Commits.{differs_from, with_pairs}
 use Rattle.dice_run.specs.Seats.{Place, log_in, IsOurs, Goes}
-use Rattle.dice_run.specs.Driving.{Pledge, transaction_of, pledge_of, answer_of, paths_of, IsPending, IsTold, IsAt, IsMade, Matches, KeepsNames, HasTransaction, MayWait, MayCancel, with_named, DidOpen, DidAsk, DidWait, was_told, is_told, DidCancel, DidClose, newest_of, Steps}
+use Rattle.dice_run.specs.Driving.{Pledge, transaction_of, pledge_of, answer_of, paths_of, IsPending, IsTold, IsAt, IsMade, Matches, KeepsNames, HasTransaction, MayWait, MayCancel, MayClose, with_named, DidOpen, DidAsk, DidWait, was_told, is_told, DidCancel, DidClose, newest_of, Steps}
 use Rattle.dice_run.specs.declared.driver.Driver.{Driver}
 use Rattle.dice_run.proofs.Changing.{differing_same}
 use Rattle.dice_run.proofs.Seating.{Onward, onward, onward_same, still_open, still_asks, seen_longer, log_open, log_close, log_ask, log_leave, log_none, log_commit, commit_closes_none, commit_leaves_none, open_below, ask_below}
@@ -209,7 +209,7 @@ commit_stands id ends d e p past m goes eg k en =
         apart = λ t u x y h i. m.apart t u x y (ap (λ v. get (pointwise nat_eq) v t) (sym k.transactions) ∙ h) (ap (λ v. get (pointwise nat_eq) v u) (sym k.transactions) ∙ i);
         pledged = λ q x h. (let a = m.pledged q x (ap (λ v. get (pointwise nat_eq) v q) (sym k.promises) ∙ h) in let b = seen_longer d.seat e.seat own o in omega arith);
         asks_apart = λ q r x y h i. m.asks_apart q r x y (ap (λ v. get (pointwise nat_eq) v q) (sym k.promises) ∙ h) (ap (λ v. get (pointwise nat_eq) v r) (sym k.promises) ∙ i);
-        requests = λ r h. made_still d e own o more.0 (log ∙ more.1) r past past refl (λ x i. commit_leaves_none x.ask 0 ps) (ap (λ v. get (pointwise nat_eq) v r.name) k.promises)
+        requests = λ r h. made_still d e own o more.0 (log ∙ more.1) r past (after past line.Commit) refl (λ x i. commit_leaves_none x.ask 0 ps) (ap (λ v. get (pointwise nat_eq) v r.name) k.promises)
             (ap (λ v. option_map (λ w. w.items) (get (pointwise nat_eq) v r.name)) k.answers) (λ x i. ap (λ v. get (pointwise nat_eq) v r.transaction) k.transactions ∙ i) (m.requests r h);
         found = m.found;
         distinct = tt;
@@ -261,7 +261,7 @@ open_within t q n opened w = by_test (bytes_eq q t)
     by_test false = w
 
 module _ (id : TableId) (ends : Ends) (d e : Driver) (p : Plan) (past : Past) (t : List ℕ) (m : Matches id d p past) (new : past.opened t ≡ None) (x : DidOpen id t d e) where
-  opens_own : List (Told Key Value)
+  abbrev pub opens_own : List (Told Key Value)
   opens_own = Open 0 x.transaction.version ∷ []
 
   opens_onward : Onward d.seat e.seat opens_own
@@ -352,7 +352,7 @@ other_request : (id : TableId) (d : Driver) (p : Plan) (past : Past) (q : List �
 other_request id d p past q r m new h = other_name q r.name (λ s. none_some (sym new ∙ (ap past.asked s ∙ (m.requests r h).made)))
 
 module _ (id : TableId) (ends : Ends) (d e : Driver) (p : Plan) (past : Past) (r : Request) (w : Wish) (m : Matches id d p past) (new : IsNew past r) (x : DidAsk id r (key_of w) d e) where
-  asks_own : List (Told Key Value)
+  abbrev pub asks_own : List (Told Key Value)
   asks_own = Ask 0 x.pledge.opened (arc_value x.pledge.key) ∷ []
 
   asks_onward : Onward d.seat e.seat asks_own
@@ -361,7 +361,7 @@ module _ (id : TableId) (ends : Ends) (d e : Driver) (p : Plan) (past : Past) (r
   asks_log : log_in e.seat ≡ log_in d.seat
   asks_log = log_ask d.seat e.seat asks_own asks_onward 0 x.pledge.opened (arc_value x.pledge.key) refl
 
-  asked_now : Planned
+  abbrev pub asked_now : Planned
   asked_now = wanted ends p r w
 
   asks_transaction : (t : List ℕ) → transaction_of e t ≡ transaction_of d t
@@ -513,7 +513,7 @@ module _ (id : TableId) (d : Driver) (p : Plan) (past : Past) (m : Matches id d 
 -- ---- a request that was waited for
 
 module _ (id : TableId) (ends : Ends) (d e : Driver) (p : Plan) (past : Past) (q : List ℕ) (m : Matches id d p past) (some : fate_of past q ≢ None) (alive : fate_of past q ≢ Some fate.Cancelled) where
-  waits : Past
+  abbrev pub waits : Past
   waits = after past (line.Wait q)
 
   -- what is asked of a name now
@@ -642,10 +642,10 @@ module _ (id : TableId) (ends : Ends) (d e : Driver) (p : Plan) (past : Past) (q
 -- ---- a request that is given up
 
 module _ (id : TableId) (ends : Ends) (d e : Driver) (p : Plan) (past : Past) (q : List ℕ) (m : Matches id d p past) (pending : fate_of past q ≡ Some fate.Pending) (x : DidCancel id q d e) where
-  cancels : Past
+  abbrev pub cancels : Past
   cancels = after past (line.Cancel q)
 
-  cancels_own : List (Told Key Value)
+  abbrev pub cancels_own : List (Told Key Value)
   cancels_own = Leave 0 x.pledge.ask ∷ []
 
   cancels_onward : Onward d.seat e.seat cancels_own
@@ -716,10 +716,10 @@ module _ (id : TableId) (ends : Ends) (d e : Driver) (p : Plan) (past : Past) (q
 -- ---- a transaction that is closed
 
 module _ (id : TableId) (ends : Ends) (d e : Driver) (p : Plan) (past : Past) (t : List ℕ) (m : Matches id d p past) (x : DidClose id t d e) where
-  closes : Past
+  abbrev pub closes : Past
   closes = after past (line.Close t)
 
-  closes_own : List (Told Key Value)
+  abbrev pub closes_own : List (Told Key Value)
   closes_own = Close 0 x.transaction.opened ∷ []
 
   closes_onward : Onward d.seat e.seat closes_own
@@ -805,3 +805,32 @@ module _ (id : TableId) (ends : Ends) (d e : Driver) (p : Plan) (past : Past) (t
       closes_known u k = by_name t u _
           (λ s. absurd (some_false (sym (ap (λ b. cond b (Some false) (past.opened u)) (subst (λ n. bytes_eq n u ≡ true) (sym s) (own_name u))) ∙ k)))
           (λ f. (let y = m.known u (sym (ap (λ b. cond b (Some false) (past.opened u)) f) ∙ k) in (y.0, x.transactions u ∙ (past_name t u None (transaction_of d) f ∙ y.1))))
+
+-- ---- put and drop, as steps
+
+pub put_steps : (id : TableId) (ends : Ends) (d e : Driver) (p : Plan) (past : Past) (path bytes : List ℕ) → Matches id d p past → past.touched path ≡ false → e.seat ≡ d.seat
+    → e.gathered ≡ d.gathered ++ (key.Source path, value.Source (Some bytes)) ∷ [] → KeepsNames d e → e.newest ≡ d.newest → Steps id ends p past (line.Put path bytes) d e
+put_steps id ends d e p past path bytes m fresh seat eg k en = record {
+  stands = gathered_stands id d e p past m seat k path (Some bytes) fresh eg;
+  newest = ap (λ v. v.items) en ∙ sym (append-nil d.newest.items);
+}
+
+pub drop_steps : (id : TableId) (ends : Ends) (d e : Driver) (p : Plan) (past : Past) (path : List ℕ) → Matches id d p past → past.touched path ≡ false → e.seat ≡ d.seat
+    → e.gathered ≡ d.gathered ++ (key.Source path, value.Source None) ∷ [] → KeepsNames d e → e.newest ≡ d.newest → Steps id ends p past (line.Drop path) d e
+drop_steps id ends d e p past path m fresh seat eg k en = record {
+  stands = gathered_stands id d e p past m seat k path None fresh eg;
+  newest = ap (λ v. v.items) en ∙ sym (append-nil d.newest.items);
+}
+
+-- ---- requests, as steps
+
+pub ask_steps : (id : TableId) (ends : Ends) (d e : Driver) (p : Plan) (past : Past) (r : Request) → Matches id d p past → IsNew past r → DidAsk id r (key.Digest r.label) d e → Steps id ends p past (line.Ask r) d e
+ask_steps id ends d e p past r m n x = record { stands = ask_stands id ends d e p past r (Digest r.label) m n x; newest = ap (λ v. v.items) x.newest ∙ sym (append-nil d.newest.items) }
+
+pub action_steps : (id : TableId) (ends : Ends) (d e : Driver) (p : Plan) (past : Past) (r : Request) → Matches id d p past → IsNew past r → DidAsk id r (key.Action r.label) d e → Steps id ends p past (line.Action r) d e
+action_steps id ends d e p past r m n x =
+    let s = ask_stands id ends d e p past r (Text r.label) m n x in
+    record {
+      stands = record { ours = s.ours; log = s.log; gathered = s.gathered; within = s.within; known = s.known; open_ = s.open_; apart = s.apart; pledged = s.pledged; asks_apart = s.asks_apart; requests = s.requests; found = s.found; distinct = s.distinct; touched = s.touched };
+      newest = ap (λ v. v.items) x.newest ∙ sym (append-nil d.newest.items);
+    }

@@ -3,7 +3,7 @@
 
 mod append;
 mod client;
-mod drive;
+mod driven;
 mod driver;
 mod named;
 mod printer;
@@ -15,7 +15,7 @@ pub use dice_engine::{Gate, Open};
 pub use dice_io::{
     MemorySink, MemorySource, RealSink, RealSource, Sink, Source, SureSink, SureSource,
 };
-pub use drive::drive;
+pub use driven::drive;
 pub use run_of::run;
 pub use status::Status;
 

@@ -8,7 +8,7 @@ ghost use Rattle.dice_run.specs.Output.{IsOutput};
 ghost use Rattle.dice_run.specs.Run.{Answers, Refuses, IsWritten};
 
 use crate::append;
-use crate::drive::drive;
+use crate::driven::drive;
 use crate::status::Status;
 use action_digest::Buck;
 use dice_engine::{Engine, Gate};

@@ -1,5 +1,5 @@
 //! Whole scripts, driven on an engine.
-ghost use Rattle.std.specs.Prelude.{◌≡◌, ◌×◌, [], OnOk, IfOk};
+ghost use Rattle.std.specs.Prelude.{◌≡◌, [], OnOk, IfOk};
 ghost use Rattle.dice_run.specs.Output.{IsOutput};
 ghost use Rattle.dice_run.specs.Seats.{IsOurs};
 ghost use Rattle.dice_run.specs.Driving.{Starts};
