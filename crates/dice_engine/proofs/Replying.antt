@@ -44,13 +44,13 @@ module _ {K V : Type 0} (eq : K → K → Bool) (m : Meaning K V) (J : List (Tol
   some_open a e f = opened_counts eq m (reverse J) v a.opened lawful (opened_there a e f)
 
 module _ {K V A B : Type 0} (eq : K → K → Bool) (m : Meaning K V) (J : List (Told K V)) (v : ℕ) (k : K) (ask : ℕ) (ready : List A) (out : List B) (live : IsLiveIn J ask)
-  (came : Came K V)
-  (injected : m.kind k ≡ Injected → (x : V) × (came ≡ ToValue x))
-  (value : (x : V) → came ≡ ToValue x → HasValue eq m (log_of J) v k x)
-  (cycle : (p : List K) → came ≡ ToCycle p → CycleStands eq m (log_of J) v k p)
-  (decides : m.kind k ≢ Injected → decided eq (reverse J) v k ≡ decision_of came)
-  (lost : came ≡ ToNothing → lost_in_epoch eq (reverse J) v k ≡ true)
-  (quiet : ready ≡ [] → out ≡ [] → came ≢ Pending) where
+    (came : Came K V)
+    (injected : m.kind k ≡ Injected → (x : V) × (came ≡ ToValue x))
+    (value : (x : V) → came ≡ ToValue x → HasValue eq m (log_of J) v k x)
+    (cycle : (p : List K) → came ≡ ToCycle p → CycleStands eq m (log_of J) v k p)
+    (decides : m.kind k ≢ Injected → decided eq (reverse J) v k ≡ decision_of came)
+    (lost : came ≡ ToNothing → lost_in_epoch eq (reverse J) v k ≡ true)
+    (quiet : ready ≡ [] → out ≡ [] → came ≢ Pending) where
   valued : (x : V) → came ≡ ToValue x → IsValued eq m J v k
   valued x e = by_kind (m.kind k) refl
     where

@@ -35,6 +35,8 @@ impl<U: Universe> Engine<U> {
         ensures version { IfOk result (λ v. v ≡ newest_in seat.new.seen) }
         ensures ok { OnOk result (Turn U.Key.eq U.meaning seat.old seat.new (λ found. Commits U.Key.eq U.Value.eq U.meaning seat.old.number (log_of found) updater.now)) }
         ensures err { OnErr result (Turn U.Key.eq U.meaning seat.old seat.new (λ found. AddsNothing)) }
+        ensures seat { IsSeatOf self.now seat.new }
+        ensures same { (seat.new.number ≡ seat.old.number) × (seat.new.writers ≡ seat.old.writers) }
     {
         let number = seat.number();
         let mut turn = self.stile.enter(rt, seat);
@@ -49,6 +51,8 @@ impl<U: Universe> Engine<U> {
         ensures ok { IfOk result (λ t. Turn U.Key.eq U.meaning seat.old seat.new (λ found own work. Opens seat.old.number found own work × (t.version ≡ newest_in found) × (t.opened ≡ length found))) }
         ensures has { IfOk result (λ t. HasOpen seat.new t.opened t.version) }
         ensures err { OnErr result (Turn U.Key.eq U.meaning seat.old seat.new (λ found. AddsNothing)) }
+        ensures seat { IsSeatOf self.now seat.new }
+        ensures same { (seat.new.number ≡ seat.old.number) × (seat.new.writers ≡ seat.old.writers) }
     {
         let number = seat.number();
         let mut turn = self.stile.enter(rt, seat);
@@ -61,7 +65,9 @@ impl<U: Universe> Engine<U> {
     pub fn close<R: Wait>(&self, rt: &R, seat: &mut Seat<U>, transaction: Transaction)
         requires seat { IsSeatOf self.now seat.old × IsWriter seat.old }
         requires open { HasOpen seat.old transaction.opened transaction.version }
-        ensures { Turn U.Key.eq U.meaning seat.old seat.new (λ found. Closes seat.old.number transaction.opened transaction.version) }
+        ensures turn { Turn U.Key.eq U.meaning seat.old seat.new (λ found. Closes seat.old.number transaction.opened transaction.version) }
+        ensures seat { IsSeatOf self.now seat.new }
+        ensures same { (seat.new.number ≡ seat.old.number) × (seat.new.writers ≡ seat.old.writers) }
     {
         let mut turn = self.stile.enter(rt, seat);
         turn.state().close(transaction);
@@ -82,6 +88,8 @@ impl<U: Universe> Engine<U> {
         ensures named { IfOk result (λ p. (p.version ≡ transaction.now.version) × (p.opened ≡ transaction.now.opened) × (arc_value p.key ≡ arc_value key)) }
         ensures has { IfOk result (λ p. HasAsk seat.new p.ask p.opened p.version (arc_value p.key)) }
         ensures err { OnErr result (Turn U.Key.eq U.meaning seat.old seat.new (λ found. AddsNothing)) }
+        ensures seat { IsSeatOf self.now seat.new }
+        ensures same { (seat.new.number ≡ seat.old.number) × (seat.new.writers ≡ seat.old.writers) }
     {
         let number = seat.number();
         let mut turn = self.stile.enter(rt, seat);
@@ -94,7 +102,9 @@ impl<U: Universe> Engine<U> {
     pub fn leave<R: Wait>(&self, rt: &R, seat: &mut Seat<U>, promise: Promise<U>)
         requires seat { IsSeatOf self.now seat.old × IsWriter seat.old }
         requires ask { HasAsk seat.old promise.ask promise.opened promise.version (arc_value promise.key) }
-        ensures { Turn U.Key.eq U.meaning seat.old seat.new (λ found. Leaves seat.old.number promise.ask promise.opened promise.version found) }
+        ensures turn { Turn U.Key.eq U.meaning seat.old seat.new (λ found. Leaves seat.old.number promise.ask promise.opened promise.version found) }
+        ensures seat { IsSeatOf self.now seat.new }
+        ensures same { (seat.new.number ≡ seat.old.number) × (seat.new.writers ≡ seat.old.writers) }
     {
         let mut turn = self.stile.enter(rt, seat);
         turn.state().leave(promise);
@@ -113,6 +123,8 @@ impl<U: Universe> Engine<U> {
         requires ask { SawAsk seat.old promise.now.ask promise.now.opened promise.now.version (arc_value promise.now.key) }
         ensures turn { Turn U.Key.eq U.meaning seat.old seat.new (λ found. AddsNothing) }
         ensures reply { IsReply U.Key.eq U.meaning seat.new.seen promise.now.version (arc_value promise.now.key) promise.now.ask seat.new.left (reply_of result) }
+        ensures seat { IsSeatOf self.now seat.new }
+        ensures same { (seat.new.number ≡ seat.old.number) × (seat.new.writers ≡ seat.old.writers) }
     {
         let mut turn = self.stile.enter(rt, seat);
         let answer = turn.state().poll(promise);

@@ -7,6 +7,8 @@ mod gate;
 mod laws;
 mod promise;
 mod state;
+#[cfg(test)]
+mod tests;
 mod updater;
 mod working;
 

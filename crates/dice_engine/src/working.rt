@@ -30,6 +30,8 @@ impl<U: Universe> Engine<U> {
         ensures works { Works U.Key.eq U.meaning seat.old seat.new }
         ensures later { Later U.Key.eq U.meaning seat.old seat.new × (seat.new.mine ≡ seat.old.mine) }
         ensures idle { result ≡ worked.Idle → seat.new.left.0 ≡ 0 }
+        ensures seat { IsSeatOf self.now seat.new }
+        ensures same { (seat.new.number ≡ seat.old.number) × (seat.new.writers ≡ seat.old.writers) }
     {
         let Some(job) = self.take_job(rt, seat) else {
             return Worked::Idle;
@@ -77,6 +79,8 @@ impl<U: Universe> Engine<U> {
         ensures works { Works U.Key.eq U.meaning seat.old seat.new }
         ensures later { Later U.Key.eq U.meaning seat.old seat.new × (seat.new.mine ≡ seat.old.mine) }
         ensures reply { IsReply U.Key.eq U.meaning seat.new.seen promise.now.version (arc_value promise.now.key) promise.now.ask seat.new.left (settled_of result) }
+        ensures seat { IsSeatOf self.now seat.new }
+        ensures same { (seat.new.number ≡ seat.old.number) × (seat.new.writers ≡ seat.old.writers) }
     {
         let backoff = Backoff::new();
         for _ in rt.forever() {
@@ -93,9 +97,7 @@ impl<U: Universe> Engine<U> {
 }
 
 /// What a promise has come to, where it is not pending.
-fn settled<U: Universe>(
-    answer: Result<Answer<U>, NoMemory>,
-) -> Option<Result<Settled<U>, NoMemory>>
+fn settled<U: Universe>(answer: Result<Answer<U>, NoMemory>) -> Option<Result<Settled<U>, NoMemory>>
     ensures { IfSome result (λ s. settled_of s ≡ reply_of answer) }
 {
     match answer {

@@ -20,6 +20,4 @@ pub use run_of::run;
 pub use status::Status;
 
 #[cfg(test)]
-mod core_tests;
-#[cfg(test)]
 mod tests;

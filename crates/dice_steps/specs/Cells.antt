@@ -1,5 +1,5 @@
 -- The cells of the commits of a journal.
-use Rattle.std.specs.Prelude.{◌≡◌, ℕ, Bool, List, length}
+use Rattle.std.specs.Prelude.{◌≡◌, Bool, List, length}
 use Rattle.injected.specs.Seen.{Seen}
 use Rattle.injected.specs.Inputs.{AreOf}
 use Rattle.journal.specs.declared.event.Told.{Told}

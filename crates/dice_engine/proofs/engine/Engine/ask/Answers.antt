@@ -67,9 +67,9 @@ returns-clause-has g c =
     subst (λ s. IfOk c.ask-promise.result (λ p. HasAsk s p.ask p.opened p.version (arc_value p.key))) (search rules)
     (if_ok_both c.ask-promise.result _ _ _ c.ask-promise.ensures.named c.ask-promise.ensures.ok
     (λ p named a.
-        let h = has_asked eq m old c.leave.new.turn.0 p.ask t.opened t.version (arc_value c.args.key) c.requires.open
-            (turned eq m old mid J I c.leave.new.turn.0 (λ found own work. Asks old.number t.opened t.version (arc_value c.args.key) own work × (p.ask ≡ length found)) _ e z n (did_so eq m _ J I _ (λ own work. Asks old.number t.opened t.version (arc_value c.args.key) own work × (p.ask ≡ length J)) a (λ own work d. let r : Asks old.number t.opened t.version (arc_value c.args.key) own work × (p.ask ≡ length J) = (subst (λ n. Asks n t.opened t.version (arc_value c.args.key) own work) n d, named.2) in r))) in
-        subst (λ k. HasAsk c.leave.new.turn.0 p.ask p.opened p.version k) (sym named.3) (subst (λ v. HasAsk c.leave.new.turn.0 p.ask p.opened v (arc_value c.args.key)) (sym named.0) (subst (λ o. HasAsk c.leave.new.turn.0 p.ask o t.version (arc_value c.args.key)) (sym named.1) h))))
+    let h = has_asked eq m old c.leave.new.turn.0 p.ask t.opened t.version (arc_value c.args.key) c.requires.open
+    (turned eq m old mid J I c.leave.new.turn.0 (λ found own work. Asks old.number t.opened t.version (arc_value c.args.key) own work × (p.ask ≡ length found)) _ e z n (did_so eq m _ J I _ (λ own work. Asks old.number t.opened t.version (arc_value c.args.key) own work × (p.ask ≡ length J)) a (λ own work d. let r : Asks old.number t.opened t.version (arc_value c.args.key) own work × (p.ask ≡ length J) = (subst (λ n. Asks n t.opened t.version (arc_value c.args.key) own work) n d, named.2) in r))) in
+    subst (λ k. HasAsk c.leave.new.turn.0 p.ask p.opened p.version k) (sym named.3) (subst (λ v. HasAsk c.leave.new.turn.0 p.ask p.opened v (arc_value c.args.key)) (sym named.0) (subst (λ o. HasAsk c.leave.new.turn.0 p.ask o t.version (arc_value c.args.key)) (sym named.1) h))))
 
 pub returns-clause-err : goal.returns-clause-err
 returns-clause-err g c =

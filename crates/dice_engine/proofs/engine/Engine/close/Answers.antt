@@ -32,8 +32,8 @@ leave-requires-clause-grows g c =
     let r = c.close.ensures in
     may_leave eq m old mid J I old.number (Closes old.number t.opened t.version) e c.requires.seat.1 refl (closes_own eq m old mid J I t.opened t.version e c.requires.open r.0 r.1 r.2)
 
-pub returns : goal.returns
-returns g c =
+pub returns-clause-turn : goal.returns-clause-turn
+returns-clause-turn g c =
     let eq = g.U.Key.PartialEq.eq in
     let m = g.U.Universe.meaning in
     let old = c.args.seat.now in

@@ -44,8 +44,8 @@ leave-requires-2-clause-grows g c =
     may_leave eq m old mid J I old.number (Leaves old.number p.ask p.opened p.version J) e c.requires.seat.1 refl
     (c.leave.ensures old.number (λ lawful a live. left_by eq m old J e.begins lawful e.found p.ask p.opened p.version (arc_value p.key) c.requires.ask a live))
 
-pub returns : goal.returns
-returns g c =
+pub returns-clause-turn : goal.returns-clause-turn
+returns-clause-turn g c =
     let eq = g.U.Key.PartialEq.eq in
     let m = g.U.Universe.meaning in
     let old = c.args.seat.now in

@@ -3,7 +3,7 @@ use Rattle.std.specs.Arc.{arc_value}
 use Rattle.dice_engine.specs.Turns.{rests, works}
 use Rattle.dice_engine.specs.Calls.{AddsNothing}
 use Rattle.dice_engine.proofs.Turned.{turn_so, work_later, works_both}
-use Rattle.dice_engine.proofs.Callers.{seat_later, seat_works, works_begin, saw_later}
+use Rattle.dice_engine.proofs.Callers.{same_number, same_writers, seat_later, seat_works, works_begin, saw_later}
 use Rattle.dice_engine.proofs.engine.Engine.wait.Goals as goal
 
 pub poll-requires-clause-seat : goal.poll-requires-clause-seat
@@ -43,3 +43,8 @@ loop-preserved g c =
     works_both g.U.Key.PartialEq.eq g.U.Universe.meaning c.args.seat.now c.poll.new.seat c.work.new.seat
     (works c.loop.invariant (turn_so g.U.Key.PartialEq.eq g.U.Universe.meaning c.loop.seat c.poll.new.seat (λ found. AddsNothing) (λ found own work. own ≡ []) c.poll.ensures.turn (λ found own work d. d.0)))
     c.work.ensures.works
+
+pub returns-in-Some-settled-clause-same : goal.returns-in-Some-settled-clause-same
+returns-in-Some-settled-clause-same g c =
+    let l = (returns-in-Some-settled-clause-later g c).0 in
+    (same_number g.U.Key.PartialEq.eq g.U.Universe.meaning c.args.seat.now c.poll.new.seat l, same_writers g.U.Key.PartialEq.eq g.U.Universe.meaning c.args.seat.now c.poll.new.seat l)

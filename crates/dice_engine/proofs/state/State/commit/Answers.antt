@@ -17,8 +17,8 @@ returns-clause-ok g c =
     let core = c.args.self.now.core in
     map_ok c.commit-result.result _ _ c.commit-result.ensures.events
     (λ e. commits eq m (events_of core) (events_of c.commit-result.new.self) c.standing-newest.ensures.lawful veq c.args.by core.cells c.args.updater.now
-        (c.cells_are_the_inputs.ensures.newest (commits_of (past_of core)) core.cells c.in_order.ensures.cells.are)
-        (e ∙ ap (λ ps. events_of core ++ event_of c.args.by (differing_of eq veq m core.cells ps)) c.pairs.ensures))
+    (c.cells_are_the_inputs.ensures.newest (commits_of (past_of core)) core.cells c.in_order.ensures.cells.are)
+    (e ∙ ap (λ ps. events_of core ++ event_of c.args.by (differing_of eq veq m core.cells ps)) c.pairs.ensures))
 
 pub returns-clause-err : goal.returns-clause-err
 returns-clause-err g c =
