@@ -20,7 +20,7 @@ use Rattle.dice_engine.specs.Turns.{log_of as engine_log}
 use Rattle.action_digest.specs.declared.key.Key.{Key}
 use Rattle.action_digest.specs.declared.value.Value.{Value}
 use Rattle.dice_run.specs.Driving.{IsAt, IsTold, IsReady, Matches, Starts, Steps, answer_of, newest_of, newest_from}
-use Rattle.dice_run.specs.Driven.{Carried, Settled, Settling}
+use Rattle.dice_run.specs.Driven.{Carried, Settled, Settling, AskedIn, Waiting}
 use Rattle.dice_run.specs.Printing.{IsDone}
 use Rattle.dice_run.specs.declared.driver.Driver.{Driver}
 
@@ -92,19 +92,6 @@ going_end id ls d g = record {
 
 -- ---- requests and lines
 
--- a request of this name stands among the lines
-abbrev pub AskedIn : List Line → List ℕ → Type 0
-AskedIn [] q = ⊥
-AskedIn (Ask r ∷ ls) q = (r.name ≡ q) ⊎ AskedIn ls q
-AskedIn (Action r ∷ ls) q = (r.name ≡ q) ⊎ AskedIn ls q
-AskedIn (Put path bytes ∷ ls) q = AskedIn ls q
-AskedIn (Drop path ∷ ls) q = AskedIn ls q
-AskedIn (Commit ∷ ls) q = AskedIn ls q
-AskedIn (Open t ∷ ls) q = AskedIn ls q
-AskedIn (Wait n ∷ ls) q = AskedIn ls q
-AskedIn (Cancel n ∷ ls) q = AskedIn ls q
-AskedIn (Close t ∷ ls) q = AskedIn ls q
-
 last_or_before : {X : Type 0} (xs : List X) (x y : X) → Has (xs ++ x ∷ []) y → Has xs y ⊎ (x ≡ y)
 last_or_before [] x y (inl e) = inr e
 last_or_before [] x y (inr h) = absurd h
@@ -134,7 +121,7 @@ has_kept_end [] y z h = absurd h
 has_kept_end (u ∷ us) y z (inl i) = inl i
 has_kept_end (u ∷ us) y z (inr h) = inr (has_kept_end us y z h)
 
-has_last : {X : Type 0} (xs : List X) (y : X) → Has (xs ++ y ∷ []) y
+pub has_last : {X : Type 0} (xs : List X) (y : X) → Has (xs ++ y ∷ []) y
 has_last [] y = inl refl
 has_last (z ∷ zs) y = inr (has_last zs y)
 
@@ -210,14 +197,6 @@ settling_waited id ls d e past q s some alive w = record {
     (λ t. ap is_given_up ((waited_fate past q n some).0 t) ∙ (sym alive ∙ ap (is_cancelled ls) ((bytes_eq-Decides q n).0 t)))
     (λ f. ap is_given_up ((waited_fate past q n some).1 f) ∙ s.given_up n);
 }
-
--- the requests that are neither answered nor cancelled stand among the rest of the lines
-pub record Waiting (id : TableId) (ls rest : List Line) (d : Driver) : Type 0 where
-  pub past : Past
-  pub settling : Settling id ls d past
-  pub plan : Plan
-  pub whole : plan_of ls ≡ plan_from (is_cancelled ls) plan rest
-  pub left : (r : Planned) → Has (plan_of ls).requests r → r.cancelled ≡ false → (fate_of past r.name ≡ Some fate.Answered) ⊎ AskedIn rest r.name
 
 pub waiting_first : (id : TableId) (ls : List Line) (d : Driver) → Carried id ls d → Waiting id ls ls d
 waiting_first id ls d c = record {

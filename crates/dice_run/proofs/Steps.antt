@@ -834,3 +834,7 @@ action_steps id ends d e p past r m n x =
       stands = record { ours = s.ours; log = s.log; gathered = s.gathered; within = s.within; known = s.known; open_ = s.open_; apart = s.apart; pledged = s.pledged; asks_apart = s.asks_apart; requests = s.requests; found = s.found; distinct = s.distinct; touched = s.touched };
       newest = ap (λ v. v.items) x.newest ∙ sym (append-nil d.newest.items);
     }
+
+-- a transaction that is held is open
+pub has_held : (id : TableId) (d : Driver) (p : Plan) (past : Past) (t : List ℕ) → Matches id d p past → (x : Transaction) → transaction_of d t ≡ Some x → HasTransaction d t
+has_held id d p past t m x h = record { transaction = x; held = h; has = (m.open_ t x h).0 }

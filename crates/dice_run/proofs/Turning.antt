@@ -1,6 +1,15 @@
 -- What a turn of the engine comes to for the driver's seat.
-use Rattle.std.proofs.Common.{◌≡◌, ◌≤◌, ◌<◌, ◌+◌, ◌++◌, ◌∷◌, ℕ, Bool, true, cond, List, [], length, reverse, Option, Some, None, is_some, refl, sym, ap, ◌∙◌, subst, arith, append-nil, length-append}
+use Rattle.std.proofs.Common.{◌≡◌, ◌≤◌, ◌<◌, ◌+◌, ◌++◌, ◌∷◌, ℕ, Bool, true, false, cond, Result, Ok, Err, IfOk, OnErr, List, [], length, reverse, Option, Some, None, IfSome, is_some, inl, inr, refl, sym, ap, ◌∙◌, subst, arith, append-nil, length-append}
+use Rattle.std.specs.Arc.{arc_value}
+use Rattle.std.specs.Map.{keys_of}
+use Rattle.std.specs.List.{AllByRecursion}
 use Rattle.atomic_table.specs.Seated.{TableId}
+use Rattle.dice_key.specs.declared.universe.Kind.TheVariants.{Injected}
+use Rattle.dice_model.specs.Log.{Has, AreDistinct}
+use Rattle.dice_core.specs.Commits.{Fault, NotInjected, Twice, fault_of, IsFirstFault}
+use Rattle.dice_core.specs.declared.commit.CommitRefusal.{CommitRefusal}
+use Rattle.dice_core.specs.declared.commit.CommitRefusal.TheVariants as refusal
+use Rattle.dice_run.specs.Commits.{AreDistinctSources}
 use Rattle.dice_model.specs.Eval.{HasValue}
 use Rattle.journal.specs.declared.event.Told.{Told}
 use Rattle.journal.specs.declared.event.Told.TheVariants.{Open, Close, Ask, Leave}
@@ -96,8 +105,12 @@ turn_closes id s u opened v o t = turn_goes id s u o _ t (Close 0 opened ∷ [])
 pub turn_leaves : (id : TableId) (s u : Place) (ask opened v : ℕ) (k : Key) → IsOurs id s → HasAsk s ask opened v k → NotClosed opened s.mine → IsTurn s u (λ found. LeavesIn s.number ask opened v found) → Goes id s u (Leave 0 ask ∷ [])
 turn_leaves id s u ask opened v k o h n t =
     let open_there = found_open id s u o _ t opened v (record { opening = h.opening; not_closed = n }) in
-    let did = subst (λ (b : Bool). cond b ((t.adds.own ≡ Leave s.number ask ∷ []) × _) _) (ap is_some open_there) t.adds.did in
+    let did = when_open (is_some (open_at (reverse t.found) opened)) _ _ (ap is_some open_there) t.adds.did in
     turn_goes id s u o _ t (Leave 0 ask ∷ []) (did.0 ∙ ap (λ m. Leave m ask ∷ []) o.number)
+  where
+    when_open : (b : Bool) (A B : Type 0) → b ≡ true → cond b A B → A
+    when_open true A B e x = x
+    when_open false A B e x = (let z : false ≡ true = e in cc)
 
 pub later_goes : (id : TableId) (s u : Place) → IsOurs id s → Later key_equal buck s u → u.mine ≡ s.mine → Goes id s u []
 later_goes id s u o l e = record { ours = later_ours id s u o l; later = l; mine = e ∙ sym (append-nil s.mine) }
@@ -109,3 +122,42 @@ later_log id s u o l e = our_log id u (later_ours id s u o l) ∙ ap log_of e
 pub later_live : (id : TableId) (s u : Place) (ask opened v : ℕ) (k : Key) → IsOurs id s → Later key_equal buck s u → u.mine ≡ s.mine → HasAsk s ask opened v k → NotClosed opened s.mine → live_at (reverse u.seen) ask ≡ Some (record { by = u.number; opened = opened; key = k })
 later_live id s u ask opened v k o l e h n =
     live_in_seen key_equal buck u ask opened v k l.lawful (sym l.mine) (still_asks s u [] (onward id s u [] (later_goes id s u o l e)) ask opened v k tt h) (subst (NotClosed opened) (sym e) n)
+
+-- whatever a call answered, its turn leaves the seat ours
+pub either_ours : {A E : Type 0} (id : TableId) (s u : Place) → IsOurs id s → (r : Result A E) (P : A → Events → Events → Events → Type 0) (Q : Events → Events → Events → Type 0) → IfOk r (λ a. IsTurn s u (P a)) → OnErr r (IsTurn s u Q) → IsOurs id u
+either_ours id s u o (Ok a) P Q p q = later_ours id s u o p.later
+either_ours id s u o (Err e) P Q p q = later_ours id s u o q.later
+
+-- ---- a refusal of distinct sources is want of memory
+
+all_keys : (P : Key → Type 0) (ps : List (Key × Value)) → AllByRecursion (λ (p : Key × Value). P p.0) ps → AllByRecursion P (keys_of ps)
+all_keys P [] a = tt
+all_keys P (p ∷ ps) a = (a.0, all_keys P ps a.1)
+
+all_mid : {X : Type 0} (P : X → Type 0) (xs ys : List X) (x : X) → AllByRecursion P (xs ++ x ∷ ys) → P x
+all_mid P [] ys x a = a.0
+all_mid P (z ∷ zs) ys x a = all_mid P zs ys x a.1
+
+has_mid : {X : Type 0} (xs ys : List X) (x : X) → Has (xs ++ x ∷ ys) x
+has_mid [] ys x = inl refl
+has_mid (z ∷ zs) ys x = inr (has_mid zs ys x)
+
+distinct_mid : {X : Type 0} (xs ys : List X) (x : X) → AreDistinct (xs ++ x ∷ ys) → Has xs x → ⊥
+distinct_mid [] ys x d h = h
+distinct_mid (z ∷ zs) ys x d (inl e) = d.0 (subst (λ y. Has (zs ++ x ∷ ys) y) (sym e) (has_mid zs ys x))
+distinct_mid (z ∷ zs) ys x d (inr h) = distinct_mid zs ys x d.1 h
+
+no_fault : (ps : List (Key × Value)) → AreDistinctSources ps → (f : Fault Key) → IsFirstFault buck (keys_of ps) f → ⊥
+no_fault ps d (NotInjected k) f =
+    f.fault (all_mid (λ (q : Key). buck.kind q ≡ Injected) f.before f.later k (subst (AllByRecursion (λ (q : Key). buck.kind q ≡ Injected)) f.all (all_keys (λ (q : Key). buck.kind q ≡ Injected) ps d.sources)))
+no_fault ps d (Twice k) f = distinct_mid f.before f.later k (subst AreDistinct f.all d.distinct) f.fault.1
+
+abbrev pub is_memory : {U K V R : Type 0} → CommitRefusal U K V R → Bool
+is_memory (refusal.NotInjected k) = false
+is_memory (refusal.Twice k) = false
+is_memory refusal.NoMemory = true
+
+pub memory_alone : {U R : Type 0} (ps : List (Key × Value)) → AreDistinctSources ps → (e : CommitRefusal U Key Value R) → IfSome (fault_of e) (IsFirstFault buck (keys_of ps)) → is_memory e ≡ true
+memory_alone ps d (refusal.NotInjected k) f = absurd (no_fault ps d (NotInjected (arc_value k.now)) f)
+memory_alone ps d (refusal.Twice k) f = absurd (no_fault ps d (Twice (arc_value k.now)) f)
+memory_alone ps d refusal.NoMemory f = refl

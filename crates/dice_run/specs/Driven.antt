@@ -3,10 +3,10 @@ use Rattle.std.specs.Prelude.{◌≡◌, ◌⊎◌, ℕ, Bool, true, false, List
 use Rattle.atomic_table.specs.Seated.{TableId}
 use Rattle.dice_model.specs.Log.{Has}
 use Rattle.script.specs.declared.line.Line.{Line}
-use Rattle.script.specs.declared.line.Line.TheVariants.{Wait}
+use Rattle.script.specs.declared.line.Line.TheVariants.{Put, Drop, Commit, Open, Ask, Action, Wait, Cancel, Close}
 use Rattle.script.specs.declared.fate.Fate.TheVariants as fate
 use Rattle.script.specs.Past.{Past, after, nothing, after_all, fate_of, is_cancelled, is_given_up}
-use Rattle.script.specs.Plan.{Planned, no_plan, plan_of}
+use Rattle.script.specs.Plan.{Plan, Planned, no_plan, plan_from, plan_of}
 use Rattle.dice_run.specs.Driving.{Matches, MayWait, DidWait, newest_from}
 use Rattle.dice_run.specs.declared.driver.Driver.{Driver}
 
@@ -40,3 +40,24 @@ pub record MaySettle (id : TableId) (ls : List Line) (d : Driver) (q : List ℕ)
 abbrev pub SettlesOne : TableId → List Line → List ℕ → Driver → Driver → Type 0
 SettlesOne id ls q d e = (past : Past) → Settling id ls d past
     → Settling id ls e (cond (is_cancelled ls q) past (after past (Wait q)))
+
+-- a request of this name stands among the lines
+abbrev pub AskedIn : List Line → List ℕ → Type 0
+AskedIn [] q = ⊥
+AskedIn (Ask r ∷ ls) q = (r.name ≡ q) ⊎ AskedIn ls q
+AskedIn (Action r ∷ ls) q = (r.name ≡ q) ⊎ AskedIn ls q
+AskedIn (Put path bytes ∷ ls) q = AskedIn ls q
+AskedIn (Drop path ∷ ls) q = AskedIn ls q
+AskedIn (Commit ∷ ls) q = AskedIn ls q
+AskedIn (Open t ∷ ls) q = AskedIn ls q
+AskedIn (Wait n ∷ ls) q = AskedIn ls q
+AskedIn (Cancel n ∷ ls) q = AskedIn ls q
+AskedIn (Close t ∷ ls) q = AskedIn ls q
+
+-- the requests that are neither answered nor cancelled stand among the rest of the lines
+pub record Waiting (id : TableId) (ls rest : List Line) (d : Driver) : Type 0 where
+  pub past : Past
+  pub settling : Settling id ls d past
+  pub plan : Plan
+  pub whole : plan_of ls ≡ plan_from (is_cancelled ls) plan rest
+  pub left : (r : Planned) → Has (plan_of ls).requests r → r.cancelled ≡ false → (fate_of past r.name ≡ Some fate.Answered) ⊎ AskedIn rest r.name

@@ -1,9 +1,10 @@
 //! Whole scripts, driven on an engine.
-ghost use Rattle.std.specs.Prelude.{◌≡◌, [], OnOk, IfOk};
+ghost use Rattle.std.specs.Prelude.{◌≡◌, ◌∷◌, List, [], OnOk, IfOk};
 ghost use Rattle.dice_run.specs.Output.{IsOutput};
 ghost use Rattle.dice_run.specs.Seats.{IsOurs};
 ghost use Rattle.dice_run.specs.Driving.{Starts};
-ghost use Rattle.dice_run.specs.Driven.{Carried, Settled, MaySettle, SettlesOne};
+ghost use Rattle.script.specs.declared.line.Line.{Line};
+ghost use Rattle.dice_run.specs.Driven.{Carried, Settled, Waiting, MaySettle, SettlesOne};
 ghost use Rattle.dice_run.specs.Printing.{IsDone};
 
 use crate::driver::Driver;
@@ -11,7 +12,7 @@ use crate::printer::print;
 use action_digest::Buck;
 use dice_engine::{Engine, Gate, Seat, Updater};
 use dice_key::NoMemory;
-use script::{Line, Request, Script};
+use script::{Line, Name, Request, Script};
 use std::alloc::Global;
 use std::collections::HashMap;
 use std::sync::Wait;
@@ -101,13 +102,35 @@ impl Driver {
         ensures settled { OnOk result (Settled engine.now script.now self.new) }
     {
         for line in script.lines() {
-            match line {
-                Line::Ask(request) => self.settle_one(rt, engine, gate, script, request)?,
-                Line::Action(request) => self.settle_one(rt, engine, gate, script, request)?,
-                _ => {}
-            }
+            self.settle_line(rt, engine, gate, script, line)?;
         }
         Ok(())
+    }
+
+    /// Waits for the request of a line, if it has one.
+    fn settle_line<R: Wait, G: Gate>(
+        &mut self,
+        rt: &R,
+        engine: &Engine<Buck>,
+        gate: &G,
+        script: &Script,
+        line: &Line,
+    ) -> Result<(), NoMemory>
+        requires { (rest : List Line) × Waiting engine.now script.now (line.now ∷ rest) self.old }
+        ensures ours { IsOurs engine.now self.new.seat }
+        ensures settles { OnOk result ((rest : List Line) → Waiting engine.now script.now (line.now ∷ rest) self.old → Waiting engine.now script.now rest self.new) }
+    {
+        match line {
+            Line::Ask(request) => self.settle_one(rt, engine, gate, script, request),
+            Line::Action(request) => self.settle_one(rt, engine, gate, script, request),
+            Line::Put(_, _) => Ok(()),
+            Line::Drop(_) => Ok(()),
+            Line::Commit => Ok(()),
+            Line::Open(_) => Ok(()),
+            Line::Wait(_) => Ok(()),
+            Line::Cancel(_) => Ok(()),
+            Line::Close(_) => Ok(()),
+        }
     }
 
     /// Waits for a request that the script does not cancel.
@@ -135,11 +158,28 @@ impl Driver {
         ensures settled { Settled engine.now script.now self.new }
     {
         for line in script.lines() {
-            if let Line::Open(name) = line {
-                if self.transactions.contains_key(name.as_text()) {
-                    self.close(rt, engine, name);
-                }
-            }
+            self.close_line(rt, engine, script, line);
+        }
+    }
+
+    /// Closes the transaction that a line opened, if it did and the transaction is open.
+    fn close_line<R: Wait>(&mut self, rt: &R, engine: &Engine<Buck>, script: &Script, line: &Line)
+        requires { Settled engine.now script.now self.old }
+        ensures { Settled engine.now script.now self.new }
+    {
+        match line {
+            Line::Open(name) => self.close_open(rt, engine, script, name),
+            _ => {}
+        }
+    }
+
+    /// Closes the transaction of this name, if it is open.
+    fn close_open<R: Wait>(&mut self, rt: &R, engine: &Engine<Buck>, _script: &Script, name: &Name)
+        requires { Settled engine.now _script.now self.old }
+        ensures { Settled engine.now _script.now self.new }
+    {
+        if self.transactions.contains_key(name.as_text()) {
+            self.close(rt, engine, name);
         }
     }
 }

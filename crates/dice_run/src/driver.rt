@@ -147,8 +147,11 @@ impl Driver {
         ensures ours { IsOurs engine.now self.new.seat }
         ensures did { OnOk result (DidWait engine.now name.now self.old self.new) }
     {
-        let Some(promise) = take(&mut self.promises, name) else {
+        if !self.promises.contains_key(name.as_text()) {
             return Ok(());
+        }
+        let Some(promise) = take(&mut self.promises, name) else {
+            unreachable!()
         };
         let came = client::wait(rt, engine, &mut self.seat, &promise, gate)?;
         let answer = came_lines(self.alloc, &came)?;

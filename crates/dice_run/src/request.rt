@@ -3,6 +3,9 @@ ghost use Rattle.std.specs.Prelude.{◌≡◌, ◌++◌, ℕ, List, IfOk, OnOk};
 ghost use Rattle.action_digest.specs.declared.key.Key.{Key};
 ghost use Rattle.action_digest.specs.declared.value.Value.{Value};
 ghost use Rattle.dice_run.specs.Answers.{IsToldOf};
+ghost use Rattle.action_digest.specs.Buck.{buck};
+ghost use Rattle.action_digest.specs.Cycles.{ReachesFirst};
+ghost use Rattle.dice_model.specs.Asks.{IsCycle};
 ghost use Rattle.dice_run.specs.Seats.{IsCome};
 ghost use Rattle.dice_run.specs.Output.{fault_line, digest_line, action_lines, value_lines, labels_text, cycle_line};
 
@@ -10,7 +13,7 @@ use crate::append;
 use crate::client::Came;
 use action_digest::{ActionText, Fault, Key, Value, labels_of_cycle};
 use buck_label::Label;
-use dice_key::NoMemory;
+use dice_key::{NoMemory, Path};
 use std::alloc::Global;
 
 /// Appends the line of a fault.
@@ -85,11 +88,28 @@ pub(crate) fn value_lines(out: &mut Vec<u8>, value: &Value) -> Result<(), NoMemo
 pub(crate) fn came_lines(alloc: Global, came: &Came) -> Result<Vec<u8>, NoMemory>
     ensures { IfOk result (λ text. (C : List (List (Key × Value))) (v : ℕ) (k : Key) → IsCome C v k came.now → IsToldOf C v k text.items) }
 {
-    let mut out = Vec::new(alloc);
     match came {
-        Came::Value(value) => value_lines(&mut out, value)?,
-        Came::Cycle(path) => cycle_line(&mut out, &labels_of_cycle(alloc, path)?)?,
+        Came::Value(value) => lines_of_value(alloc, value),
+        Came::Cycle(path) => line_of_cycle(alloc, path),
     }
+}
+
+/// What a value is answered by.
+fn lines_of_value(alloc: Global, value: &Value) -> Result<Vec<u8>, NoMemory>
+    ensures { IfOk result (λ text. text.items ≡ value_lines value.now) }
+{
+    let mut out = Vec::new(alloc);
+    value_lines(&mut out, value)?;
+    Ok(out)
+}
+
+/// What a cycle is answered by.
+fn line_of_cycle(alloc: Global, path: &Path<Key>) -> Result<Vec<u8>, NoMemory>
+    ensures { IfOk result (λ text. (C : List (List (Key × Value))) (v : ℕ) (k : Key) → IsCycle ⟦<Key as PartialEq>⟧.eq buck C v path.now → ReachesFirst C v k path.now → IsToldOf C v k text.items) }
+{
+    let labels = labels_of_cycle(alloc, path)?;
+    let mut out = Vec::new(alloc);
+    cycle_line(&mut out, &labels)?;
     Ok(out)
 }
 

@@ -9,8 +9,8 @@ loop-line-init g c =
     subst (λ (ls : List Line). Going c.args.engine.now c.args.script.now ls c.args.self.now) (sym c.lines-line-items.ensures.lines)
     (going_first c.args.engine.now c.args.script.now c.args.self.now c.requires c.lines-line-items.ensures.in_order)
 
-pub line-requires : goal.line-requires
-line-requires g c =
+pub line-requires-after_bounds : goal.line-requires-after_bounds
+line-requires-after_bounds g c κs within =
     let xs = c.lines-line-items.result.now in
     let i = c.loop-line.line-index in
     let l = c.line-item.result in

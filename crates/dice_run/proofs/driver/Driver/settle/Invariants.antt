@@ -1,5 +1,5 @@
 use Rattle.std.proofs.Common.{drop}
-use Rattle.dice_run.proofs.Ending.{Waiting}
+use Rattle.dice_run.specs.Driven.{Waiting}
 use Rattle.dice_run.proofs.driver.Driver.settle.Given as goal
 
 -- the requests that are still to be waited for stand among the lines that are left

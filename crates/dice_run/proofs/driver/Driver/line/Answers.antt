@@ -1,0 +1,93 @@
+use Rattle.std.proofs.Common.{◌≡◌, ◌∙◌, ◌++◌, ◌∷◌, [], List, ℕ, Some, sym, ap, subst, rules}
+use Rattle.script.specs.Order.{Fits}
+use Rattle.script.specs.declared.line.Line.{Line}
+use Rattle.action_digest.specs.declared.key.Key.TheVariants as key
+use Rattle.action_digest.specs.declared.value.Value.TheVariants as value
+use Rattle.dice_run.specs.Driving.{Steps}
+use Rattle.dice_run.proofs.Changing.{distinct_sources}
+use Rattle.dice_run.proofs.Steps.{put_steps, drop_steps, commit_stands, open_stands, ask_steps, action_steps, wait_stands, cancel_stands, close_stands, has_transaction, may_wait, may_cancel}
+use Rattle.dice_run.proofs.driver.Driver.line.Goals as goal
+
+pub commit-requires-clause-sources : goal.commit-requires-clause-sources
+commit-requires-clause-sources g c = distinct_sources c.args.self.now.gathered c.requires.plan.gathered c.requires.stands.gathered c.requires.stands.distinct
+
+pub ask-requires-clause-open : goal.ask-requires-clause-open
+ask-requires-clause-open g c =
+    let f = subst (Fits c.requires.past) c.in-Ask.is c.requires.fits in
+    has_transaction c.args.engine.now c.args.self.now c.requires.plan c.requires.past c.requires.stands c.in-Ask.request.transaction f.opened
+
+pub ask-requires-in-Action-clause-open : goal.ask-requires-in-Action-clause-open
+ask-requires-in-Action-clause-open g c =
+    let f = subst (Fits c.requires.past) c.in-Action.is c.requires.fits in
+    has_transaction c.args.engine.now c.args.self.now c.requires.plan c.requires.past c.requires.stands c.in-Action.request.transaction f.opened
+
+pub wait-requires-clause-open : goal.wait-requires-clause-open
+wait-requires-clause-open g c =
+    let f = subst (Fits c.requires.past) c.in-Wait.is c.requires.fits in
+    may_wait c.args.engine.now c.args.self.now c.requires.plan c.requires.past c.requires.stands c.in-Wait.name f.0 f.1
+
+pub cancel-requires-clause-open : goal.cancel-requires-clause-open
+cancel-requires-clause-open g c =
+    may_cancel c.args.engine.now c.args.self.now c.requires.plan c.requires.past c.requires.stands c.in-Cancel.name (subst (Fits c.requires.past) c.in-Cancel.is c.requires.fits)
+
+pub close-requires-clause-open : goal.close-requires-clause-open
+close-requires-clause-open g c =
+    has_transaction c.args.engine.now c.args.self.now c.requires.plan c.requires.past c.requires.stands c.in-Close.name (subst (Fits c.requires.past) c.in-Close.is c.requires.fits)
+
+pub returns-in_ok-gather-in-Put-clause-stands : goal.returns-in_ok-gather-in-Put-clause-stands
+returns-in_ok-gather-in-Put-clause-stands g c ends p past m f =
+    let d = c.args.self.now in
+    let e = c.in_ok-gather-in-Put.ensures in
+    let fits = subst (Fits past) c.in-Put.is f in
+    let b : c.in_ok-try_clone-in-Put.field-0 ≡ c.in-Put.bytes = search rules in
+    let eg = e.gathered ∙ ap (λ (x : List ℕ). d.gathered ++ (key.Source c.in-Put.path, value.Source (Some x)) ∷ []) b in
+    subst (λ (l : Line). Steps c.args.engine.now ends p past l d c.gather.new.self) (sym c.in-Put.is)
+    (put_steps c.args.engine.now ends d c.gather.new.self p past c.in-Put.path c.in-Put.bytes m fits.1 e.seat eg e.names e.newest)
+
+pub returns-in_ok-gather-in-Drop-clause-stands : goal.returns-in_ok-gather-in-Drop-clause-stands
+returns-in_ok-gather-in-Drop-clause-stands g c ends p past m f =
+    let e = c.in_ok-gather-in-Drop.ensures in
+    let fits = subst (Fits past) c.in-Drop.is f in
+    subst (λ (l : Line). Steps c.args.engine.now ends p past l c.args.self.now c.gather-in-Drop.new.self) (sym c.in-Drop.is)
+    (drop_steps c.args.engine.now ends c.args.self.now c.gather-in-Drop.new.self p past c.in-Drop.path m fits.1 e.seat e.gathered e.names e.newest)
+
+pub returns-in_ok-commit-in-Commit-clause-stands : goal.returns-in_ok-commit-in-Commit-clause-stands
+returns-in_ok-commit-in-Commit-clause-stands g c ends p past m f =
+    let e = c.in_ok-commit-in-Commit.ensures in
+    subst (λ (l : Line). Steps c.args.engine.now ends p past l c.args.self.now c.commit.new.self) (sym c.in-Commit.is)
+    (commit_stands c.args.engine.now ends c.args.self.now c.commit.new.self p past m e.seat e.gathered e.names e.newest)
+
+pub returns-in_ok-open-in-Open-clause-stands : goal.returns-in_ok-open-in-Open-clause-stands
+returns-in_ok-open-in-Open-clause-stands g c ends p past m f =
+    let fits = subst (Fits past) c.in-Open.is f in
+    subst (λ (l : Line). Steps c.args.engine.now ends p past l c.args.self.now c.open.new.self) (sym c.in-Open.is)
+    (open_stands c.args.engine.now ends c.args.self.now c.open.new.self p past c.in-Open.name m fits.1 c.in_ok-open-in-Open.ensures.did)
+
+pub returns-in_ok-ask-in-Ask-clause-stands : goal.returns-in_ok-ask-in-Ask-clause-stands
+returns-in_ok-ask-in-Ask-clause-stands g c ends p past m f =
+    let fits = subst (Fits past) c.in-Ask.is f in
+    subst (λ (l : Line). Steps c.args.engine.now ends p past l c.args.self.now c.ask.new.self) (sym c.in-Ask.is)
+    (ask_steps c.args.engine.now ends c.args.self.now c.ask.new.self p past c.in-Ask.request m fits c.in_ok-ask-in-Ask.ensures.did)
+
+pub returns-in_ok-ask-in-Action-clause-stands : goal.returns-in_ok-ask-in-Action-clause-stands
+returns-in_ok-ask-in-Action-clause-stands g c ends p past m f =
+    let fits = subst (Fits past) c.in-Action.is f in
+    subst (λ (l : Line). Steps c.args.engine.now ends p past l c.args.self.now c.ask-in-Action.new.self) (sym c.in-Action.is)
+    (action_steps c.args.engine.now ends c.args.self.now c.ask-in-Action.new.self p past c.in-Action.request m fits c.in_ok-ask-in-Action.ensures.did)
+
+pub returns-in_ok-wait-in-Wait-clause-stands : goal.returns-in_ok-wait-in-Wait-clause-stands
+returns-in_ok-wait-in-Wait-clause-stands g c ends p past m f =
+    let fits = subst (Fits past) c.in-Wait.is f in
+    subst (λ (l : Line). Steps c.args.engine.now ends p past l c.args.self.now c.wait.new.self) (sym c.in-Wait.is)
+    (wait_stands c.args.engine.now ends c.args.self.now c.wait.new.self p past c.in-Wait.name m fits.0 fits.1 c.in_ok-wait-in-Wait.ensures.did)
+
+pub returns-in-Cancel-clause-stands : goal.returns-in-Cancel-clause-stands
+returns-in-Cancel-clause-stands g c ends p past m f =
+    let fits = subst (Fits past) c.in-Cancel.is f in
+    subst (λ (l : Line). Steps c.args.engine.now ends p past l c.args.self.now c.cancel.new.self) (sym c.in-Cancel.is)
+    (cancel_stands c.args.engine.now ends c.args.self.now c.cancel.new.self p past c.in-Cancel.name m fits c.cancel.ensures)
+
+pub returns-in-Close-clause-stands : goal.returns-in-Close-clause-stands
+returns-in-Close-clause-stands g c ends p past m f =
+    subst (λ (l : Line). Steps c.args.engine.now ends p past l c.args.self.now c.close.new.self) (sym c.in-Close.is)
+    (close_stands c.args.engine.now ends c.args.self.now c.close.new.self p past c.in-Close.name m c.close.ensures)
