@@ -3,7 +3,8 @@ use Rattle.script.specs.Order.{Fits}
 use Rattle.script.specs.declared.line.Line.{Line}
 use Rattle.action_digest.specs.declared.key.Key.TheVariants as key
 use Rattle.action_digest.specs.declared.value.Value.TheVariants as value
-use Rattle.dice_run.specs.Driving.{Steps}
+use Rattle.std.specs.Arc.{arc_value}
+use Rattle.dice_run.specs.Driving.{Steps, DidAsk}
 use Rattle.dice_run.proofs.Changing.{distinct_sources}
 use Rattle.dice_run.proofs.Steps.{put_steps, drop_steps, commit_stands, open_stands, ask_steps, action_steps, wait_stands, cancel_stands, close_stands, has_transaction, may_wait, may_cancel}
 use Rattle.dice_run.proofs.driver.Driver.line.Goals as goal
@@ -22,7 +23,7 @@ ask-requires-in-Action-clause-open g c =
     has_transaction c.args.engine.now c.args.self.now c.requires.plan c.requires.past c.requires.stands c.in-Action.request.transaction f.opened
 
 pub wait-requires-clause-open : goal.wait-requires-clause-open
-wait-requires-clause-open g c =
+wait-requires-clause-open g c κs within =
     let f = subst (Fits c.requires.past) c.in-Wait.is c.requires.fits in
     may_wait c.args.engine.now c.args.self.now c.requires.plan c.requires.past c.requires.stands c.in-Wait.name f.0 f.1
 
@@ -67,13 +68,15 @@ pub returns-in_ok-ask-in-Ask-clause-stands : goal.returns-in_ok-ask-in-Ask-claus
 returns-in_ok-ask-in-Ask-clause-stands g c ends p past m f =
     let fits = subst (Fits past) c.in-Ask.is f in
     subst (λ (l : Line). Steps c.args.engine.now ends p past l c.args.self.now c.ask.new.self) (sym c.in-Ask.is)
-    (ask_steps c.args.engine.now ends c.args.self.now c.ask.new.self p past c.in-Ask.request m fits c.in_ok-ask-in-Ask.ensures.did)
+    (ask_steps c.args.engine.now ends c.args.self.now c.ask.new.self p past c.in-Ask.request m fits
+      (let b : arc_value c.in_ok-key-in-Ask.key ≡ key.Digest c.in-Ask.request.label = search rules in subst (λ k. DidAsk c.args.engine.now c.in-Ask.request k c.args.self.now c.ask.new.self) b c.in_ok-ask-in-Ask.ensures.did))
 
 pub returns-in_ok-ask-in-Action-clause-stands : goal.returns-in_ok-ask-in-Action-clause-stands
 returns-in_ok-ask-in-Action-clause-stands g c ends p past m f =
     let fits = subst (Fits past) c.in-Action.is f in
     subst (λ (l : Line). Steps c.args.engine.now ends p past l c.args.self.now c.ask-in-Action.new.self) (sym c.in-Action.is)
-    (action_steps c.args.engine.now ends c.args.self.now c.ask-in-Action.new.self p past c.in-Action.request m fits c.in_ok-ask-in-Action.ensures.did)
+    (action_steps c.args.engine.now ends c.args.self.now c.ask-in-Action.new.self p past c.in-Action.request m fits
+      (let b : arc_value c.in_ok-key-in-Action.key ≡ key.Action c.in-Action.request.label = search rules in subst (λ k. DidAsk c.args.engine.now c.in-Action.request k c.args.self.now c.ask-in-Action.new.self) b c.in_ok-ask-in-Action.ensures.did))
 
 pub returns-in_ok-wait-in-Wait-clause-stands : goal.returns-in_ok-wait-in-Wait-clause-stands
 returns-in_ok-wait-in-Wait-clause-stands g c ends p past m f =
