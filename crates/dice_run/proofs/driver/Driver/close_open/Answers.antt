@@ -1,4 +1,4 @@
-use Rattle.std.proofs.Common.{◌≡◌, true, false, Option, Some, None, is_some, refl}
+use Rattle.std.proofs.Common.{◌≡◌, ◌∙◌, true, false, ℕ, List, Option, Some, None, is_some, refl, ap}
 use Rattle.script.specs.Past.{is_cancelled}
 use Rattle.script.specs.Plan.{plan_of}
 use Rattle.dice_run.specs.Driving.{transaction_of}
@@ -12,7 +12,7 @@ some_of None e = (let z : true ≡ false = e in cc)
 
 pub close-requires-clause-open : goal.close-requires-clause-open
 close-requires-clause-open g c =
-    let x = some_of (transaction_of c.args.self.now c.args.name.now) c.if-contains_key.ensures in
+    let x = some_of (transaction_of c.args.self.now c.args.name.now) (c.if-contains_key.ensures ∙ ap (λ (t : List ℕ). is_some (transaction_of c.args.self.now t)) c.as_text.ensures) in
     has_held c.args.engine.now c.args.self.now (plan_of c.args._script.now) c.requires.past c.args.name.now c.requires.stands x.0 x.1
 
 pub returns-then-contains_key : goal.returns-then-contains_key

@@ -18,10 +18,10 @@ map_if f true x o = refl
 map_if f false x o = refl
 
 pub wait-requires-clause-asked : goal.wait-requires-clause-asked
-wait-requires-clause-asked g c = (c.requires.open c.in-Some.promise (sym c.take.ensures.value ∙ c.in-Some.is)).0
+wait-requires-clause-asked g c κs within = (c.requires.open c.in-Some.promise (sym c.take.ensures.value ∙ c.in-Some.is)).0
 
 pub wait-requires-clause-open : goal.wait-requires-clause-open
-wait-requires-clause-open g c = (c.requires.open c.in-Some.promise (sym c.take.ensures.value ∙ c.in-Some.is)).1
+wait-requires-clause-open g c κs within = (c.requires.open c.in-Some.promise (sym c.take.ensures.value ∙ c.in-Some.is)).1
 
 pub returns-clause-did : goal.returns-clause-did
 returns-clause-did g c = on_ok c.note.result _ _
