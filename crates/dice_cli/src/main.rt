@@ -10,7 +10,7 @@ use std::sync::Wait;
 use std::thread::Threads;
 
 /// Does what the words say, over standard input and output.
-fn status<R: Input + Print + Threads + Wait>(rt: &R, alloc: Global, given: Args) -> Status {
+fn status<R: Input + Print + Threads + Wait + Sync>(rt: &R, alloc: Global, given: Args) -> Status {
     let mut words = Vec::new(alloc);
     for word in given {
         if words.push(word).is_err() {
@@ -25,7 +25,16 @@ fn status<R: Input + Print + Threads + Wait>(rt: &R, alloc: Global, given: Args)
     }
     let mut source = RealSource::new(rt);
     let mut sink = RealSink::new(rt);
-    run(rt, alloc, &texts, &mut source, &mut sink, &Open)
+    let mut kept = None;
+    run(
+        rt,
+        alloc,
+        &texts,
+        &mut source,
+        &mut sink,
+        &Open,
+        &mut kept,
+    )
 }
 
 fn main(rt: HostRuntime) -> ExitCode {

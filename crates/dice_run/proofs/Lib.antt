@@ -1,4 +1,10 @@
 pub mod Changing
-pub mod Lines
 pub mod Inputs
-pub mod Working
+pub mod Seating
+pub mod Turning
+pub mod Steps
+pub mod Ending
+pub mod Printed
+pub mod Recorded
+pub mod Deciding
+pub mod Closings

@@ -1,92 +1,227 @@
 -- Where the driver of a script stands.
-use Rattle.std.specs.Prelude.{◌≡◌, ◌≤◌, ℕ, Bool, true, false, decimal, nat_eq, List, [], ◌∷◌, ◌++◌, map, length, Some}
+use Rattle.std.specs.Prelude.{◌≡◌, ◌≢◌, ◌≤◌, ◌<◌, ℕ, Bool, true, false, nat_eq, if◌then◌else◌, List, [], ◌∷◌, ◌++◌, map, length, Option, Some, None}
 use Rattle.std.specs.Map.{lookup}
-use Rattle.std.specs.Option.{option_map}
 use Rattle.std.specs.Arc.{arc_value}
 use Rattle.std.specs.Str.{bytes_eq}
 use Rattle.std.specs.HashMap.{get}
 use Rattle.std.specs.Cmp.Lexicographic.{pointwise}
-use Rattle.dice_model.specs.Log.{pairs_of, Has, AreDistinct}
+use Rattle.std.specs.Option.{option_map}
+use Rattle.atomic_table.specs.Seated.{TableId}
+use Rattle.dice_key.specs.declared.universe.Kind.TheVariants.{Injected}
+use Rattle.dice_model.specs.Log.{Has, AreDistinct}
+use Rattle.dice_model.specs.Eval.{HasValue}
+use Rattle.journal.specs.declared.event.Told.{Told}
+use Rattle.journal.specs.declared.event.Told.TheVariants.{Close, Leave}
+use Rattle.journal.specs.Events.{NotClosed}
+use Rattle.dice_engine.specs.Conditions.{HasOpen, HasAsk}
+use Rattle.dice_engine.specs.declared.promise.Transaction.{Transaction}
+use Rattle.dice_engine.specs.declared.promise.Promise.{Promise}
 use Rattle.script.specs.declared.line.Line.{Line}
+use Rattle.script.specs.declared.line.Line.TheVariants as line
+use Rattle.script.specs.declared.line.Request.{Request}
+use Rattle.script.specs.declared.fate.Fate.{Fate}
+use Rattle.script.specs.declared.fate.Fate.TheVariants as fate
+use Rattle.script.specs.declared.requests.Asked.{Asked}
 use Rattle.script.specs.Past.{Past, after}
 use Rattle.script.specs.Order.{Fits}
-use Rattle.script.specs.Plan.{Ends, Plan, Change, planned, version_of}
-use Rattle.dice_model.specs.Eval.{HasValue}
+use Rattle.script.specs.Plan.{Ends, Plan, Planned, Change, version_of, planned, committed}
+use Rattle.action_digest.specs.declared.buck.Buck.{Buck}
+use Rattle.action_digest.specs.declared.run.Run.{Run}
 use Rattle.action_digest.specs.declared.key.Key.{Key}
 use Rattle.action_digest.specs.declared.value.Value.{Value}
 use Rattle.action_digest.specs.Buck.{buck}
 use Rattle.action_digest.specs.Same.{key_equal}
-use Rattle.action_digest.specs.Cycles.{keys_of, IsLabelCycle, ReachesFirst}
-use Rattle.script.specs.declared.line.Request.{Request}
-use Rattle.dice_run.specs.Clients.{log_in, IsOpen, KeepsOpen}
-use Rattle.dice_run.specs.Output.{log_of, pairs_of_changes, value_lines, cycle_line, cancelled_line, IsPrinted}
-use Rattle.dice_run.specs.declared.client.Transaction.{Transaction}
+use Rattle.dice_run.specs.Output.{log_of, pairs_of_changes, key_of}
+use Rattle.dice_run.specs.Answers.{IsToldOf}
+use Rattle.dice_run.specs.Events.{IsDecidedIn}
+use Rattle.dice_run.specs.Seats.{Place, log_in, IsOurs, Goes, Opens, Asks}
 use Rattle.dice_run.specs.declared.driver.Driver.{Driver}
 
 abbrev pub paths_of : List Change → List (List ℕ)
 paths_of cs = map (λ c. c.path) cs
 
--- the driver has the log, the gathered changes and the versions of this plan; the transactions that it knows are open; and the paths put or
--- dropped since the last commit are distinct
-pub record Matches (d : Driver) (p : Plan) (past : Past) : Type 0 where
-  pub commits : log_in d.client.core ≡ log_of p.log
-  pub gathered : pairs_of d.gathered.items ≡ pairs_of_changes p.gathered
-  pub versions : (t : List ℕ) → option_map (λ (x : Transaction). x.version) (get (pointwise nat_eq) d.transactions t) ≡ lookup (bytes_eq t) p.opened
-  pub opened : (t : List ℕ) (x : Transaction) → get (pointwise nat_eq) d.transactions t ≡ Some x → IsOpen d.client.core x
-  pub known : (t : List ℕ) (b : Bool) → past.opened t ≡ Some b → (x : Transaction) × (get (pointwise nat_eq) d.transactions t ≡ Some x)
+abbrev pub Pledge : Type 0
+Pledge = Promise Buck Key Value Run
+
+-- the open transaction, the request that is still to be answered, and the answer, of a name
+abbrev pub transaction_of : Driver → List ℕ → Option Transaction
+transaction_of d t = get (pointwise nat_eq) d.transactions t
+
+abbrev pub pledge_of : Driver → List ℕ → Option Pledge
+pledge_of d q = get (pointwise nat_eq) d.promises q
+
+abbrev pub answer_of : Driver → List ℕ → Option (List ℕ)
+answer_of d q = option_map (λ v. v.items) (get (pointwise nat_eq) d.answers q)
+
+-- ---- requests
+
+-- the request is still to be answered: its ask was not left, and is in an open transaction
+pub record IsPending (d : Driver) (r : Planned) : Type 0 where
+  pub pledge : Pledge
+  pub held : pledge_of d r.name ≡ Some pledge
+  pub asks : HasAsk d.seat pledge.ask pledge.opened pledge.version (arc_value pledge.key)
+  pub key : arc_value pledge.key ≡ key_of r.wish
+  pub version : pledge.version ≡ r.version
+  pub transaction : Transaction
+  pub within : transaction_of d r.transaction ≡ Some transaction
+  pub same : transaction.opened ≡ pledge.opened
+
+-- the request was answered
+pub record IsTold (d : Driver) (r : Planned) : Type 0 where
+  pub text : List ℕ
+  pub held : answer_of d r.name ≡ Some text
+  pub told : IsToldOf (log_in d.seat) r.version (key_of r.wish) text
+
+-- by what has become of a request in the script
+abbrev pub IsAt : Driver → Planned → Fate → Type 0
+IsAt d r fate.Pending = IsPending d r
+IsAt d r fate.Answered = (pledge_of d r.name ≡ None) × IsTold d r
+IsAt d r fate.Cancelled = Unit {0}
+
+pub record IsMade (d : Driver) (past : Past) (r : Planned) : Type 0 where
+  pub asked : Asked
+  pub made : past.asked r.name ≡ Some asked
+  pub transaction : asked.transaction ≡ r.transaction
+  pub within : r.version ≤ length (log_in d.seat)
+  pub at : IsAt d r asked.fate
+
+-- ---- the driver
+
+-- the driver has the log, the gathered changes and the requests of this plan; those of its transactions that are not closed are
+-- open, and each has an index of its own; and so has each ask
+pub record Matches (id : TableId) (d : Driver) (p : Plan) (past : Past) : Type 0 where
+  pub ours : IsOurs id d.seat
+  pub log : log_in d.seat ≡ log_of p.log
+  pub gathered : d.gathered ≡ pairs_of_changes p.gathered
   pub within : (t : List ℕ) → version_of t p.opened ≤ length p.log
+  pub known : (t : List ℕ) → past.opened t ≡ Some true → (x : Transaction) × (transaction_of d t ≡ Some x)
+  pub open_ : (t : List ℕ) (x : Transaction) → transaction_of d t ≡ Some x → HasOpen d.seat x.opened x.version × (lookup (bytes_eq t) p.opened ≡ Some x.version) × (past.opened t ≡ Some true)
+  pub apart : (t u : List ℕ) (x y : Transaction) → transaction_of d t ≡ Some x → transaction_of d u ≡ Some y → x.opened ≡ y.opened → t ≡ u
+  pub pledged : (q : List ℕ) (x : Pledge) → pledge_of d q ≡ Some x → x.ask < length d.seat.seen
+  pub asks_apart : (q r : List ℕ) (x y : Pledge) → pledge_of d q ≡ Some x → pledge_of d r ≡ Some y → x.ask ≡ y.ask → q ≡ r
+  pub requests : (r : Planned) → Has p.requests r → IsMade d past r
+  pub found : (q : List ℕ) (a : Asked) → past.asked q ≡ Some a → (r : Planned) × Has p.requests r × (r.name ≡ q)
   pub distinct : AreDistinct (paths_of p.gathered)
   pub touched : (q : List ℕ) → past.touched q ≡ false → Has (paths_of p.gathered) q → ⊥
 
--- one line more was driven: what it prints stands behind the output, by each log that goes on from the plan's
-pub record Drove (ends : Ends) (d e : Driver) (p : Plan) (past : Past) (l : Line) : Type 0 where
-  pub text : List ℕ
-  pub out : e.out.items ≡ d.out.items ++ text
-  pub printed : (more : List (List (Key × Value))) → IsPrinted (log_of (planned ends p l).log ++ more) ends p l text
-  pub stands : Matches e (planned ends p l) (after past l)
-
--- nothing but the output and the tasks of the core has changed
-pub record KeepsAll (d e : Driver) : Type 0 where
-  pub log : log_in e.client.core ≡ log_in d.client.core
-  pub opened : KeepsOpen d.client.core e.client.core
-  pub gathered : e.gathered ≡ d.gathered
-  pub transactions : e.transactions ≡ d.transactions
-
--- what is told of a key at v, by the log C: how its value is told, or a cycle that it reaches
-pub data IsToldOf (C : List (List (Key × Value))) (v : ℕ) (k : Key) : List ℕ → Type 0 where
-  told_value : (x : Value) → HasValue key_equal buck C v k x → IsToldOf C v k (value_lines x)
-  told_cycle : (ls : List (List ℕ)) → IsLabelCycle C v ls → ReachesFirst C v k (keys_of ls) → IsToldOf C v k (cycle_line ls)
-
--- a request was answered
-pub record Answered (d e : Driver) (r : Request) (k : Key) : Type 0 where
-  pub transaction : Transaction
-  pub known : get (pointwise nat_eq) d.transactions r.transaction ≡ Some transaction
-  pub text : List ℕ
-  pub told : IsToldOf (log_in d.client.core) transaction.version k text
-  pub out : e.out.items ≡ d.out.items ++ (r.name ++ 32 ∷ decimal transaction.version ++ 32 ∷ text)
-  pub kept : KeepsAll d e
-
--- a request that the script cancels was passed over
-pub record PassedOver (d e : Driver) (r : Request) : Type 0 where
-  pub transaction : Transaction
-  pub known : get (pointwise nat_eq) d.transactions r.transaction ≡ Some transaction
-  pub out : e.out.items ≡ d.out.items ++ cancelled_line r.name transaction.version
-  pub kept : KeepsAll d e
-
--- a request was passed over where it is cancelled, and else answered
-abbrev pub Replied : Bool → Driver → Driver → Request → Key → Type 0
-Replied true d e r k = PassedOver d e r
-Replied false d e r k = Answered d e r k
-
--- the transaction of this name is known, and open
-pub record IsKnown (d : Driver) (t : List ℕ) : Type 0 where
-  pub transaction : Transaction
-  pub known : get (pointwise nat_eq) d.transactions t ≡ Some transaction
-  pub open_ : IsOpen d.client.core transaction
-
 -- the driver stands for a plan, and the line fits what came before it
-pub record IsReady (d : Driver) (l : Line) : Type 0 where
+pub record IsReady (id : TableId) (d : Driver) (l : Line) : Type 0 where
   pub plan : Plan
   pub past : Past
-  pub stands : Matches d plan past
+  pub stands : Matches id d plan past
   pub fits : Fits past l
+
+-- the newest version that a line prints, after the lines before it
+abbrev pub newest_of : Plan → Line → List ℕ
+newest_of p line.Commit = length (committed p.log p.gathered) ∷ []
+newest_of p (line.Put path bytes) = []
+newest_of p (line.Drop path) = []
+newest_of p (line.Open t) = []
+newest_of p (line.Ask r) = []
+newest_of p (line.Action r) = []
+newest_of p (line.Wait name) = []
+newest_of p (line.Cancel name) = []
+newest_of p (line.Close t) = []
+
+-- and all of these lines
+abbrev pub newest_from : Ends → Plan → List Line → List ℕ
+newest_from ends p [] = []
+newest_from ends p (l ∷ ls) = newest_of p l ++ newest_from ends (planned ends p l) ls
+
+-- one line more was carried out
+pub record Steps (id : TableId) (ends : Ends) (p : Plan) (past : Past) (l : Line) (d e : Driver) : Type 0 where
+  pub stands : Matches id e (planned ends p l) (after past l)
+  pub newest : e.newest.items ≡ d.newest.items ++ newest_of p l
+
+-- ---- what lines do
+
+-- all that has a name is as before
+pub record KeepsNames (d e : Driver) : Type 0 where
+  pub transactions : e.transactions ≡ d.transactions
+  pub promises : e.promises ≡ d.promises
+  pub answers : e.answers ≡ d.answers
+
+-- the transaction of this name is open
+pub record HasTransaction (d : Driver) (t : List ℕ) : Type 0 where
+  pub transaction : Transaction
+  pub held : transaction_of d t ≡ Some transaction
+  pub has : HasOpen d.seat transaction.opened transaction.version
+
+-- if a transaction has this name, it is open
+abbrev pub HasIfHeld : Driver → List ℕ → Type 0
+HasIfHeld d t = (x : Transaction) → transaction_of d t ≡ Some x → HasOpen d.seat x.opened x.version
+
+-- a request of this name that is still to be answered is live
+abbrev pub MayWait : Driver → List ℕ → Type 0
+MayWait d q = (x : Pledge) → pledge_of d q ≡ Some x → HasAsk d.seat x.ask x.opened x.version (arc_value x.key) × NotClosed x.opened d.seat.mine
+
+-- the request of this name is still to be answered, and live
+abbrev pub MayCancel : Driver → List ℕ → Type 0
+MayCancel d q = (x : Pledge) × (pledge_of d q ≡ Some x) × HasAsk d.seat x.ask x.opened x.version (arc_value x.key) × NotClosed x.opened d.seat.mine
+
+abbrev pub MayClose : Driver → List ℕ → Type 0
+MayClose d t = HasTransaction d t
+
+-- what has a name, and with one name more, or without it
+abbrev pub with_named : {X : Type 0} → List ℕ → Option X → (List ℕ → Option X) → List ℕ → Option X
+with_named t x f q = if pointwise nat_eq t q then x else f q
+
+pub record DidOpen (id : TableId) (t : List ℕ) (d e : Driver) : Type 0 where
+  pub transaction : Transaction
+  pub opens : Opens id d.seat e.seat transaction.opened transaction.version
+  pub transactions : (q : List ℕ) → transaction_of e q ≡ with_named t (Some transaction) (transaction_of d) q
+  pub promises : e.promises ≡ d.promises
+  pub answers : e.answers ≡ d.answers
+  pub gathered : e.gathered ≡ d.gathered
+  pub newest : e.newest ≡ d.newest
+
+pub record DidAsk (id : TableId) (r : Request) (k : Key) (d e : Driver) : Type 0 where
+  pub transaction : Transaction
+  pub held : transaction_of d r.transaction ≡ Some transaction
+  pub pledge : Pledge
+  pub asks : Asks id d.seat e.seat pledge.ask pledge.opened pledge.version (arc_value pledge.key)
+  pub opened : pledge.opened ≡ transaction.opened
+  pub version : pledge.version ≡ transaction.version
+  pub key : arc_value pledge.key ≡ k
+  pub promises : (q : List ℕ) → pledge_of e q ≡ with_named r.name (Some pledge) (pledge_of d) q
+  pub transactions : e.transactions ≡ d.transactions
+  pub answers : e.answers ≡ d.answers
+  pub gathered : e.gathered ≡ d.gathered
+  pub newest : e.newest ≡ d.newest
+
+-- the request was answered before, and nothing is done; or it is answered now
+pub data DidWait (id : TableId) (q : List ℕ) (d e : Driver) : Type 0 where
+  was_told : pledge_of d q ≡ None → e ≡ d → DidWait id q d e
+  is_told : (x : Pledge) (text : List ℕ) → pledge_of d q ≡ Some x → Goes id d.seat e.seat [] → IsToldOf (log_in d.seat) x.version (arc_value x.key) text
+      → (buck.kind (arc_value x.key) ≢ Injected → IsDecidedIn e.seat.seen x.version (arc_value x.key))
+      → ((p : List ℕ) → pledge_of e p ≡ with_named q None (pledge_of d) p) → ((p : List ℕ) → answer_of e p ≡ with_named q (Some text) (answer_of d) p)
+      → e.transactions ≡ d.transactions → e.gathered ≡ d.gathered → e.newest ≡ d.newest → DidWait id q d e
+
+pub record DidCancel (id : TableId) (q : List ℕ) (d e : Driver) : Type 0 where
+  pub pledge : Pledge
+  pub held : pledge_of d q ≡ Some pledge
+  pub goes : Goes id d.seat e.seat (Leave 0 pledge.ask ∷ [])
+  pub promises : (p : List ℕ) → pledge_of e p ≡ with_named q None (pledge_of d) p
+  pub transactions : e.transactions ≡ d.transactions
+  pub answers : e.answers ≡ d.answers
+  pub gathered : e.gathered ≡ d.gathered
+  pub newest : e.newest ≡ d.newest
+
+pub record DidClose (id : TableId) (t : List ℕ) (d e : Driver) : Type 0 where
+  pub transaction : Transaction
+  pub held : transaction_of d t ≡ Some transaction
+  pub goes : Goes id d.seat e.seat (Close 0 transaction.opened ∷ [])
+  pub transactions : (q : List ℕ) → transaction_of e q ≡ with_named t None (transaction_of d) q
+  pub promises : e.promises ≡ d.promises
+  pub answers : e.answers ≡ d.answers
+  pub gathered : e.gathered ≡ d.gathered
+  pub newest : e.newest ≡ d.newest
+
+-- nothing was done yet
+pub record Starts (id : TableId) (d : Driver) : Type 0 where
+  pub ours : IsOurs id d.seat
+  pub mine : d.seat.mine ≡ []
+  pub gathered : d.gathered ≡ []
+  pub newest : d.newest.items ≡ []
+  pub transactions : (t : List ℕ) → transaction_of d t ≡ None
+  pub promises : (q : List ℕ) → pledge_of d q ≡ None

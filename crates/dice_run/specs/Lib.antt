@@ -1,5 +1,11 @@
 pub mod Output
 pub mod Run
 pub mod Commits
-pub mod Clients
+pub mod Answers
+pub mod Seats
 pub mod Driving
+pub mod Driven
+pub mod Printing
+pub mod Events
+pub mod Recording
+pub mod Keeping

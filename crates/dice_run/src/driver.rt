@@ -1,222 +1,186 @@
-//! The driver of a script.
-ghost use Rattle.std.specs.Prelude.{◌≡◌, ◌<◌, ◌++◌, ◌∷◌, [], ℕ, List, Some, IfOk, OnOk, filter, length, codes, decimal, nat_eq, if◌then◌else◌};
+//! The driver of a script: what its lines have the engine do.
+ghost use Rattle.std.specs.Prelude.{◌≡◌, ◌++◌, ◌∷◌, [], ℕ, List, Some, None, OnOk, length, nat_eq, if◌then◌else◌};
 ghost use Rattle.std.specs.HashMap.{get};
 ghost use Rattle.std.specs.Cmp.Lexicographic.{pointwise};
+ghost use Rattle.std.specs.Arc.{arc_value};
 ghost use Rattle.action_digest.specs.declared.key.Key.TheVariants as key;
 ghost use Rattle.action_digest.specs.declared.value.Value.TheVariants as value;
-ghost use Rattle.std.specs.Arc.{arc_value};
-ghost use Rattle.dice_model.specs.Log.{pairs_of};
-ghost use Rattle.script.specs.Past.{Past, is_cancelled};
+ghost use Rattle.script.specs.Past.{Past};
 ghost use Rattle.script.specs.Order.{Fits};
-ghost use Rattle.script.specs.Plan.{Plan};
-ghost use Rattle.dice_run.specs.Commits.{AreDistinctSources, differs_from, with_pairs};
-ghost use Rattle.dice_run.specs.Clients.{log_in, IsOpen, KeepsOpen, IsSettled};
-ghost use Rattle.dice_run.specs.Output.{line, cancelled_line, IsOutput};
-ghost use Rattle.dice_run.specs.Driving.{Matches, Drove, Answered, PassedOver, Replied, IsReady, IsKnown, IsToldOf};
-ghost use Rattle.action_digest.specs.declared.key.Key.{Key};
-ghost use Rattle.action_digest.specs.declared.value.Value.{Value};
-ghost use Rattle.dice_run.specs.declared.client.Transaction.{Transaction};
+ghost use Rattle.script.specs.Plan.{Ends, Plan};
+ghost use Rattle.dice_run.specs.Commits.{AreDistinctSources};
+ghost use Rattle.dice_run.specs.Seats.{IsOurs, log_in, Commits};
+ghost use Rattle.dice_run.specs.Recording.{RecordsStep};
+ghost use Rattle.dice_run.specs.Driving.{Matches, Steps, IsReady, KeepsNames, DidOpen, DidAsk, DidWait, DidCancel, DidClose, HasTransaction, MayWait, MayCancel, MayClose};
 
-use crate::append;
-use crate::client::{Change, Client, Settled, Transaction};
-use crate::request::{cycle_line, value_lines};
-use action_digest::{Key, Value, labels_of_cycle};
+use crate::client::{self, Came};
+use crate::named::{note, take};
+use crate::request::came_lines;
+use action_digest::{Buck, Key, Value};
 use buck_label::{Path, Text};
+use dice_engine::{Engine, Gate, Promise, Seat, Transaction, Updater};
 use dice_key::NoMemory;
-use script::{Line, Name, Request, Script};
+use script::{Line, Name, Request};
 use std::alloc::Global;
 use std::collections::HashMap;
 use std::mem;
 use std::sync::{Arc, Wait};
 
-/// What has been done of a script.
+/// What has been done of a script: the seat at the engine; what was gathered since the last commit; the newest version after each
+/// commit; the transactions that are open; the requests that are still to be answered; and the answers.
 #[derive(Drop)]
 pub(crate) struct Driver {
-    alloc: Global,
-    client: Client,
-    gathered: Vec<Change>,
-    transactions: HashMap<Text, Transaction>,
-    out: Vec<u8>,
-}
-
-/// The output of a script: what each line prints, in the order of the lines. A request that the script cancels has the line
-/// `cancelled`. Each other one is answered by the engine's core, which keeps what it computes, from one version to the next.
-pub fn drive<R: Wait>(rt: &R, alloc: Global, script: &Script) -> Result<Vec<u8>, NoMemory>
-    ensures { IfOk result (λ out. IsOutput script.now out.items) }
-{
-    let mut driver = Driver {
-        alloc,
-        client: Client::new(alloc)?,
-        gathered: Vec::new(alloc),
-        transactions: HashMap::new(alloc),
-        out: Vec::new(alloc),
-    };
-    for line in script.lines() {
-        driver.line(rt, script, line)?;
-    }
-    Ok(driver.into_output())
+    pub(crate) alloc: Global,
+    pub(crate) seat: Seat<Buck>,
+    pub(crate) gathered: Updater<Buck>,
+    pub(crate) newest: Vec<u64>,
+    pub(crate) transactions: HashMap<Text, Transaction>,
+    pub(crate) promises: HashMap<Text, Promise<Buck>>,
+    pub(crate) answers: HashMap<Text, Vec<u8>>,
 }
 
 impl Driver {
-    fn into_output(self) -> Vec<u8>
-        ensures { result ≡ self.out }
-    {
-        self.out
-    }
-
-    /// Carries out a line of the script. Nothing is done for a request before its own line, and nothing after it: what is
-    /// waited for was answered there, and what is given up was passed over.
-    fn line<R: Wait>(&mut self, rt: &R, script: &Script, line: &Line) -> Result<(), NoMemory>
-        requires { IsReady self.old line.now }
-        ensures { OnOk result ((p : Plan) (past : Past) → Matches self.old p past → Fits past line.now → Drove (is_cancelled script.now) self.old self.new p past line.now) }
+    /// Carries out a line of the script.
+    pub(crate) fn line<R: Wait, G: Gate>(
+        &mut self,
+        rt: &R,
+        engine: &Engine<Buck>,
+        gate: &G,
+        line: &Line,
+    ) -> Result<(), NoMemory>
+        requires { IsReady engine.now self.old line.now }
+        ensures ours { IsOurs engine.now self.new.seat }
+        ensures stands { OnOk result ((ends : Ends) (p : Plan) (past : Past) → Matches engine.now self.old p past → Fits past line.now → Steps engine.now ends p past line.now self.old self.new) }
+        ensures records { OnOk result ((p : Plan) (past : Past) → Matches engine.now self.old p past → Fits past line.now → RecordsStep p past line.now self.old self.new) }
     {
         match line {
             Line::Put(path, bytes) => self.gather(path, Some(bytes.try_clone()?))?,
             Line::Drop(path) => self.gather(path, None)?,
-            Line::Commit => self.commit()?,
-            Line::Open(name) => self.open(name)?,
-            Line::Ask(request) => self.ask(rt, request, script.is_cancelled(&request.name))?,
-            Line::Action(request) => self.action(rt, request, script.is_cancelled(&request.name))?,
-            Line::Wait(_) => {}
-            Line::Cancel(_) => {}
-            Line::Close(_) => {}
+            Line::Commit => self.commit(rt, engine)?,
+            Line::Open(name) => self.open(rt, engine, name)?,
+            Line::Ask(request) => {
+                let key = Arc::new(self.alloc, Key::Digest(request.label.try_clone()?))?;
+                self.ask(rt, engine, request, key)?
+            }
+            Line::Action(request) => {
+                let key = Arc::new(self.alloc, Key::Action(request.label.try_clone()?))?;
+                self.ask(rt, engine, request, key)?
+            }
+            Line::Wait(name) => self.wait(rt, engine, gate, name)?,
+            Line::Cancel(name) => self.cancel(rt, engine, name),
+            Line::Close(name) => self.close(rt, engine, name),
         }
         Ok(())
     }
 
     /// Notes the file of a path from the next commit on, or that it has none.
     fn gather(&mut self, path: &Path, file: Option<Text>) -> Result<(), NoMemory>
-        ensures client { OnOk result (self.new.client ≡ self.old.client) }
-        ensures gathered { OnOk result (pairs_of self.new.gathered.items ≡ pairs_of self.old.gathered.items ++ (key.Source path.now, value.Source file) ∷ []) }
-        ensures transactions { OnOk result (self.new.transactions ≡ self.old.transactions) }
-        ensures out { OnOk result (self.new.out.items ≡ self.old.out.items) }
+        ensures seat { self.new.seat ≡ self.old.seat }
+        ensures gathered { OnOk result (self.new.gathered ≡ self.old.gathered ++ (key.Source path.now, value.Source file) ∷ []) }
+        ensures names { OnOk result (KeepsNames self.old self.new) }
+        ensures newest { OnOk result (self.new.newest ≡ self.old.newest) }
     {
         let key = Arc::new(self.alloc, Key::Source(path.try_clone()?))?;
         let value = Arc::new(self.alloc, Value::Source(file))?;
-        self.gathered.push((key, value))?;
+        self.gathered.changed_to(key, value)
+    }
+
+    /// Commits what was gathered.
+    fn commit<R: Wait>(&mut self, rt: &R, engine: &Engine<Buck>) -> Result<(), NoMemory>
+        requires ours { IsOurs engine.now self.old.seat }
+        requires sources { AreDistinctSources self.old.gathered }
+        ensures ours { IsOurs engine.now self.new.seat }
+        ensures seat { OnOk result (Commits engine.now self.old.seat self.new.seat self.old.gathered) }
+        ensures gathered { OnOk result (self.new.gathered ≡ []) }
+        ensures names { OnOk result (KeepsNames self.old self.new) }
+        ensures newest { OnOk result (self.new.newest.items ≡ self.old.newest.items ++ length (log_in self.new.seat) ∷ []) }
+    {
+        let gathered = mem::replace(&mut self.gathered, Updater::new(self.alloc));
+        let version = client::commit(rt, engine, &mut self.seat, &gathered)?;
+        self.newest.push(version)?;
         Ok(())
     }
 
-    fn commit(&mut self) -> Result<(), NoMemory>
-        requires { AreDistinctSources (pairs_of self.old.gathered.items) }
-        ensures log { OnOk result (log_in self.new.client.core ≡ with_pairs (log_in self.old.client.core) (filter (differs_from (log_in self.old.client.core)) (pairs_of self.old.gathered.items))) }
-        ensures opened { OnOk result (KeepsOpen self.old.client.core self.new.client.core) }
-        ensures gathered { OnOk result (self.new.gathered.items ≡ []) }
-        ensures transactions { OnOk result (self.new.transactions ≡ self.old.transactions) }
-        ensures out { OnOk result (self.new.out.items ≡ self.old.out.items ++ line (codes "commit " ++ decimal (length (log_in self.new.client.core)))) }
-    {
-        let gathered = mem::replace(&mut self.gathered, Vec::new(self.alloc));
-        let version = self.client.commit(&gathered)?;
-        append::bytes(&mut self.out, b"commit ")?;
-        append::number(&mut self.out, version)?;
-        append::bytes(&mut self.out, b"\n")
-    }
-
-    fn open(&mut self, name: &Name) -> Result<(), NoMemory>
-        ensures made { OnOk result ((x : Transaction) × (x.version ≡ length (log_in self.old.client.core)) × IsOpen self.new.client.core x × ((q : List ℕ) → get (pointwise nat_eq) self.new.transactions q ≡ (if pointwise nat_eq name.now q then Some x else get (pointwise nat_eq) self.old.transactions q))) }
-        ensures log { OnOk result (log_in self.new.client.core ≡ log_in self.old.client.core) }
-        ensures opened { OnOk result (KeepsOpen self.old.client.core self.new.client.core) }
-        ensures gathered { OnOk result (self.new.gathered ≡ self.old.gathered) }
-        ensures out { OnOk result (self.new.out.items ≡ self.old.out.items ++ line (codes "open " ++ name.now ++ 32 ∷ decimal (length (log_in self.old.client.core)))) }
-    {
-        let transaction = self.client.open()?;
-        self.transactions
-            .insert(name.as_text().try_clone()?, transaction)?;
-        append::bytes(&mut self.out, b"open ")?;
-        append::bytes(&mut self.out, name.as_bytes())?;
-        append::bytes(&mut self.out, b" ")?;
-        append::number(&mut self.out, transaction.version)?;
-        append::bytes(&mut self.out, b"\n")
-    }
-
-    fn ask<R: Wait>(&mut self, rt: &R, request: &Request, cancelled: bool) -> Result<(), NoMemory>
-        requires { IsKnown self.old request.now.transaction }
-        ensures { OnOk result (Replied cancelled self.old self.new request.now (key.Digest request.now.label)) }
-    {
-        if cancelled {
-            return self.pass_over(request);
-        }
-        let key = Arc::new(self.alloc, Key::Digest(request.label.try_clone()?))?;
-        self.answer(rt, request, &key)
-    }
-
-    fn action<R: Wait>(
+    /// Opens a transaction.
+    fn open<R: Wait>(
         &mut self,
         rt: &R,
-        request: &Request,
-        cancelled: bool,
+        engine: &Engine<Buck>,
+        name: &Name,
     ) -> Result<(), NoMemory>
-        requires { IsKnown self.old request.now.transaction }
-        ensures { OnOk result (Replied cancelled self.old self.new request.now (key.Action request.now.label)) }
+        requires { IsOurs engine.now self.old.seat }
+        ensures ours { IsOurs engine.now self.new.seat }
+        ensures did { OnOk result (DidOpen engine.now name.now self.old self.new) }
     {
-        if cancelled {
-            return self.pass_over(request);
-        }
-        let key = Arc::new(self.alloc, Key::Action(request.label.try_clone()?))?;
-        self.answer(rt, request, &key)
+        let transaction = client::open(rt, engine, &mut self.seat)?;
+        note(&mut self.transactions, name, transaction)
     }
 
-    /// Says of a request that it was cancelled.
-    fn pass_over(&mut self, request: &Request) -> Result<(), NoMemory>
-        requires { IsKnown self.old request.now.transaction }
-        ensures { OnOk result (PassedOver self.old self.new request.now) }
+    /// Asks for a key.
+    fn ask<R: Wait>(
+        &mut self,
+        rt: &R,
+        engine: &Engine<Buck>,
+        request: &Request,
+        key: Arc<Key>,
+    ) -> Result<(), NoMemory>
+        requires ours { IsOurs engine.now self.old.seat }
+        requires open { HasTransaction self.old request.now.transaction }
+        ensures ours { IsOurs engine.now self.new.seat }
+        ensures did { OnOk result (DidAsk engine.now request.now (arc_value key) self.old self.new) }
     {
-        let transaction = self.transaction(request.transaction.as_text());
-        append_cancelled(&mut self.out, request.name.as_bytes(), transaction.version)
-    }
-
-    /// The transaction of a name that is known.
-    fn transaction(&self, name: &Text) -> Transaction
-        requires { IsKnown self.now name.now }
-        ensures { get (pointwise nat_eq) self.now.transactions name.now ≡ Some result }
-    {
-        let Some(transaction) = self.transactions.get(name) else {
+        let Some(transaction) = self.transactions.get(request.transaction.as_text()) else {
             unreachable!()
         };
-        *transaction
+        let promise = client::ask(rt, engine, &mut self.seat, transaction, key)?;
+        note(&mut self.promises, &request.name, promise)
     }
 
-    /// Appends the answer to a request: what its key has come to at the version of its transaction.
-    fn answer<R: Wait>(&mut self, rt: &R, request: &Request, key: &Arc<Key>) -> Result<(), NoMemory>
-        requires { IsKnown self.old request.now.transaction }
-        ensures { OnOk result (Answered self.old self.new request.now (arc_value key.now)) }
+    /// Waits for a request, unless it was waited for before, and notes how it is answered.
+    pub(crate) fn wait<R: Wait, G: Gate>(
+        &mut self,
+        rt: &R,
+        engine: &Engine<Buck>,
+        gate: &G,
+        name: &Name,
+    ) -> Result<(), NoMemory>
+        requires ours { IsOurs engine.now self.old.seat }
+        requires open { MayWait self.old name.now }
+        ensures ours { IsOurs engine.now self.new.seat }
+        ensures did { OnOk result (DidWait engine.now name.now self.old self.new) }
     {
-        let transaction = self.transaction(request.transaction.as_text());
-        let settled = self.client.settle(rt, transaction, key)?;
-        append_prefix(&mut self.out, request.name.as_bytes(), transaction.version)?;
-        append_settled(self.alloc, &mut self.out, &settled)
-    }
-}
-
-/// Appends a request's name and version.
-fn append_prefix(out: &mut Vec<u8>, name: &[u8], version: u64) -> Result<(), NoMemory>
-    ensures { OnOk result (out.new.items ≡ out.old.items ++ (name.now ++ 32 ∷ decimal version ++ 32 ∷ [])) }
-{
-    append::bytes(out, name)?;
-    append::bytes(out, b" ")?;
-    append::number(out, version)?;
-    append::bytes(out, b" ")
-}
-
-/// Appends what a key has come to.
-fn append_settled(alloc: Global, out: &mut Vec<u8>, settled: &Settled) -> Result<(), NoMemory>
-    ensures { OnOk result ((text : List ℕ) × (out.new.items ≡ out.old.items ++ text) × ((C : List (List (Key × Value))) (v : ℕ) (k : Key) → IsSettled C v k settled.now → IsToldOf C v k text)) }
-{
-    match settled {
-        Settled::Value(value) => value_lines(out, value),
-        Settled::Cycle(path) => {
-            let labels = labels_of_cycle(alloc, path)?;
-            cycle_line(out, &labels)
+        if !self.promises.contains_key(name.as_text()) {
+            return Ok(());
         }
+        let Some(promise) = take(&mut self.promises, name) else {
+            unreachable!()
+        };
+        let came = client::wait(rt, engine, &mut self.seat, &promise, gate)?;
+        let answer = came_lines(self.alloc, &came)?;
+        note(&mut self.answers, name, answer)
     }
-}
 
-/// Appends a cancelled request's name, its version and that it is cancelled.
-fn append_cancelled(out: &mut Vec<u8>, name: &[u8], version: u64) -> Result<(), NoMemory>
-    ensures { OnOk result (out.new.items ≡ out.old.items ++ cancelled_line name.now version) }
-{
-    append::bytes(out, name)?;
-    append::bytes(out, b" ")?;
-    append::number(out, version)?;
-    append::bytes(out, b" cancelled\n")
+    /// Gives a request up.
+    fn cancel<R: Wait>(&mut self, rt: &R, engine: &Engine<Buck>, name: &Name)
+        requires ours { IsOurs engine.now self.old.seat }
+        requires open { MayCancel self.old name.now }
+        ensures { DidCancel engine.now name.now self.old self.new }
+    {
+        let Some(promise) = take(&mut self.promises, name) else {
+            unreachable!()
+        };
+        client::leave(rt, engine, &mut self.seat, promise);
+    }
+
+    /// Closes a transaction.
+    pub(crate) fn close<R: Wait>(&mut self, rt: &R, engine: &Engine<Buck>, name: &Name)
+        requires ours { IsOurs engine.now self.old.seat }
+        requires open { MayClose self.old name.now }
+        ensures { DidClose engine.now name.now self.old self.new }
+    {
+        let Some(transaction) = take(&mut self.transactions, name) else {
+            unreachable!()
+        };
+        client::close(rt, engine, &mut self.seat, transaction);
+    }
 }

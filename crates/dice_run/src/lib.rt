@@ -3,17 +3,24 @@
 
 mod append;
 mod client;
+mod driven;
 mod driver;
+mod kept;
+mod named;
+mod printer;
 mod request;
 mod run_of;
 mod status;
+mod workers;
 
+pub use dice_engine::{Gate, Open};
 pub use dice_io::{
-    Gate, MemorySink, MemorySource, Open, RealSink, RealSource, Sink, Source, SureSink, SureSource,
+    MemorySink, MemorySource, RealSink, RealSource, Sink, Source, SureSink, SureSource,
 };
-pub use driver::drive;
+pub use kept::Kept;
 pub use run_of::run;
 pub use status::Status;
+pub use workers::drive;
 
 #[cfg(test)]
 mod tests;

@@ -1,11 +1,20 @@
 //! How requests are answered.
-ghost use Rattle.std.specs.Prelude.{◌≡◌, ◌++◌, OnOk};
+ghost use Rattle.std.specs.Prelude.{◌≡◌, ◌++◌, ℕ, List, IfOk, OnOk};
+ghost use Rattle.action_digest.specs.declared.key.Key.{Key};
+ghost use Rattle.action_digest.specs.declared.value.Value.{Value};
+ghost use Rattle.dice_run.specs.Answers.{IsToldOf};
+ghost use Rattle.action_digest.specs.Buck.{buck};
+ghost use Rattle.action_digest.specs.Cycles.{ReachesFirst};
+ghost use Rattle.dice_model.specs.Asks.{IsCycle};
+ghost use Rattle.dice_run.specs.Seats.{IsCome};
 ghost use Rattle.dice_run.specs.Output.{fault_line, digest_line, action_lines, value_lines, labels_text, cycle_line};
 
 use crate::append;
-use action_digest::{ActionText, Fault, Value};
+use crate::client::Came;
+use action_digest::{ActionText, Fault, Key, Value, labels_of_cycle};
 use buck_label::Label;
-use dice_key::NoMemory;
+use dice_key::{NoMemory, Path};
+use std::alloc::Global;
 
 /// Appends the line of a fault.
 fn fault_line(out: &mut Vec<u8>, fault: &Fault) -> Result<(), NoMemory>
@@ -73,6 +82,35 @@ pub(crate) fn value_lines(out: &mut Vec<u8>, value: &Value) -> Result<(), NoMemo
         Value::Action(action) => action_lines(out, action),
         Value::Source(_) | Value::Package(_) | Value::Rule(_) => Ok(()),
     }
+}
+
+/// How a request is answered, behind its name and version: by what its key has come to.
+pub(crate) fn came_lines(alloc: Global, came: &Came) -> Result<Vec<u8>, NoMemory>
+    ensures { IfOk result (λ text. (C : List (List (Key × Value))) (v : ℕ) (k : Key) → IsCome C v k came.now → IsToldOf C v k text.items) }
+{
+    match came {
+        Came::Value(value) => lines_of_value(alloc, value),
+        Came::Cycle(path) => line_of_cycle(alloc, path),
+    }
+}
+
+/// What a value is answered by.
+fn lines_of_value(alloc: Global, value: &Value) -> Result<Vec<u8>, NoMemory>
+    ensures { IfOk result (λ text. text.items ≡ value_lines value.now) }
+{
+    let mut out = Vec::new(alloc);
+    value_lines(&mut out, value)?;
+    Ok(out)
+}
+
+/// What a cycle is answered by.
+fn line_of_cycle(alloc: Global, path: &Path<Key>) -> Result<Vec<u8>, NoMemory>
+    ensures { IfOk result (λ text. (C : List (List (Key × Value))) (v : ℕ) (k : Key) → IsCycle ⟦<Key as PartialEq>⟧.eq buck C v path.now → ReachesFirst C v k path.now → IsToldOf C v k text.items) }
+{
+    let labels = labels_of_cycle(alloc, path)?;
+    let mut out = Vec::new(alloc);
+    cycle_line(&mut out, &labels)?;
+    Ok(out)
 }
 
 /// Appends labels, each behind a space.

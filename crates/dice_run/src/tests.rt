@@ -7,7 +7,7 @@ use std::test::Fail;
 use std::thread::Threads;
 
 /// How a run with these words on this script ends: its status, and what the sink holds. Source and sink move 10 bytes a call.
-fn outcome<R: Threads + Wait>(
+fn outcome<R: Threads + Wait + Sync>(
     rt: &R,
     alloc: Global,
     words: &[&str],
@@ -18,7 +18,8 @@ fn outcome<R: Threads + Wait>(
     let bytes = Vec::from_slice(alloc, script)?;
     let mut source = MemorySource::new(bytes, 10, Vec::from_slice(alloc, read_fails)?);
     let mut sink = MemorySink::new(alloc, 10, Vec::from_slice(alloc, write_fails)?, 1_000)?;
-    let status = run(rt, alloc, words, &mut source, &mut sink, &Open);
+    let mut kept = None;
+    let status = run(rt, alloc, words, &mut source, &mut sink, &Open, &mut kept);
     Ok((status.code(), Vec::from_slice(alloc, sink.bytes())?))
 }
 
@@ -85,7 +86,7 @@ fn scripts_and_their_outputs(rt: HostRuntime) -> Result<(), Fail> {
 }
 
 /// Runs these scripts, and counts those whose status and output are as told.
-fn as_told<R: Threads + Wait>(
+fn as_told<R: Threads + Wait + Sync>(
     rt: &R,
     alloc: Global,
     rows: &[(&[u8], u8, &[u8])],

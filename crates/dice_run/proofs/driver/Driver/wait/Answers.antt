@@ -1,0 +1,36 @@
+use Rattle.std.proofs.Common.{◌≡◌, ◌∙◌, Bool, true, false, cond, ℕ, List, Result, Ok, Err, OnOk, Option, Some, None, refl, sym, ap}
+use Rattle.std.specs.Option.{option_map}
+use Rattle.std.specs.HashMap.{get}
+use Rattle.std.specs.Str.{bytes_eq}
+use Rattle.std.specs.Cmp.Lexicographic.{pointwise}
+use Rattle.std.proofs.Common.{nat_eq}
+use Rattle.std.specs.Arc.{arc_value}
+use Rattle.dice_run.specs.Seats.{log_in}
+use Rattle.dice_run.specs.Driving.{answer_of, is_told}
+use Rattle.dice_run.proofs.driver.Driver.wait.Goals as goal
+
+on_ok : {A E : Type 0} (r : Result A E) (P Q : Type 0) → (P → Q) → OnOk r P → OnOk r Q
+on_ok (Ok a) P Q f p = f p
+on_ok (Err e) P Q f p = p
+
+map_if : {X Y : Type 0} (f : X → Y) (b : Bool) (x : X) (o : Option X) → option_map f (cond b (Some x) o) ≡ cond b (Some (f x)) (option_map f o)
+map_if f true x o = refl
+map_if f false x o = refl
+
+pub wait-requires-clause-asked : goal.wait-requires-clause-asked
+wait-requires-clause-asked g c κs within = (c.requires.open c.in-Some.promise (sym c.take.ensures.value ∙ c.in-Some.is)).0
+
+pub wait-requires-clause-open : goal.wait-requires-clause-open
+wait-requires-clause-open g c κs within = (c.requires.open c.in-Some.promise (sym c.take.ensures.value ∙ c.in-Some.is)).1
+
+pub returns-clause-did : goal.returns-clause-did
+returns-clause-did g c = on_ok c.note.result _ _
+    (λ noted.
+        let p = c.in-Some.promise in
+        is_told p c.in_ok-answer.answer.items (sym c.take.ensures.value ∙ c.in-Some.is) c.wait.ensures.goes
+          (c.in_ok-answer.ensures (log_in c.args.self.now.seat) p.version (arc_value p.key) c.in_ok-came.ensures.came)
+          c.in_ok-came.ensures.decided
+          c.take.ensures.rest
+          (λ n. ap (option_map (λ v. v.items)) (noted n) ∙ map_if (λ v. v.items) (bytes_eq c.args.name.now n) c.in_ok-answer.answer (get (pointwise nat_eq) c.args.self.now.answers n))
+          refl refl refl)
+    c.note.ensures

@@ -1,0 +1,25 @@
+-- What a run leaves.
+use Rattle.std.specs.Prelude.{◌≡◌, ℕ, List, Option, Some}
+use Rattle.script.specs.declared.line.Line.{Line}
+use Rattle.script.specs.Scripts.{IsScript}
+use Rattle.dice_run.specs.Events.{IsJournalOf}
+use Rattle.dice_run.specs.Seats.{IsOurs}
+use Rattle.dice_run.specs.declared.kept.Kept.{Kept}
+
+-- an engine, and the driver's seat at it, whose seen journal is one of these lines
+pub record IsKeptWith (ls : List Line) (k : Option Kept) : Type 0 where
+  pub kept : Kept
+  pub is : k ≡ Some kept
+  pub ours : IsOurs kept.engine kept.seat
+  pub journal : IsJournalOf ls kept.seat.seen
+
+-- of the script that this input is
+pub record IsKeptOf (input : List ℕ) (k : Option Kept) : Type 0 where
+  pub lines : List Line
+  pub script : IsScript input lines
+  pub left : IsKeptWith lines k
+
+-- of some script
+pub record Keeps (k : Option Kept) : Type 0 where
+  pub input : List ℕ
+  pub left : IsKeptOf input k
