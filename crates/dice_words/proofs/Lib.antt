@@ -1,2 +1,3 @@
 mod Accepting
-mod RunLemmas
+mod Commands
+mod Rows

@@ -1,12 +1,23 @@
--- The command line of `dice` in the terms of `clap`: the command, the words that it takes, and which command they name.
-use Rattle.std.specs.Prelude.{◌≡◌, true, List, Some, codes, option_map}
-use Rattle.clap.specs.Words.{App, Text, new_app, subcommand_of, takes, with_subcommand}
+-- The command line of `dice` in the terms of `clap`: the command, the words that it takes, and which command they ask for.
+use Rattle.std.specs.Prelude.{◌≡◌, ◌≤◌, true, ℕ, List, [], ◌∷◌, Option, Some, codes, pos, option_map, IsSomeAnd}
+use Rattle.std.specs.Str.Parse.{digits_value, without_leading_plus}
+use Rattle.clap.specs.Words.{App, IsSignedIn, Row, Rule, Text, new_app, new_rule, one_of, subcommand_of, takes, with_rule, with_subcommand, without_minus}
+use Rattle.clap.specs.declared.builder.value_parser.ValueParser.TheVariants as parser
 use Rattle.dice_words.specs.declared.words.Command.{Command}
 use Rattle.dice_words.specs.declared.words.Command.TheVariants.{Run}
 
+-- `--workers W`, a number from 0 to 64, which is 4 where it is left out
+abbrev pub workers : Rule
+workers = record (new_rule (codes "workers")) {
+  long = Some (codes "workers");
+  value_names = 1;
+  defaults = codes "4" ∷ [];
+  parser = Some (parser.Signed (pos 0) (pos 64));
+}
+
 -- `dice run`
 abbrev pub run : App
-run = new_app (codes "run")
+run = with_rule (new_app (codes "run")) workers
 
 -- `dice`, which does nothing without a subcommand, and whose only help is `--help`
 abbrev pub dice_alone : App
@@ -21,10 +32,30 @@ dice = with_subcommand dice_alone run.top
 abbrev pub IsAccepted : List Text → Type 0
 IsAccepted words = takes dice words ≡ true
 
--- the name of a command
-abbrev pub name_of : Command → Text
-name_of Run = codes "run"
+-- the number that a text of decimal digits stands for, with or without a plus before them
+abbrev pub number_of : Text → ℕ
+number_of text = digits_value 10 (without_leading_plus text)
 
--- the words name this command
+-- the number that an argument was given, or else its default
+abbrev pub number_in : Text → List Row → Option ℕ
+number_in id rows = option_map number_of (one_of id rows)
+
+-- a subcommand, by its name, and its arguments are those of this command
+abbrev pub IsOf : Command → Text × List Row → Type 0
+IsOf (Run workers) met = (met.0 ≡ codes "run") × (number_in (codes "workers") met.1 ≡ Some workers)
+
+-- the numbers of a command lie in their ranges
+abbrev pub IsWithin : Command → Type 0
+IsWithin (Run workers) = workers ≤ 64
+
+-- an argument has a number from low to high
+abbrev pub HasNumber : Text → ℕ → ℕ → List Row → Type 0
+HasNumber id low high rows = (t : Text) × (one_of id rows ≡ Some (without_minus t)) × IsSignedIn (pos low) (pos high) t
+
+-- each argument of the subcommand has what its rule wants
+abbrev pub IsComplete : Text × List Row → Type 0
+IsComplete met = (met.0 ≡ codes "run") × HasNumber (codes "workers") 0 64 met.1
+
+-- the words ask for this command
 abbrev pub Asks : List Text → Command → Type 0
-Asks words command = option_map (λ p. p.0) (subcommand_of dice words) ≡ Some (name_of command)
+Asks words command = IsSomeAnd (subcommand_of dice words) (IsOf command)
