@@ -3,12 +3,12 @@ use Rattle.std.proofs.Common.{◌⊎◌, inl, inr, ⊎_elim, ◌≡◌, ◌∙�
 use Rattle.std.proofs.lemmas.Bool.{leb-true}
 use Rattle.std.proofs.lemmas.Option.{same_Some}
 use Rattle.std.proofs.lemmas.Slice.Eq.{bytes_eq-Decides}
-use Rattle.std.specs.List.{AllByRecursion, fold, list_all}
+use Rattle.std.specs.List.{AllByRecursion, fold, list_all, list_any}
 use Rattle.std.specs.Option.{option_and_then, option_map_or}
 use Rattle.clap.specs.Lexer.{long_of, short_of}
 use Rattle.clap.specs.Values.{is_request, read_as}
 use Rattle.clap.specs.Facts.{explicit_source, unwrap_or_range}
-use Rattle.clap.specs.Walk.{Held, Names, Outcome, Row, Rule, Step, Text, Waiting, Walk, action_of, after_flag, after_step, arg_by_id, arg_by_index, arg_by_long, arg_by_short, at_row, attached_value, bundle_met, bundle_step, default_rows, done, flag_met, has_row, is_empty, is_pending, long_met, long_or_other, more_values, most_values, nothing_held, one_of, option_met, option_word, plain, plain_word, positional_held, reacted, reading_by, refused, row_text, rows_after, settled, settled_rows, short_met, short_or_plain, subcommand_met, subcommand_or_other, takes_several, takes_values, to_positional, used, used_as, used_by_id, value, values_or_missing, waits, walk, walk_from, walked, walked_from, with_default, with_values, without, word_met}
+use Rattle.clap.specs.Walk.{Held, Names, Outcome, Row, Rule, Step, Text, Waiting, Walk, action_of, after_flag, after_step, arg_by_id, arg_by_index, arg_by_long, arg_by_short, at_row, attached_value, bundle_met, bundle_step, default_rows, done, finished, flag_met, has_row, is_empty, is_pending, long_met, long_or_other, more_values, most_values, nothing_held, one_of, option_met, option_word, plain, plain_word, positional_held, reacted, reading_by, refused, row_text, rows_after, settled, settled_rows, short_met, short_or_plain, subcommand_met, subcommand_or_other, takes_several, takes_values, to_positional, used, used_as, used_by_id, value, values_or_missing, waits, walk, walk_from, walked, walked_from, with_default, with_values, without, word_met}
 use Rattle.clap.specs.Walk.{idle, option, positional, next, trailing, subcommand}
 use Rattle.clap.specs.Simple.{Shape}
 use Rattle.clap.specs.Takes.{action_passes, bundle_step_passes, default_passes, flag_word_passes, flags_pass, is_given, level_passes, long_passes, option_passes, other_passes, positional_passes, react_passes, settle_passes, short_passes, step_passes, turn_passes, use_passes, value_passes, values_pass, walk_passes, word_passes}
@@ -383,8 +383,7 @@ default_there a (b ∷ rest) rows among e =
     ⊎_elim (λ same. defaults_kept a.id rest (with_default rows b) (subst (λ x. has_row a.id (with_default rows x) ≡ true) (sym same) (default_made a rows e)))
     (λ later. default_there a rest (with_default rows b) later e) among
 
--- an argument that was given has a row
-pub given_there : (id : Text) (rows : List Row) → is_given id rows ≡ true → has_row id rows ≡ true
+given_there : (id : Text) (rows : List Row) → is_given id rows ≡ true → has_row id rows ≡ true
 given_there id [] e = cc
 given_there id (r ∷ rs) e = go (bytes_eq r.id id) (given_there id rs) e
   where
@@ -392,6 +391,34 @@ given_there id (r ∷ rs) e = go (bytes_eq r.id id) (given_there id rs) e
         → (b || has_row id rs) ≡ true
     go true f h = refl
     go false f h = f h
+
+wanted_given : (wanted given : Bool) → wanted ≡ true → (not wanted || given) ≡ true → given ≡ true
+wanted_given true given w e = e
+wanted_given false given w e = cc
+
+all_given : (rows : List Row) (a : Rule) (rules : List Rule) → Among a rules → a.required ≡ true → list_all (λ x. not x.required || is_given x.id rows) rules ≡ true → is_given a.id rows ≡ true
+all_given rows a [] among wanted e = absurd among
+all_given rows a (b ∷ rest) among wanted e =
+    let n = both (not b.required || is_given b.id rows) _ e in
+    ⊎_elim (λ same. subst (λ x. is_given x.id rows ≡ true) same (wanted_given b.required _ (ap (λ (x : Rule). x.required) same ∙ wanted) n.0)) (λ later. all_given rows a rest later wanted n.1) among
+
+never_both : (b : Bool) → (b && false) ≡ true → ⊥
+never_both true e = cc
+never_both false e = cc
+
+-- an argument that is required has a row where the level passes
+pub required_there : (s : Shape) (words : List Text) (a : Rule) → Among a s.rules → a.required ≡ true → level_passes s [] nothing_held words false ≡ true
+    → has_row a.id (rows_after s.rules [] words) ≡ true
+required_there s words a among wanted e =
+    let end = (walk s.rules [] nothing_held words).held in
+    let rows = finished s.rules end in
+    let n = both (walk_passes s [] (walk_from nothing_held) words) _ e in
+    let m = both (settle_passes s.rules s.args_override_self end) _ n.1 in
+    let d = both (list_all default_passes s.rules) _ m.1 in
+    let h = both (not s.arg_required_else_help || (false || list_any (λ r. explicit_source r.source) rows)) _ d.1 in
+    let k = both (not s.subcommand_required || false) _ h.1 in
+    let f = both (list_all (λ x. x.is_free) s.rules) _ k.1 in
+    given_there a.id rows (all_given rows a s.rules among wanted (or_last (s.subcommand_negates_reqs && false) _ (never_both s.subcommand_negates_reqs) f.1))
 
 -- the value of an argument that has a row
 pub value_there : (c : List Rule) (a : Rule) (rows : List Row) → arg_by_id c a.id ≡ Some a → AreRead c rows → has_row a.id rows ≡ true

@@ -1,10 +1,10 @@
 //! Which command the words of the command line name.
-ghost use Rattle.std.specs.Prelude.{◌≡◌, false, IfOk, IfErr, IsErrOf, IsSomeAnd, map};
-ghost use Rattle.clap.specs.Words.{app_of, kind_of, rule_of, subcommand_rows_of};
-ghost use Rattle.dice_words.specs.Accepted.{dice, workers, IsAccepted, Asks, IsComplete, IsOf, IsWithin};
+ghost use Rattle.std.specs.Prelude.{◌≡◌, false, IfOk, IfErr, IsErrOf, IsSomeAnd, codes, map};
+ghost use Rattle.clap.specs.Words.{app_of, found_of, kind_of, rows_of, rule_of, subcommand_rows_of};
+ghost use Rattle.dice_words.specs.Accepted.{dice, targets, trace, workers, IsAccepted, Asks, HasBulk, HasRun, IsComplete, IsOf, IsWithin};
 
 use clap::error::ErrorKind;
-use clap::{ArgMatches, value_parser};
+use clap::{ArgAction, ArgMatches, value_parser};
 use std::alloc::{AllocError, Global};
 use thiserror::Error;
 
@@ -13,6 +13,15 @@ use thiserror::Error;
 pub enum Command {
     /// Reads a script from standard input and runs it.
     Run {
+        /// How many workers help the driver, from 0 to 64.
+        workers: u32,
+        /// Whether the journal of the run follows the output.
+        trace: bool,
+    },
+    /// Makes a script of many requests by itself and runs it.
+    Bulk {
+        /// How many targets the script is about, from 1 to 10,000.
+        targets: u32,
         /// How many workers help the driver, from 0 to 64.
         workers: u32,
     },
@@ -67,32 +76,81 @@ fn workers_option<'a>(alloc: Global) -> clap::Arg<'a>
         .help("How many workers help the driver, from 0 to 64")
 }
 
+// `--trace`: a flag.
+fn trace_flag<'a>(alloc: Global) -> clap::Arg<'a>
+    ensures rule { rule_of result ≡ trace }
+    ensures local { result.global ≡ false }
+{
+    clap::Arg::new(alloc, "trace")
+        .long("trace")
+        .action(ArgAction::SetTrue)
+        .help("Writes the journal of the run behind the output")
+}
+
+// `N`: a number from 1 to 10,000, which must be given.
+fn targets_argument<'a>(alloc: Global) -> clap::Arg<'a>
+    ensures rule { rule_of result ≡ targets }
+    ensures local { result.global ≡ false }
+{
+    clap::Arg::new(alloc, "targets")
+        .value_name("N")
+        .value_parser(value_parser!(u32).range(1..=10_000))
+        .required(true)
+        .help("How many targets the script is about, from 1 to 10000")
+}
+
 // The command line of the program: `dice`, of which a subcommand is required.
 fn command_line<'a>(alloc: Global) -> Result<clap::Command<'a>, AllocError>
     ensures { IfOk result (λ c. app_of c ≡ dice) }
 {
     let run = clap::Command::new(alloc, "run")
         .about("Reads a script from standard input and writes what it asks for")
+        .arg(workers_option(alloc))?
+        .arg(trace_flag(alloc))?;
+    let bulk = clap::Command::new(alloc, "bulk")
+        .about("Makes a script of many requests, runs it and writes a summary")
+        .arg(targets_argument(alloc))?
         .arg(workers_option(alloc))?;
     clap::Command::new(alloc, "dice")
         .about("Builds targets incrementally")
         .subcommand_required(true)
         .disable_help_subcommand(true)
-        .subcommand(run)
+        .subcommand(run)?
+        .subcommand(bulk)
+}
+
+// `dice run` by its matches.
+fn run_of(matches: &ArgMatches) -> Option<Command>
+    ensures { HasRun (rows_of (found_of matches.now)) → IsSomeAnd result (λ c. IsOf c (codes "run", rows_of (found_of matches.now)) × IsWithin c) }
+{
+    let workers = matches.get_one::<u32>("workers")?;
+    let trace = matches.get_flag("trace");
+    Some(Command::Run { workers, trace })
+}
+
+// `dice bulk` by its matches.
+fn bulk_of(matches: &ArgMatches) -> Option<Command>
+    ensures { HasBulk (rows_of (found_of matches.now)) → IsSomeAnd result (λ c. IsOf c (codes "bulk", rows_of (found_of matches.now)) × IsWithin c) }
+{
+    let targets = matches.get_one::<u32>("targets")?;
+    let workers = matches.get_one::<u32>("workers")?;
+    Some(Command::Bulk { targets, workers })
 }
 
 // What the matches ask for, where each argument has what its rule wants.
 fn asked(matches: &ArgMatches) -> Option<Command>
     ensures { IsSomeAnd (subcommand_rows_of matches.now) IsComplete → IsSomeAnd result (λ c. IsSomeAnd (subcommand_rows_of matches.now) (IsOf c) × IsWithin c) }
 {
-    let run = matches.subcommand_matches("run")?;
-    let workers = run.get_one::<u32>("workers")?;
-    Some(Command::Run { workers })
+    match matches.subcommand_matches("run") {
+        Some(run) => run_of(run),
+        None => bulk_of(matches.subcommand_matches("bulk")?),
+    }
 }
 
 /// Reads the words, of which the first is the program's name.
 ///
-/// `Refused` comes exactly where `clap` refuses the words for another cause than memory.
+/// `Refused` comes exactly where `clap` refuses the words for another cause than memory. A number is what `clap` takes for one:
+/// a plus or zeros may stand before its digits.
 pub fn read_words(alloc: Global, words: &[&str]) -> Result<Command, WordsFail>
     ensures accepted { IfOk result (λ c. IsAccepted (map (λ w. w.now) words.now)) }
     ensures named { IfOk result (λ c. Asks (map (λ w. w.now) words.now) c) }
