@@ -75,7 +75,7 @@ pub script_put : (n : ℕ) (a b c d e f : List ℕ) → a ≡ [] → b ≡ a ++ 
     e ≡ d ++ spelled (Put (codes "src/s0") (codes "x")) → f ≡ e ++ text_of (round_in (codes "b") n) → f ≡ bulk n
 script_put n a b c d e f g h i j k l =
     l ∙ ap (λ (o : List ℕ). o ++ text_of (round_in (codes "b") n))
-        (k ∙ ap (λ (o : List ℕ). o ++ spelled (Put (codes "src/s0") (codes "x")))
-            (j ∙ ap (λ (o : List ℕ). o ++ text_of (round_in (codes "a") n))
-                (i ∙ ap (λ (o : List ℕ). o ++ text_of (package_puts n)) (h ∙ ap (λ (o : List ℕ). o ++ text_of source_puts) g))))
+    (k ∙ ap (λ (o : List ℕ). o ++ spelled (Put (codes "src/s0") (codes "x")))
+    (j ∙ ap (λ (o : List ℕ). o ++ text_of (round_in (codes "a") n))
+    (i ∙ ap (λ (o : List ℕ). o ++ text_of (package_puts n)) (h ∙ ap (λ (o : List ℕ). o ++ text_of source_puts) g))))
     ∙ bulk_put n

@@ -4,6 +4,7 @@ ghost use Rattle.script.specs.declared.line.Line.TheVariants.{Put, Commit, Open}
 ghost use Rattle.bulk_script.specs.Spelled.{spelled};
 ghost use Rattle.bulk_script.specs.Bulk.{label_of, ask_in};
 
+use crate::rules::PACKAGE;
 use dice_key::NoMemory;
 use itoa::Buffer;
 
@@ -29,7 +30,7 @@ pub(crate) fn label(out: &mut Vec<u8>, target: u64) -> Result<(), NoMemory>
     ensures { OnOk result (out.new.items ≡ out.old.items ++ label_of target) }
 {
     bytes(out, b"//p")?;
-    number(out, target / 100)?;
+    number(out, target / PACKAGE as u64)?;
     bytes(out, b":t")?;
     number(out, target)
 }

@@ -32,7 +32,12 @@ fn put_sources(alloc: Global, script: &mut Vec<u8>) -> Result<(), NoMemory>
     Ok(())
 }
 
-fn put_package(alloc: Global, script: &mut Vec<u8>, targets: u32, index: u32) -> Result<(), NoMemory>
+fn put_package(
+    alloc: Global,
+    script: &mut Vec<u8>,
+    targets: u32,
+    index: u32,
+) -> Result<(), NoMemory>
     ensures { OnOk result (script.new.items ≡ script.old.items ++ spelled (package_put targets index)) }
 {
     let mut path = Vec::from_slice(alloc, b"p")?;

@@ -3,6 +3,11 @@
 
 mod append;
 mod bulk;
+mod laws;
 mod rules;
 
 pub use bulk::{bulk_script, request_count};
+pub use laws::{bulk_is_script, requests_are_counted};
+
+#[cfg(test)]
+mod tests;

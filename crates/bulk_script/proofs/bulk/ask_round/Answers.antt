@@ -28,5 +28,5 @@ returns c =
     let t = c.args.transaction.now in
     let s : c.loop-target.target ≡ c.args.targets = omega arith in
     round_put t c.loop-target.script.items c.args.script.now.items c.args.targets
-        (c.loop-target.invariant ∙ ap (λ (n : ℕ). c.commit_and_open.new.out.items ++ text_of (map (ask_in t) (asked_of n))) s
-        ∙ ap (λ (o : List ℕ). o ++ text_of (map (ask_in t) (asked_of c.args.targets))) c.in_ok-commit_and_open.ensures)
+    (c.loop-target.invariant ∙ ap (λ (n : ℕ). c.commit_and_open.new.out.items ++ text_of (map (ask_in t) (asked_of n))) s
+    ∙ ap (λ (o : List ℕ). o ++ text_of (map (ask_in t) (asked_of c.args.targets))) c.in_ok-commit_and_open.ensures)

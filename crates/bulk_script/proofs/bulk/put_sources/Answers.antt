@@ -18,7 +18,7 @@ returns c =
     let s : c.loop-source.source ≡ 16 = omega arith in
     let d : c.deref.result.now ≡ c.in_ok-rules.rules.items = search rules in
     let p : c.put.new.out.items ≡ c.args.script.now.items ++ spelled (Put (codes "src/BUCK") c.in_ok-rules.rules.items) =
-        c.in_ok-put.ensures ∙ ap (λ (r : List ℕ). c.args.script.now.items ++ spelled (Put (codes "src/BUCK") r)) d in
+    c.in_ok-put.ensures ∙ ap (λ (r : List ℕ). c.args.script.now.items ++ spelled (Put (codes "src/BUCK") r)) d in
     sources_put c.args.script.now.items c.loop-source.script.items c.in_ok-rules.rules.items c.in_ok-rules.ensures
-        (c.loop-source.invariant ∙ ap (λ (n : ℕ). c.put.new.out.items ++ text_of (map source_put (numbers_below n))) s
-        ∙ ap (λ (o : List ℕ). o ++ text_of (map source_put (numbers_below 16))) p)
+    (c.loop-source.invariant ∙ ap (λ (n : ℕ). c.put.new.out.items ++ text_of (map source_put (numbers_below n))) s
+    ∙ ap (λ (o : List ℕ). o ++ text_of (map source_put (numbers_below 16))) p)
