@@ -1,17 +1,16 @@
 -- Many lines are read as themselves, where their numbers ascend.
-use Rattle.std.proofs.Common.{◌≡◌, ◌≢◌, ◌⊎◌, ◌∙◌, ◌<◌, ◌≤◌, sym, ap, refl, subst, inl, inr, ℕ, zero, suc, ◌+◌, Bool, true, false, cond, if◌then◌else◌, List, [], ◌∷◌, ◌++◌, length, map, filter, Option, Some, None, arith}
+use Rattle.std.proofs.Common.{◌≡◌, ◌∙◌, ◌<◌, ◌≤◌, sym, ap, refl, subst, inl, inr, ℕ, zero, suc, ◌+◌, Bool, true, false, cond, if◌then◌else◌, List, [], ◌∷◌, ◌++◌, length, map, filter, Option, Some, None, arith}
 use Rattle.std.specs.Prelude.{decimal}
 use Rattle.std.specs.List.{range_with_len}
 use Rattle.std.specs.Str.{bytes_eq}
 use Rattle.std.proofs.lemmas.Slice.Eq.{bytes_eq-Decides}
 use Rattle.script.specs.declared.line.Line.{Line}
-use Rattle.script.specs.declared.line.Line.TheVariants.{Put, Commit, Open, Ask}
+use Rattle.script.specs.declared.line.Line.TheVariants.{Put}
 use Rattle.script.specs.declared.requests.Asked.{Asked}
-use Rattle.script.specs.Lines.{is_name_byte, IsName}
+use Rattle.script.specs.Lines.{is_name_byte}
 use Rattle.script.specs.Past.{Past, after, after_all, adding, with_entry, made_in}
 use Rattle.buck_label.specs.Paths.{IsPath}
-use Rattle.bulk_script.specs.Spelled.{text_of}
-use Rattle.bulk_script.specs.Bulk.{numbers_below, targets_in, asked_of, label_of, ask_in}
+use Rattle.bulk_script.specs.Bulk.{numbers_below, targets_in, asked_of, ask_in}
 use Rattle.bulk_script.proofs.Words.{bool_cases}
 use Rattle.bulk_script.proofs.Decimals.{decimals_differ, numbered_name, letter_name}
 use Rattle.bulk_script.proofs.Lines.{IsRead, put_read, ask_read}

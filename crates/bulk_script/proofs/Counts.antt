@@ -1,12 +1,12 @@
 -- The plan of the script has as many requests as its lines ask.
-use Rattle.std.proofs.Common.{◌≡◌, ◌∙◌, ap, refl, ℕ, suc, ◌+◌, ◌-◌, ◌*◌, ◌/◌, codes, List, [], ◌∷◌, ◌++◌, length, map, flat_map, arith}
+use Rattle.std.proofs.Common.{◌≡◌, refl, ℕ, ◌+◌, ◌-◌, ◌/◌, codes, List, [], ◌∷◌, ◌++◌, length, map, flat_map, arith}
 use Rattle.std.specs.Prelude.{decimal}
 use Rattle.std.proofs.lemmas.List.{length_push}
 use Rattle.script.specs.declared.line.Line.{Line}
 use Rattle.script.specs.declared.line.Line.TheVariants.{Put, Drop, Commit, Open, Ask, Action, Wait, Cancel, Close}
 use Rattle.script.specs.Past.{is_cancelled}
 use Rattle.script.specs.Plan.{Ends, Plan, Digest, Text, wanted, planned, plan_from, plan_of, no_plan}
-use Rattle.bulk_script.specs.Bulk.{numbers_below, targets_in, asked_of, export_line, target_line, source_path, source_put, source_puts, package_path, package_put, package_puts, ask_in, round_in, bulk_lines, requests}
+use Rattle.bulk_script.specs.Bulk.{numbers_below, targets_in, asked_of, target_line, source_path, source_puts, package_path, package_puts, ask_in, round_in, bulk_lines, requests}
 use Rattle.bulk_script.proofs.Blocks.{put_at}
 
 abbrev asks_of : Line → ℕ

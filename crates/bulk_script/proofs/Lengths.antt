@@ -1,15 +1,14 @@
 -- How long the script is.
-use Rattle.std.proofs.Common.{◌≡◌, ◌≢◌, ◌⊎◌, ◌∙◌, ◌<◌, ◌≤◌, sym, ap, refl, subst, inl, inr, ℕ, zero, suc, ◌+◌, ◌-◌, ◌*◌, ◌/◌, ◌%◌, ◌^◌, ◌==◌, min, Bool, true, false, cond, codes, List, [], ◌∷◌, ◌++◌, length, map, filter, flat_map, length-append, arith}
+use Rattle.std.proofs.Common.{◌≡◌, ◌∙◌, ◌<◌, ◌≤◌, ap, refl, inl, inr, ℕ, zero, suc, ◌+◌, ◌-◌, ◌*◌, ◌/◌, ◌%◌, ◌==◌, min, Bool, true, false, cond, codes, List, [], ◌∷◌, ◌++◌, length, map, flat_map, length-append, arith}
 use Rattle.std.specs.Prelude.{decimal}
 use Rattle.std.proofs.lemmas.List.{length_push}
 use Rattle.std.proofs.lemmas.Bool.{cases_lt}
 use Rattle.std.proofs.lemmas.List.FromFn.{length-range_with_len}
 use Rattle.std.proofs.lemmas.Fmt.{length-decimal-le}
 use Rattle.script.specs.declared.line.Line.{Line}
-use Rattle.script.specs.declared.line.Line.TheVariants.{Put, Commit, Open, Ask}
+use Rattle.script.specs.declared.line.Line.TheVariants.{Put}
 use Rattle.bulk_script.specs.Spelled.{spelled, text_of}
-use Rattle.bulk_script.specs.Bulk.{numbers_below, targets_in, asked_of, name_of, label_of, export_line, first_line, group_line, target_line, source_path, source_put, package_path, package_put, ask_in}
-use Rattle.bulk_script.proofs.Words.{bool_cases}
+use Rattle.bulk_script.specs.Bulk.{numbers_below, targets_in, label_of, export_line, first_line, group_line, target_line, ask_in}
 use Rattle.bulk_script.proofs.Numbers.{targets_none, targets_more, targets_past}
 use Rattle.bulk_script.proofs.Decimals.{few_digits}
 use Rattle.bulk_script.proofs.Blocks.{Ascends}

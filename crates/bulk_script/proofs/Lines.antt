@@ -1,18 +1,17 @@
 -- A spelled line is read as it.
-use Rattle.std.proofs.Common.{◌≡◌, ◌≢◌, ◌⊎◌, ◌∙◌, ◌<◌, ◌≤◌, sym, ap, refl, subst, inl, inr, ℕ, suc, ◌+◌, ◌^◌, Bool, true, false, List, [], ◌∷◌, ◌++◌, length, take, drop, codes, Option, Some, None, length-append, append_assoc, arith}
+use Rattle.std.proofs.Common.{◌≡◌, ◌∙◌, ◌<◌, ◌≤◌, sym, ap, refl, subst, inr, ℕ, ◌+◌, ◌^◌, true, false, List, [], ◌∷◌, ◌++◌, length, take, drop, codes, Some, None, length-append, append_assoc, arith}
 use Rattle.std.specs.Prelude.{decimal}
 use Rattle.std.proofs.lemmas.List.{take_at, drop_at}
 use Rattle.script.specs.declared.line.Line.{Line}
 use Rattle.script.specs.declared.line.Line.TheVariants.{Put, Commit, Open, Ask}
-use Rattle.script.specs.Lines.{IsDecimal, IsName, words, line_of, behind_line}
+use Rattle.script.specs.Lines.{IsDecimal, IsName, words}
 use Rattle.script.specs.Past.{Past, after}
 use Rattle.script.specs.Faults.{Form, puts, commits, opens, asks, form_of, AllHold, tests, IsSmallNumber, IsFollowed, IsEnough}
 use Rattle.script.specs.Scripts.{IsSkipped, Makes, put_line, commit_line, open_line, ask_line, IsFrom, ended, told}
 use Rattle.buck_label.specs.Paths.{IsPath}
-use Rattle.buck_label.specs.Labels.{Name, printed}
 use Rattle.bulk_script.specs.Spelled.{spaced, spelled, text_of}
-use Rattle.bulk_script.specs.Bulk.{name_of, label_of, ask_in}
-use Rattle.bulk_script.proofs.Words.{IsSolid, AreSolid, in_line, words_of_line, line_of_spaced, behind_spaced}
+use Rattle.bulk_script.specs.Bulk.{name_of, label_of}
+use Rattle.bulk_script.proofs.Words.{AreSolid, in_line, words_of_line, line_of_spaced, behind_spaced}
 use Rattle.bulk_script.proofs.Decimals.{decimal_is, decimal_solid, name_solid}
 use Rattle.bulk_script.proofs.PathTexts.{path_solid, label_solid, home_is_path, target_is_path, label_is}
 

@@ -1,12 +1,12 @@
 -- The paths and labels of the script are paths and labels.
-use Rattle.std.proofs.Common.{◌≡◌, ◌≢◌, ◌⊎◌, ◌∙◌, ◌<◌, ◌≤◌, sym, ap, refl, subst, inl, inr, ℕ, suc, ◌+◌, ◌/◌, Bool, true, false, nat_eq, List, [], ◌∷◌, ◌++◌, length, codes, length-append, append_assoc, arith}
+use Rattle.std.proofs.Common.{◌≡◌, ◌≤◌, sym, refl, subst, inl, inr, ℕ, ◌/◌, true, false, nat_eq, List, [], ◌∷◌, ◌++◌, length, codes, length-append, arith}
 use Rattle.std.specs.Prelude.{decimal}
 use Rattle.std.specs.List.{AllByRecursion}
 use Rattle.std.proofs.lemmas.List.{append_cancel_left, append_cancel_right}
 use Rattle.buck_label.specs.Paths.{is_segment_byte, IsSegmentByte, IsSegment, joined, IsPathText, IsPath}
-use Rattle.buck_label.specs.Labels.{Name, IsPackage, IsName as IsTarget, IsLong, IsLabel, printed}
+use Rattle.buck_label.specs.Labels.{IsName as IsTarget, IsLong, IsLabel, printed}
 use Rattle.bulk_script.specs.Bulk.{name_of, source_path, package_path}
-use Rattle.bulk_script.proofs.Words.{IsSolid, solid_byte, solid_all, all_append}
+use Rattle.bulk_script.proofs.Words.{IsSolid, solid_all, all_append}
 use Rattle.bulk_script.proofs.Decimals.{few_digits, decimal_segment, decimals_differ}
 
 off : (c : ℕ) → nat_eq c 46 ≡ false → c ≡ 46 → ⊥

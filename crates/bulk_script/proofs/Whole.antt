@@ -1,12 +1,11 @@
 -- The whole text is a script.
-use Rattle.std.proofs.Common.{◌≡◌, ◌≢◌, ◌∙◌, ◌<◌, ◌≤◌, sym, ap, refl, subst, ℕ, suc, ◌+◌, ◌-◌, ◌*◌, ◌/◌, min, Bool, true, false, nat_eq, eq-eqb, if◌then◌else◌, codes, List, [], ◌∷◌, ◌++◌, length, map, flat_map, Option, Some, None, append_assoc, append-nil, length-append, arith}
+use Rattle.std.proofs.Common.{◌≡◌, ◌∙◌, ◌<◌, ◌≤◌, sym, ap, refl, subst, ℕ, ◌+◌, ◌-◌, ◌*◌, ◌/◌, Bool, true, false, nat_eq, eq-eqb, if◌then◌else◌, codes, List, [], ◌∷◌, ◌++◌, length, map, flat_map, Option, Some, None, append_assoc, append-nil, length-append, arith}
 use Rattle.std.specs.Prelude.{decimal}
-use Rattle.std.specs.Str.{bytes_eq}
 use Rattle.std.proofs.lemmas.Slice.Eq.{bytes_eq-Decides}
 use Rattle.script.specs.declared.line.Line.{Line}
-use Rattle.script.specs.declared.line.Line.TheVariants.{Put, Commit, Open, Ask}
+use Rattle.script.specs.declared.line.Line.TheVariants.{Put, Commit, Open}
 use Rattle.script.specs.Lines.{is_name_byte}
-use Rattle.script.specs.Past.{Past, nothing, no_texts, after, after_all, with_entry}
+use Rattle.script.specs.Past.{Past, nothing, no_texts, after, after_all}
 use Rattle.script.specs.Scripts.{IsFrom, IsScript}
 use Rattle.bulk_script.specs.Spelled.{spelled, text_of}
 use Rattle.bulk_script.specs.Bulk.{numbers_below, targets_in, asked_of, export_line, target_line, source_path, source_put, source_puts, package_path, package_put, package_puts, ask_in, round_in, bulk, bulk_lines}

@@ -1,4 +1,4 @@
-use Rattle.std.proofs.Common.{◌≡◌, ◌∙◌, ◌++◌, ◌+◌, ap, map, List, ℕ, arith, rules}
+use Rattle.std.proofs.Common.{◌≡◌, ◌∙◌, ◌++◌, ap, map, List, ℕ, arith, rules}
 use Rattle.bulk_script.specs.Spelled.{spelled, text_of}
 use Rattle.bulk_script.specs.Bulk.{ask_in, asked_of}
 use Rattle.bulk_script.proofs.Numbers.{asks_none, asks_yes, asks_no}

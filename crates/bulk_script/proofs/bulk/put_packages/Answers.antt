@@ -1,4 +1,4 @@
-use Rattle.std.proofs.Common.{◌≡◌, ◌∙◌, ◌++◌, ◌+◌, ◌-◌, ◌/◌, ap, map, List, ℕ, arith, rules}
+use Rattle.std.proofs.Common.{◌≡◌, ◌∙◌, ◌++◌, ◌+◌, ◌-◌, ◌/◌, ap, map, ℕ, arith}
 use Rattle.bulk_script.specs.Spelled.{text_of}
 use Rattle.bulk_script.specs.Bulk.{package_put, numbers_below}
 use Rattle.bulk_script.proofs.Numbers.{lines_none, lines_more}
