@@ -1,0 +1,10 @@
+pub mod Numbers
+pub mod Parts
+pub mod Words
+pub mod Decimals
+pub mod PathTexts
+pub mod Lines
+pub mod Blocks
+pub mod Lengths
+pub mod Whole
+pub mod Counts
