@@ -10,6 +10,9 @@ use Rattle.dice_core.specs.Commits.{Fault, NotInjected, Twice, fault_of, IsFirst
 use Rattle.dice_core.specs.declared.commit.CommitRefusal.{CommitRefusal}
 use Rattle.dice_core.specs.declared.commit.CommitRefusal.TheVariants as refusal
 use Rattle.dice_run.specs.Commits.{AreDistinctSources}
+use Rattle.dice_key.specs.declared.universe.NoMemory.{NoMemory}
+use Rattle.dice_engine.specs.declared.promise.Transaction.{Transaction}
+use Rattle.dice_run.specs.Driving.{Pledge}
 use Rattle.dice_model.specs.Eval.{HasValue}
 use Rattle.journal.specs.declared.event.Told.{Told}
 use Rattle.journal.specs.declared.event.Told.TheVariants.{Open, Close, Ask, Leave}
@@ -125,6 +128,20 @@ turn_leaves id s u ask opened v k o h n t =
     when_open : (b : Bool) (A B : Type 0) → b ≡ true → cond b A B → A
     when_open true A B e x = x
     when_open false A B e x = (let z : false ≡ true = e in cc)
+
+-- a turn that adds nothing
+pub turn_rests : (id : TableId) (s u : Place) → IsOurs id s → IsTurn s u (λ found. AddsNothing) → Goes id s u []
+turn_rests id s u o t = turn_goes id s u o _ t [] t.adds.did.0
+
+pub opens_if : (id : TableId) (s u : Place) → IsOurs id s → (r : Result Transaction NoMemory) → IfOk r (λ t. IsTurn s u (λ found own work. OpensIn s.number found own work × (t.version ≡ newest_in found) × (t.opened ≡ length found)))
+    → IfOk r (λ t. HasOpen u t.opened t.version) → IfOk r (λ t. Opens id s u t.opened t.version)
+opens_if id s u o (Ok t) p h = turn_opens id s u t.opened t.version o h p
+opens_if id s u o (Err e) p h = tt
+
+pub asks_if : (id : TableId) (s u : Place) (i v : ℕ) (k : Key) → IsOurs id s → (r : Result Pledge NoMemory) → IfOk r (λ p. IsTurn s u (λ found own work. AsksIn s.number i v k own work × (p.ask ≡ length found)))
+    → IfOk r (λ p. (p.version ≡ v) × (p.opened ≡ i) × (arc_value p.key ≡ k)) → IfOk r (λ p. HasAsk u p.ask p.opened p.version (arc_value p.key)) → IfOk r (λ p. Asks id s u p.ask p.opened p.version (arc_value p.key))
+asks_if id s u i v k o (Ok p) t n h = turn_asks id s u p.ask p.opened p.version k (arc_value p.key) o h i v n.1 n.2 t
+asks_if id s u i v k o (Err e) t n h = tt
 
 pub later_goes : (id : TableId) (s u : Place) → IsOurs id s → Later key_equal buck s u → u.mine ≡ s.mine → Goes id s u []
 later_goes id s u o l e = record { ours = later_ours id s u o l; later = l; mine = e ∙ sym (append-nil s.mine) }

@@ -13,13 +13,9 @@ pub record IsKeptWith (ls : List Line) (k : Option Kept) : Type 0 where
   pub ours : IsOurs kept.engine kept.seat
   pub journal : IsJournalOf ls kept.seat.seen
 
--- of the script that this input is
-pub record IsKeptOf (input : List ℕ) (k : Option Kept) : Type 0 where
+-- and these are the lines of some script
+pub record Keeps (k : Option Kept) : Type 0 where
+  pub input : List ℕ
   pub lines : List Line
   pub script : IsScript input lines
   pub left : IsKeptWith lines k
-
--- of some script
-pub record Keeps (k : Option Kept) : Type 0 where
-  pub input : List ℕ
-  pub left : IsKeptOf input k

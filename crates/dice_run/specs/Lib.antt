@@ -9,3 +9,4 @@ pub mod Printing
 pub mod Events
 pub mod Recording
 pub mod Keeping
+pub mod Tracing

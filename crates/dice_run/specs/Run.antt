@@ -1,10 +1,18 @@
 -- What a run promises.
-use Rattle.std.specs.Prelude.{◌⊎◌, ◌<◌, ℕ, List, ◌++◌, codes, decimal, length}
+use Rattle.std.specs.Prelude.{◌≡◌, ◌⊎◌, ◌<◌, ℕ, Bool, true, false, List, [], ◌++◌, codes, decimal, length, Option, Some}
 use Rattle.script.specs.declared.line.Line.{Line}
 use Rattle.script.specs.declared.fault.Word.{Word}
 use Rattle.script.specs.Words.{text_of}
 use Rattle.script.specs.Scripts.{IsScript, IsFirstFault}
-use Rattle.dice_run.specs.Output.{line, IsOutput}
+use Rattle.dice_io.specs.Streams.{Unread}
+use Rattle.dice_words.specs.declared.words.Command.{Command}
+use Rattle.dice_words.specs.declared.words.Command.TheVariants.{Run, Bulk}
+use Rattle.bulk_script.specs.Bulk.{bulk, requests}
+use Rattle.hex.specs.Hex.{encode_lower}
+use Rattle.dice_run.specs.Output.{line}
+use Rattle.dice_run.specs.Tracing.{IsPrintout}
+use Rattle.dice_run.specs.Keeping.{IsKeptWith, Keeps}
+use Rattle.dice_run.specs.declared.kept.Kept.{Kept}
 use Rattle.dice_run.specs.declared.status.Status.{Status}
 use Rattle.dice_run.specs.declared.status.Status.TheVariants.{Done, WordsRefused, ReadFailed, WriteFailed, ScriptRefused, NoMemory}
 
@@ -16,11 +24,13 @@ code_of WriteFailed = 4
 code_of ScriptRefused = 5
 code_of NoMemory = 6
 
--- the input is a script, and the output stands for it
-pub record Answers (input out : List ℕ) : Type 0 where
+-- the input is a script; what is left is an engine with the driver's seat, whose seen journal is one of the script; and what is written
+-- is the script's output, with the trace of that journal behind it where it is asked for
+pub record Answers (trace : Bool) (input out : List ℕ) (k : Option Kept) : Type 0 where
   pub lines : List Line
   pub script : IsScript input lines
-  pub output : IsOutput lines out
+  pub left : IsKeptWith lines k
+  pub output : IsPrintout trace lines left.kept.seat.seen out
 
 -- the input is too long, or not in the grammar of scripts, and the output names the first fault
 pub data Refuses (input : List ℕ) : List ℕ → Type 0 where
@@ -28,5 +38,26 @@ pub data Refuses (input : List ℕ) : List ℕ → Type 0 where
   faulty : (n : ℕ) (w : Word) → IsFirstFault input n w → Refuses input (line (codes "line " ++ decimal n ++ codes ": " ++ text_of w))
 
 -- what is written for an input whose reading did not fail
-abbrev pub IsWritten : List ℕ → List ℕ → Type 0
-IsWritten input out = Answers input out ⊎ Refuses input out
+abbrev pub IsWritten : Bool → List ℕ → List ℕ → Type 0
+IsWritten trace input out = ((k : Option Kept) × Answers trace input out k) ⊎ Refuses input out
+
+-- the one line that the bulk script of n targets is summed up by, where its output is this text
+abbrev pub summary : ℕ → List ℕ → List ℕ
+summary n text = line (codes "bulk " ++ decimal n ++ codes " requests " ++ decimal (requests n) ++ codes " output " ++ decimal (length text)
+    ++ codes " digest " ++ encode_lower (sha256 text))
+
+-- what is written is the summary of an output of the bulk script of n targets, and what is left is an engine that ran it
+pub record Sums (n : ℕ) (out : List ℕ) (k : Option Kept) : Type 0 where
+  pub text : List ℕ
+  pub answers : Answers false (bulk n) text k
+  pub is : out ≡ summary n text
+
+-- what a command writes and leaves; of a source that tells its bytes these are the input of `run`, and `bulk` reads nothing
+abbrev pub Does : Command → Option (List ℕ) → Option (List ℕ) → (List ℕ → Type 0) → Option Kept → Type 0
+Does (Run workers trace) left after P k = Keeps k × ((input : List ℕ) → left ≡ Some input → (out : List ℕ) × Answers trace input out k × P out × (after ≡ Some []))
+Does (Bulk targets workers) left after P k = Unread left after × ((out : List ℕ) × Sums targets out k × P out)
+
+-- what a command begins to write
+abbrev pub Begins : Command → Option (List ℕ) → (List ℕ → Type 0) → Type 0
+Begins (Run workers trace) left P = (input : List ℕ) → left ≡ Some input → (out : List ℕ) × IsWritten trace input out × P out
+Begins (Bulk targets workers) left P = (out : List ℕ) × (k : Option Kept) × Sums targets out k × P out

@@ -10,7 +10,7 @@ use Rattle.journal.specs.Law.{IsLawfulJournal}
 use Rattle.journal.specs.Tell.{event_by}
 use Rattle.core_laws.specs.Stands.{CycleStands}
 use Rattle.dice_core.specs.Commits.{event_of}
-use Rattle.turnstile.specs.Events.{events_by, AllBelow}
+use Rattle.turnstile.specs.Events.{StartsWith, events_by, AllBelow}
 use Rattle.turnstile.specs.Seats.{SeatView, IsSeatOf}
 use Rattle.dice_engine.specs.Turns.{log_of, Later}
 use Rattle.dice_engine.specs.Calls.{differing_from}
@@ -43,6 +43,10 @@ pub record Goes (id : TableId) (s u : Place) (own : List (Told Key Value)) : Typ
   pub ours : IsOurs id u
   pub later : Later key_equal buck s u
   pub mine : u.mine ≡ s.mine ++ own
+
+-- after turns of its own that added nothing
+abbrev pub Rests : TableId → Place → Place → Type 0
+Rests id s u = IsOurs id u × StartsWith u.seen s.seen × (u.mine ≡ s.mine)
 
 -- the pairs that differ were committed
 abbrev pub Commits : TableId → Place → Place → List (Key × Value) → Type 0

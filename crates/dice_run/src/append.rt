@@ -1,7 +1,8 @@
 //! Texts that are appended to the output.
-ghost use Rattle.std.specs.Prelude.{◌≡◌, ◌++◌, OnOk, decimal};
+ghost use Rattle.std.specs.Prelude.{◌≡◌, ◌++◌, OnOk, decimal, flat_map};
+ghost use Rattle.dice_run.specs.Output.{line};
 
-use dice_key::NoMemory;
+use dice_key::{Line, NoMemory};
 use itoa::Buffer;
 
 /// Appends bytes.
@@ -18,5 +19,16 @@ pub(crate) fn number(out: &mut Vec<u8>, n: u64) -> Result<(), NoMemory>
 {
     let mut buffer = Buffer::new();
     out.extend_from_slice(buffer.format(n).as_bytes())?;
+    Ok(())
+}
+
+/// Appends lines, each with its line feed.
+pub(crate) fn lines(out: &mut Vec<u8>, lines: &[Line]) -> Result<(), NoMemory>
+    ensures { OnOk result (out.new.items ≡ out.old.items ++ flat_map line lines.now) }
+{
+    for line in lines {
+        bytes(out, line.as_bytes())?;
+        bytes(out, b"\n")?;
+    }
     Ok(())
 }

@@ -4,6 +4,7 @@ ghost use Rattle.std.specs.Arc.{arc_value};
 ghost use Rattle.journal.specs.declared.event.Told.TheVariants.{Close, Leave};
 ghost use Rattle.journal.specs.Events.{NotClosed};
 ghost use Rattle.dice_engine.specs.Conditions.{HasOpen, HasAsk};
+ghost use Rattle.dice_engine.specs.Lines.{AreLines};
 ghost use Rattle.dice_key.specs.declared.universe.Kind.TheVariants.{Injected};
 ghost use Rattle.action_digest.specs.Buck.{buck};
 ghost use Rattle.dice_run.specs.Commits.{AreDistinctSources};
@@ -15,7 +16,8 @@ use dice_engine::{
     CommitRefusal, Engine, Gate, Promise, Seat, Settled, Transaction, Updater, conditions_stay,
     one_writer_knows_all, own_asks_are_live, turns_go_on,
 };
-use dice_key::{NoMemory, Path};
+use dice_key::{Line, NoMemory, Path};
+use std::alloc::Global;
 use std::sync::{Arc, Wait};
 
 /// The worker that the driver is.
@@ -105,6 +107,20 @@ pub(crate) fn wait<R: Wait, G: Gate>(
         Settled::Cycle(path) => Ok(Came::Cycle(path)),
         Settled::Gone => unreachable!(),
     }
+}
+
+/// The lines of the journal, one an event, in order.
+pub(crate) fn log<R: Wait>(
+    rt: &R,
+    alloc: Global,
+    engine: &Engine<Buck>,
+    seat: &mut Seat<Buck>,
+) -> Result<Vec<Line>, NoMemory>
+    requires { IsOurs engine.now seat.old }
+    ensures goes { Goes engine.now seat.old seat.new [] }
+    ensures lines { IfOk result (λ ls. AreLines buck seat.new.seen ls.items) }
+{
+    engine.log(rt, alloc, seat)
 }
 
 /// Leaves an ask, whose transaction is open.

@@ -1,13 +1,15 @@
 //! Whole scripts, driven on an engine.
-ghost use Rattle.std.specs.Prelude.{◌≡◌, ◌∷◌, List, [], OnOk, IfOk};
-ghost use Rattle.dice_run.specs.Output.{IsOutput};
+ghost use Rattle.std.specs.Prelude.{◌≡◌, ◌∷◌, ◌++◌, ℕ, List, [], OnOk, IfOk};
+ghost use Rattle.dice_run.specs.Tracing.{IsTraceOf, IsPrintout};
 ghost use Rattle.dice_run.specs.Events.{IsJournalOf};
-ghost use Rattle.dice_run.specs.Seats.{IsOurs};
+ghost use Rattle.dice_run.specs.Seats.{IsOurs, Rests};
 ghost use Rattle.dice_run.specs.Driving.{Starts, HasIfHeld};
 ghost use Rattle.script.specs.declared.line.Line.{Line};
 ghost use Rattle.dice_run.specs.Driven.{Carried, Settled, Closing, ClosesOpen, Waiting, MaySettle, SettlesOne};
 ghost use Rattle.dice_run.specs.Printing.{IsDone};
 
+use crate::append;
+use crate::client;
 use crate::driver::Driver;
 use crate::printer::print;
 use action_digest::Buck;
@@ -25,12 +27,13 @@ pub(crate) fn drive_alone<R: Wait, G: Gate>(
     engine: &Engine<Buck>,
     seat: Seat<Buck>,
     script: &Script,
+    trace: bool,
     gate: &G,
 ) -> (Seat<Buck>, Result<Vec<u8>, NoMemory>)
     requires ours { IsOurs engine.now seat }
     requires first { seat.mine ≡ [] }
     ensures ours { IsOurs engine.now result.0 }
-    ensures output { IfOk result.1 (λ out. IsOutput script.now out.items) }
+    ensures output { IfOk result.1 (λ out. IsPrintout trace script.now result.0.seen out.items) }
     ensures journal { OnOk result.1 (IsJournalOf script.now result.0.seen) }
 {
     let mut driver = Driver {
@@ -42,7 +45,7 @@ pub(crate) fn drive_alone<R: Wait, G: Gate>(
         promises: HashMap::new(alloc),
         answers: HashMap::new(alloc),
     };
-    let output = driver.script(rt, engine, gate, script);
+    let output = driver.script(rt, engine, gate, script, trace);
     (driver.into_seat(), output)
 }
 
@@ -53,23 +56,49 @@ impl Driver {
         self.seat
     }
 
-    /// Carries out a script, and answers its output.
+    /// Carries out a script, and answers its output, with the trace behind it where it is wanted.
     fn script<R: Wait, G: Gate>(
         &mut self,
         rt: &R,
         engine: &Engine<Buck>,
         gate: &G,
         script: &Script,
+        trace: bool,
     ) -> Result<Vec<u8>, NoMemory>
         requires { Starts engine.now self.old }
         ensures ours { IsOurs engine.now self.new.seat }
-        ensures output { IfOk result (λ out. IsOutput script.now out.items) }
+        ensures output { IfOk result (λ out. IsPrintout trace script.now self.new.seat.seen out.items) }
         ensures journal { OnOk result (IsJournalOf script.now self.new.seat.seen) }
     {
         self.lines(rt, engine, gate, script)?;
         self.settle(rt, engine, gate, script)?;
         self.close_all(rt, engine, script);
-        print(self.alloc, script, self)
+        let output = print(self.alloc, script, self)?;
+        if trace {
+            return self.with_trace(rt, engine, output);
+        }
+        Ok(output)
+    }
+
+    /// The output, and behind it the trace of the engine's journal.
+    fn with_trace<R: Wait>(
+        &mut self,
+        rt: &R,
+        engine: &Engine<Buck>,
+        output: Vec<u8>,
+    ) -> Result<Vec<u8>, NoMemory>
+        requires { IsOurs engine.now self.old.seat }
+        ensures seat { Rests engine.now self.old.seat self.new.seat }
+        ensures ours { IsOurs engine.now self.new.seat }
+        ensures traced { IfOk result (λ out. (trace : List ℕ) × IsTraceOf self.new.seat.seen trace × (out.items ≡ output.items ++ trace)) }
+    {
+        let lines = client::log(rt, self.alloc, engine, &mut self.seat)?;
+        let mut out = output;
+        append::bytes(&mut out, b"trace ")?;
+        append::number(&mut out, lines.len() as u64)?;
+        append::bytes(&mut out, b"\n")?;
+        append::lines(&mut out, &lines)?;
+        Ok(out)
     }
 
     /// Carries out the lines.
@@ -156,7 +185,7 @@ impl Driver {
     /// Closes the transactions that are open, in the order of opening.
     fn close_all<R: Wait>(&mut self, rt: &R, engine: &Engine<Buck>, script: &Script)
         requires { Settled engine.now script.now self.old }
-        ensures closed { Closing engine.now script.now [] self.new }
+        ensures { Closing engine.now script.now [] self.new }
     {
         for line in script.lines() {
             self.close_line(rt, engine, script, line);

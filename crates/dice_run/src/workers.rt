@@ -1,7 +1,7 @@
 //! The workers beside the driver of a script: each on a seat of its own, in a thread of its own.
 ghost use Rattle.std.specs.Prelude.{◌≡◌, ◌<◌, ◌≤◌, [], All, IfOk, OnOk};
 ghost use Rattle.turnstile.specs.Seats.{IsSeatOf, spare};
-ghost use Rattle.dice_run.specs.Output.{IsOutput};
+ghost use Rattle.dice_run.specs.Tracing.{IsPrintout};
 ghost use Rattle.dice_run.specs.Events.{IsJournalOf};
 ghost use Rattle.dice_run.specs.Seats.{IsOurs, GivesSeats};
 
@@ -20,7 +20,8 @@ const MOST_RESTS: u32 = 12;
 
 /// Drives a script on an engine whose one writer this seat is, with so many workers beside it, and answers its output: what each
 /// line prints, in the order of the lines. A request that the script cancels has the line `cancelled`; each other one is waited for,
-/// at its `wait` or at the end, in the order of asking. The seat comes back.
+/// at its `wait` or at the end, in the order of asking. Where it is wanted the trace of the journal stands behind it. The seat comes
+/// back.
 ///
 /// Each worker has a seat that is split off from this one, and does jobs in a thread of its own until the script is done; where no
 /// thread can be made, waiting does all jobs. With no workers no thread is made.
@@ -30,6 +31,7 @@ pub fn drive<R: Threads + Wait + Sync, G: Gate>(
     engine: &Engine<Buck>,
     seat: Seat<Buck>,
     script: &Script,
+    trace: bool,
     workers: u32,
     gate: &G,
 ) -> (Seat<Buck>, Result<Vec<u8>, NoMemory>)
@@ -37,16 +39,16 @@ pub fn drive<R: Threads + Wait + Sync, G: Gate>(
     requires first { seat.mine ≡ [] }
     requires spare { workers < spare seat }
     ensures ours { IsOurs engine.now result.0 }
-    ensures output { IfOk result.1 (λ out. IsOutput script.now out.items) }
+    ensures output { IfOk result.1 (λ out. IsPrintout trace script.now result.0.seen out.items) }
     ensures journal { OnOk result.1 (IsJournalOf script.now result.0.seen) }
 {
     if workers == 0 {
-        return drive_alone(rt, alloc, engine, seat, script, gate);
+        return drive_alone(rt, alloc, engine, seat, script, trace, gate);
     }
     let mut seat = seat;
     match split_seats(alloc, engine, &mut seat, workers) {
-        Ok(seats) => drive_with(rt, alloc, engine, seat, seats, script, gate),
-        Err(NoMemory) => drive_alone(rt, alloc, engine, seat, script, gate),
+        Ok(seats) => drive_with(rt, alloc, engine, seat, seats, script, trace, gate),
+        Err(NoMemory) => drive_alone(rt, alloc, engine, seat, script, trace, gate),
     }
 }
 
@@ -79,13 +81,14 @@ fn drive_with<R: Threads + Wait + Sync, G: Gate>(
     seat: Seat<Buck>,
     seats: Vec<Seat<Buck>>,
     script: &Script,
+    trace: bool,
     gate: &G,
 ) -> (Seat<Buck>, Result<Vec<u8>, NoMemory>)
     requires ours { IsOurs engine.now seat }
     requires first { seat.mine ≡ [] }
     requires seats { All (IsSeatOf engine.now) seats.items }
     ensures ours { IsOurs engine.now result.0 }
-    ensures output { IfOk result.1 (λ out. IsOutput script.now out.items) }
+    ensures output { IfOk result.1 (λ out. IsPrintout trace script.now result.0.seen out.items) }
     ensures journal { OnOk result.1 (IsJournalOf script.now result.0.seen) }
 {
     let done = AtomicBool::new(false);
@@ -97,9 +100,9 @@ fn drive_with<R: Threads + Wait + Sync, G: Gate>(
         { work_all(rt, engine, seats, gate, stop) },
         move || -> (Seat<Buck>, Result<Vec<u8>, NoMemory>)
             requires { IsOurs engine.now seat × (seat.mine ≡ []) }
-            ensures { IsOurs engine.entry.now result.0 × IfOk result.1 (λ out. IsOutput script.entry.now out.items) × OnOk result.1 (IsJournalOf script.entry.now result.0.seen) }
+            ensures { IsOurs engine.entry.now result.0 × IfOk result.1 (λ out. IsPrintout trace script.entry.now result.0.seen out.items) × OnOk result.1 (IsJournalOf script.entry.now result.0.seen) }
         {
-            let driven = drive_alone(rt, alloc, engine, seat, script, gate);
+            let driven = drive_alone(rt, alloc, engine, seat, script, trace, gate);
             stop.store(true, Ordering::Release);
             driven
         },

@@ -1,0 +1,98 @@
+//! The bulk script, carried out and summed up.
+ghost use Rattle.std.specs.Prelude.{◌≡◌, ◌≢◌, ◌≤◌, ◌⊎◌, List, ℕ, Option, None, IfOk};
+ghost use Rattle.dice_io.specs.Streams.{Rose, Gained, GainedPart, Unchanged};
+ghost use Rattle.dice_run.specs.Run.{summary, Sums};
+ghost use Rattle.dice_run.specs.declared.kept.Kept.{Kept};
+
+use crate::append;
+use crate::carried::{Ending, carry_out};
+use crate::kept::Kept;
+use crate::status::Status;
+use bulk_script::{bulk_is_script, bulk_script, request_count};
+use dice_engine::Gate;
+use dice_io::{Sink, write_all};
+use dice_key::NoMemory;
+use script::ScriptRefusal;
+use sha2::{Digest, Sha256};
+use std::alloc::Global;
+use std::sync::Wait;
+use std::thread::Threads;
+
+/// Carries out the bulk script of so many targets, and writes its summary to the sink.
+pub(crate) fn run_bulk<R: Threads + Wait + Sync, K: Sink, G: Gate>(
+    rt: &R,
+    alloc: Global,
+    targets: u32,
+    workers: u32,
+    sink: &mut K,
+    gate: &G,
+    kept: &mut Option<Kept>,
+) -> Status
+    requires targets { (1 ≤ targets) × (targets ≤ 10000) }
+    requires workers { workers ≤ 64 }
+    requires empty { kept.old ≡ None }
+    ensures only { (result ≡ Status.Done) ⊎ ((result ≡ Status.WriteFailed) ⊎ (result ≡ Status.NoMemory)) }
+    ensures done { result ≡ Status.Done → (out : List ℕ) × Sums targets out kept.new × Gained (K.taken sink.old) (K.taken sink.new) out }
+    ensures write { result ≡ Status.WriteFailed → Rose (K.faults sink.old) (K.faults sink.new) × ((out : List ℕ) × (k : Option Kept) × Sums targets out k × GainedPart (K.taken sink.old) (K.taken sink.new) out) }
+    ensures memory { result ≡ Status.NoMemory → Unchanged (K.taken sink.old) (K.taken sink.new) }
+    ensures empty { result ≢ Status.Done → kept.new ≡ None }
+{
+    let ending = match sum_up(rt, alloc, targets, workers, gate) {
+        Ok(ending) => ending,
+        Err(NoMemory) => return Status::NoMemory,
+    };
+    match write_all(sink, &ending.out) {
+        Ok(()) => {
+            *kept = ending.kept;
+            Status::Done
+        }
+        Err(_) => Status::WriteFailed,
+    }
+}
+
+/// Carries out the bulk script of so many targets: what is written, and what is left.
+fn sum_up<R: Threads + Wait + Sync, G: Gate>(
+    rt: &R,
+    alloc: Global,
+    targets: u32,
+    workers: u32,
+    gate: &G,
+) -> Result<Ending, NoMemory>
+    requires targets { (1 ≤ targets) × (targets ≤ 10000) }
+    requires workers { workers ≤ 64 }
+    ensures { IfOk result (λ a. Sums targets a.out.items a.kept) }
+{
+    let bytes = bulk_script(alloc, targets)?;
+    bulk_is_script();
+    let script = match script::read(alloc, &bytes) {
+        Ok(script) => script,
+        Err(ScriptRefusal::TooLong) => unreachable!(),
+        Err(ScriptRefusal::Fault { .. }) => unreachable!(),
+        Err(ScriptRefusal::NoMemory) => return Err(NoMemory),
+    };
+    let ending = carry_out(rt, alloc, workers, false, gate, &script)?;
+    let out = summary(alloc, targets, &ending.out)?;
+    Ok(Ending {
+        status: Status::Done,
+        out,
+        kept: ending.kept,
+    })
+}
+
+/// The line that an output of the bulk script of so many targets is summed up by.
+fn summary(alloc: Global, targets: u32, output: &[u8]) -> Result<Vec<u8>, NoMemory>
+    ensures { IfOk result (λ out. out.items ≡ summary targets output.now) }
+{
+    let digest = Sha256::digest(output);
+    let mut out = Vec::new(alloc);
+    append::bytes(&mut out, b"bulk ")?;
+    append::number(&mut out, targets as u64)?;
+    append::bytes(&mut out, b" requests ")?;
+    append::number(&mut out, request_count(targets))?;
+    append::bytes(&mut out, b" output ")?;
+    append::number(&mut out, output.len() as u64)?;
+    append::bytes(&mut out, b" digest ")?;
+    append::bytes(&mut out, hex::encode(alloc, digest.as_slice())?.as_bytes())?;
+    append::bytes(&mut out, b"\n")?;
+    Ok(out)
+}
