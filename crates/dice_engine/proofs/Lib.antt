@@ -5,3 +5,4 @@ pub mod Adding
 pub mod Replying
 pub mod Callers
 pub mod Begun
+pub mod Listing

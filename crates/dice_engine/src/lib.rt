@@ -5,6 +5,7 @@ mod calls;
 mod engine;
 mod gate;
 mod laws;
+mod lines;
 mod promise;
 mod state;
 #[cfg(test)]
