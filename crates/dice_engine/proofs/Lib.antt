@@ -5,3 +5,5 @@ pub mod Adding
 pub mod Replying
 pub mod Callers
 pub mod Begun
+pub mod Deciding
+pub mod Listing

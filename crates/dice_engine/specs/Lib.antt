@@ -3,3 +3,4 @@ pub mod Rises
 pub mod Conditions
 pub mod Calls
 pub mod Replies
+pub mod Lines

@@ -8,12 +8,14 @@ ghost use Rattle.dice_engine.specs.Turns.{newest_in, log_of, Turn};
 ghost use Rattle.dice_engine.specs.Conditions.{HasOpen, HasAsk, SawAsk};
 ghost use Rattle.dice_engine.specs.Calls.{AddsNothing, Opens, Closes, Asks, Leaves, Commits};
 ghost use Rattle.dice_engine.specs.Replies.{reply_of, IsReply};
+ghost use Rattle.dice_engine.specs.Lines.{AreLines};
 
 use crate::engine::{Engine, Seat};
 use crate::promise::{Answer, Promise, Transaction};
 use crate::updater::Updater;
 use dice_core::CommitRefusal;
-use dice_key::{KeyRef, NoMemory, Universe, Version};
+use dice_key::{KeyRef, Line, NoMemory, Universe, Version};
+use std::alloc::Global;
 use std::sync::Wait;
 
 impl<U: Universe> Engine<U> {
@@ -130,5 +132,24 @@ impl<U: Universe> Engine<U> {
         let answer = turn.state().poll(promise);
         self.stile.leave(turn);
         answer
+    }
+
+    /// The lines of the journal, one an event, in order. It adds nothing, and takes as long as the journal and its lines are.
+    pub fn log<R: Wait>(
+        &self,
+        rt: &R,
+        alloc: Global,
+        seat: &mut Seat<U>,
+    ) -> Result<Vec<Line>, NoMemory>
+        requires seat { IsSeatOf self.now seat.old }
+        ensures turn { Turn U.Key.eq U.meaning seat.old seat.new (λ found. AddsNothing) }
+        ensures lines { IfOk result (λ ls. AreLines U.meaning seat.new.seen ls.items) }
+        ensures seat { IsSeatOf self.now seat.new }
+        ensures same { (seat.new.number ≡ seat.old.number) × (seat.new.writers ≡ seat.old.writers) }
+    {
+        let mut turn = self.stile.enter(rt, seat);
+        let lines = turn.state().lines(alloc, &*self.universe);
+        self.stile.leave(turn);
+        lines
     }
 }

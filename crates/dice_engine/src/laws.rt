@@ -1,9 +1,10 @@
 //! What callers keep of a seat from one call to the next, as contracts. None of these functions does any work.
-ghost use Rattle.std.specs.Prelude.{◌≡◌, ◌≢◌, ◌<◌, ◌⊎◌, ◌++◌, ℕ, List, [], reverse, Some};
+ghost use Rattle.std.specs.Prelude.{◌≡◌, ◌≢◌, ◌<◌, ◌⊎◌, ◌∷◌, ◌++◌, ℕ, List, [], reverse, Some};
 ghost use Rattle.dice_model.specs.Log.{Has};
 ghost use Rattle.dice_key.specs.declared.universe.Kind.TheVariants.{Injected};
 ghost use Rattle.journal.specs.declared.event.Told.{Told};
-ghost use Rattle.journal.specs.Events.{NotClosed, ByCycle, decided, open_at, live_at};
+ghost use Rattle.journal.specs.declared.event.Told.TheVariants.{Open, Close};
+ghost use Rattle.journal.specs.Events.{Opened, Decision, NotClosed, ByCycle, decided, open_at, live_at};
 ghost use Rattle.journal.specs.Law.{IsLawfulJournal};
 ghost use Rattle.journal.specs.Tell.{event_by};
 ghost use Rattle.atomic_table.specs.Seated.{TableId};
@@ -11,9 +12,10 @@ ghost use Rattle.turnstile.specs.Events.{StartsWith, events_by, AllBelow};
 ghost use Rattle.turnstile.specs.Seats.{SeatView, IsSeatOf};
 ghost use Rattle.dice_engine.specs.Turns.{log_of, Later, Turn, Works};
 ghost use Rattle.dice_engine.specs.Conditions.{StandsAt, NotLeft, HasOpen, HasAsk, SawAsk};
+ghost use Rattle.dice_engine.specs.Calls.{Closes};
 ghost use Rattle.dice_engine.specs.Replies.{Reply, TheValue, TheCycle, NoRoom, NotYet, NotLive, IsReply, IsLiveIn, IsValued};
 
-use dice_key::Universe;
+use dice_key::{Universe, laws_of};
 
 /// Turns after one another: a seat stays one of its engine with its number; and what it has seen begins all that it sees later.
 pub fn turns_go_on<U: Universe>()
@@ -39,6 +41,24 @@ pub fn own_asks_are_live<U: Universe>()
     ensures open { (s : SeatView (Told U.Key U.Value)) (t v : ℕ) → IsLawfulJournal U.Key.eq U.meaning s.seen → events_by event_by s.number s.seen ≡ s.mine → HasOpen s t v → open_at (reverse s.seen) t ≡ Some (record { by = s.number; version = v }) }
     ensures live { (s : SeatView (Told U.Key U.Value)) (i t v : ℕ) (k : U.Key) → IsLawfulJournal U.Key.eq U.meaning s.seen → events_by event_by s.number s.seen ≡ s.mine → HasAsk s i t v k → NotClosed t s.mine → live_at (reverse s.seen) i ≡ Some (record { by = s.number; opened = t; key = k }) }
 {}
+
+/// How a key was decided at a version stays while a transaction is open there: in each longer lawful journal in which one is open
+/// whose Open stands in the shorter one; and so in all that a seat sees until it closes its transaction.
+pub fn decisions_stay<U: Universe>()
+    ensures longer { (J I : List (Told U.Key U.Value)) (t n v : ℕ) (k : U.Key) (o : Opened) (d : Decision) → StartsWith I J → IsLawfulJournal U.Key.eq U.meaning I → StandsAt J t (Open n v) → open_at (reverse I) t ≡ Some o → decided U.Key.eq (reverse J) v k ≡ Some d → decided U.Key.eq (reverse I) v k ≡ Some d }
+    ensures seat { (s u : SeatView (Told U.Key U.Value)) (t v : ℕ) (k : U.Key) (d : Decision) → Later U.Key.eq U.meaning s u → HasOpen s t v → NotClosed t u.mine → decided U.Key.eq (reverse s.seen) v k ≡ Some d → decided U.Key.eq (reverse u.seen) v k ≡ Some d }
+{
+    laws_of::<U>();
+}
+
+/// A transaction is closed once; and how a key was decided when a seat closed its transaction, it was decided before the Close, in
+/// each lawful journal that begins with what the seat saw then.
+pub fn decided_when_closed<U: Universe>()
+    ensures once { (J before after front back : List (Told U.Key U.Value)) (n p t : ℕ) → IsLawfulJournal U.Key.eq U.meaning J → J ≡ before ++ (Close n t ∷ after) → J ≡ front ++ (Close p t ∷ back) → front ≡ before }
+    ensures close { (s u : SeatView (Told U.Key U.Value)) (t v : ℕ) (k : U.Key) (d : Decision) → HasOpen s t v → Turn U.Key.eq U.meaning s u (λ found. Closes s.number t v) → decided U.Key.eq (reverse s.seen) v k ≡ Some d → (I before after : List (Told U.Key U.Value)) (n : ℕ) → StartsWith I u.seen → IsLawfulJournal U.Key.eq U.meaning I → I ≡ before ++ (Close n t ∷ after) → decided U.Key.eq (reverse before) v k ≡ Some d }
+{
+    laws_of::<U>();
+}
 
 /// Where there is one writer, every event that tells a number tells 0, and the commits are those of the seat with this number.
 pub fn one_writer_knows_all<U: Universe>()

@@ -5,6 +5,7 @@ mod calls;
 mod engine;
 mod gate;
 mod laws;
+mod lines;
 mod promise;
 mod state;
 #[cfg(test)]
@@ -16,7 +17,8 @@ pub use dice_core::CommitRefusal;
 pub use engine::{Engine, Seat};
 pub use gate::{Gate, Open};
 pub use laws::{
-    conditions_stay, one_writer_knows_all, own_asks_are_live, replies_are_exact, turns_go_on,
+    conditions_stay, decided_when_closed, decisions_stay, one_writer_knows_all, own_asks_are_live,
+    replies_are_exact, turns_go_on,
 };
 pub use promise::{Answer, Promise, Settled, Transaction, Worked};
 pub use state::State;

@@ -12,13 +12,16 @@ ghost use Rattle.dice_core.specs.Joinings.{IsToldOfMake};
 ghost use Rattle.dice_engine.specs.Turns.{newest_in, log_of, left_of, Adds, WorksOn};
 ghost use Rattle.dice_engine.specs.Calls.{AddsNothing, Opens, Closes, Asks, Leaves, Commits};
 ghost use Rattle.dice_engine.specs.Replies.{reply_of, Tells, IsLiveIn, IsReply};
+ghost use Rattle.dice_engine.specs.Lines.{AreLines};
 
+use crate::lines::lines_of;
 use crate::promise::{Answer, Promise, Transaction};
 use crate::updater::Updater;
 use dice_core::{CommitRefusal, Core, Job, JobName, Polled, Step};
-use dice_key::{KeyRef, NoMemory, Universe, Version};
+use dice_key::{KeyRef, Line, NoMemory, Universe, Version};
 use injected::cells_are_the_inputs;
 use journal::Told;
+use std::alloc::Global;
 use std::sync::Arc;
 use turnstile::Tale;
 
@@ -183,6 +186,15 @@ impl<U: Universe> State<U> {
             return Ok(Answer::Gone);
         }
         answer_of(self.core.poll(promise.version, &promise.key))
+    }
+
+    /// The lines of the journal, one an event, in order.
+    pub(crate) fn lines(&self, alloc: Global, universe: &U) -> Result<Vec<Line>, NoMemory>
+        ensures lines { IfOk result (λ ls. AreLines U.meaning (events_of self.now.core) ls.items) }
+        ensures lawful { IsLawfulJournal U.Key.eq U.meaning (events_of self.now.core) }
+    {
+        self.core.in_order();
+        lines_of(alloc, universe, self.core.journal())
     }
 
     /// Takes the job of a task that is ready.

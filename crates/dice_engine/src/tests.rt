@@ -3,7 +3,7 @@ ghost use Rattle.std.specs.Prelude.{◌≡◌, IfOk};
 ghost use Rattle.turnstile.specs.Seats.{first_seat, IsSeatOf, IsWriter};
 
 use crate::{Answer, CommitRefusal, Engine, Open, Seat, Settled, Updater, Worked};
-use dice_key::NoMemory;
+use dice_key::{Line, NoMemory};
 use std::alloc::Global;
 use std::sync::{Arc, Wait};
 use std::test::Fail;
@@ -169,5 +169,43 @@ fn a_seat_waits_for_what_another_seat_may_work_on(rt: HostRuntime) -> Result<(),
     assert_eq!(rt; settled(&last), Seen::Cycle(2));
     assert_eq!(rt; engine.join(&mut zero, one), 1);
     assert_eq!(rt; engine.work(&rt, &mut zero, &Open, 0), Worked::Idle);
+    Ok(())
+}
+
+/// Whether the lines are these texts.
+fn are_these(lines: &[Line], texts: &[&str]) -> bool {
+    if lines.len() != texts.len() {
+        return false;
+    }
+    for (line, text) in lines.iter().zip(texts) {
+        if line.as_bytes() != text.as_bytes() {
+            return false;
+        }
+    }
+    true
+}
+
+#[test]
+fn the_log_has_a_line_for_each_event(rt: HostRuntime) -> Result<(), Fail> {
+    let alloc = rt.alloc();
+    let (engine, mut seat) = start(&rt, alloc, 1)?;
+    let none = engine.log(&rt, alloc, &mut seat)?;
+    assert!(rt; none.is_empty());
+    let made = commit(&rt, alloc, &engine, &mut seat, &CELLS)?;
+    assert_eq!(rt; made, Made::Version(1));
+    let transaction = engine.open(&rt, &mut seat)?;
+    let key = Arc::new(alloc, Place::Sum(1, 2))?;
+    let promise = engine.ask(&rt, &mut seat, &transaction, key)?;
+    let last = engine.wait(&rt, &mut seat, &promise, &Open, 0)?;
+    assert_eq!(rt; settled(&last), Seen::Number(5));
+    let lines = engine.log(&rt, alloc, &mut seat)?;
+    let texts = [
+        "commit 0 1 2",
+        "open 0 1",
+        "ask 0 1 sum 1 2",
+        "start 1 sum 1 2 new",
+        "end 1 sum 1 2",
+    ];
+    assert!(rt; are_these(&lines, &texts));
     Ok(())
 }
