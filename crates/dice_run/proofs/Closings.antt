@@ -8,7 +8,7 @@ use Rattle.dice_model.specs.Log.{Has}
 use Rattle.journal.specs.declared.event.Told.{Told}
 use Rattle.journal.specs.declared.event.Told.TheVariants as told
 use Rattle.journal.specs.Tell.{event_by}
-use Rattle.turnstile.specs.Events.{StartsWith}
+use Rattle.turnstile.specs.Events.{events_by}
 use Rattle.dice_engine.specs.declared.promise.Transaction.{Transaction}
 use Rattle.dice_engine.proofs.Indices.{from_by}
 use Rattle.script.specs.declared.line.Line.{Line}
@@ -21,7 +21,7 @@ use Rattle.action_digest.specs.declared.value.Value.{Value}
 use Rattle.action_digest.specs.Buck.{buck}
 use Rattle.action_digest.specs.Same.{key_equal}
 use Rattle.dice_run.specs.Output.{key_of}
-use Rattle.dice_run.specs.Seats.{Place, IsOurs}
+use Rattle.dice_run.specs.Seats.{Place, IsOurs, Rests}
 use Rattle.dice_run.specs.Events.{Events, Indices, AddsEnd, AddsEnds, IsDecided, IsJournalOf}
 use Rattle.dice_run.specs.Driving.{transaction_of, pledge_of, Matches, Steps, DidClose}
 use Rattle.dice_run.specs.Recording.{WasDecided, IsRecorded, RecordsEnds, OpenedIn}
@@ -29,7 +29,7 @@ use Rattle.dice_run.specs.Driven.{Settled, Closing, ClosesOpen}
 use Rattle.dice_run.specs.declared.driver.Driver.{Driver}
 use Rattle.dice_run.proofs.Steps.{own_name, past_name, by_name, close_stands}
 use Rattle.dice_run.proofs.Ending.{closed_fate}
-use Rattle.dice_run.proofs.Recorded.{begins_on, begins_itself, knows_closed}
+use Rattle.dice_run.proofs.Recorded.{begins_on, begins_itself, decided_on, knows_closed}
 use Rattle.dice_run.proofs.Deciding.{decided_at_close}
 
 some_same : {X : Type 0} {x y : X} → Some x ≡ Some y → x ≡ y
@@ -198,37 +198,45 @@ cut [] e h = absurd h
 cut (x ∷ J) e (inl s) = ([], J, ap (λ (y : Told Key Value). y ∷ J) s)
 cut (x ∷ J) e (inr h) = (let c = cut J e h in (x ∷ c.0, c.1, ap (λ (l : Events). x ∷ l) c.2))
 
-pub journal_of : (id : TableId) (ls : List Line) (d : Driver) → Closing id ls [] d → IsJournalOf ls d.seat.seen
-journal_of id ls d c = record {
-  lawful = c.stands.ours.lawful;
-  below = c.stands.ours.below;
-  own = c.records.own;
-  indices = c.records.indices;
-  lines = c.records.lines d.seat.seen (begins_itself d.seat.seen);
-  closing = c.records.closing;
-  ends = subst (AddsEnds c.records.indices (after_all nothing ls).opened ls) (append-nil c.records.closing) (c.records.ends [] refl);
-  events = c.stands.ours.mine ∙ c.records.mine;
-  decisions = λ r h n.
-      let i = c.records.knows.requests r h in
-      by_open r i (i.decided (c.answered r h n)) (c.past.opened r.transaction) refl;
-}
-  where
-    by_open : (r : Planned) → (i : IsRecorded d.seat.seen c.records.indices c.past r) → WasDecided d.seat.seen i.transaction r.version (key_of r.wish) → (o : Option Bool) → c.past.opened r.transaction ≡ o → IsDecided d.seat.seen c.records.indices r
-    by_open r i w None e = absurd (i.known e)
-    by_open r i w (Some true) e = absurd (c.records.left r.transaction e)
-    by_open r i w (Some false) e =
-        let z = c.records.knows.closed r.transaction e in
-        let same : z.0 ≡ i.transaction = some_same (sym z.1 ∙ i.opened) in
-        let has = from_by event_by 0 d.seat.seen (told.Close 0 z.0) (subst (λ (es : Events). Has es (told.Close 0 z.0)) (sym c.stands.ours.mine) z.2) in
-        let parts = cut d.seat.seen (told.Close 0 z.0) has in
-        record {
-          transaction = z.0;
-          opened = z.1;
-          decided = record {
-            before = parts.0;
-            later = parts.1;
-            closes = parts.2;
-            decided = decided_at_close d.seat.seen parts.0 parts.1 z.0 r.version (key_of r.wish) c.stands.ours.lawful parts.2
-                (subst (λ n. WasDecided d.seat.seen n r.version (key_of r.wish)) (sym same) w);
-          };
-        }
+-- after turns that added nothing too
+module _ (id : TableId) (ls : List Line) (d : Driver) (u : Place) (c : Closing id ls [] d) (rest : Rests id d.seat u) where
+  mine_is : events_by event_by 0 u.seen ≡ d.seat.mine
+  mine_is = rest.0.mine ∙ rest.2
+
+  by_open : (r : Planned) → (i : IsRecorded d.seat.seen c.records.indices c.past r) → WasDecided d.seat.seen i.transaction r.version (key_of r.wish) → (o : Option Bool) → c.past.opened r.transaction ≡ o → IsDecided u.seen c.records.indices r
+  by_open r i w None e = absurd (i.known e)
+  by_open r i w (Some true) e = absurd (c.records.left r.transaction e)
+  by_open r i w (Some false) e =
+      let z = c.records.knows.closed r.transaction e in
+      let same : z.0 ≡ i.transaction = some_same (sym z.1 ∙ i.opened) in
+      let has = from_by event_by 0 u.seen (told.Close 0 z.0) (subst (λ (es : Events). Has es (told.Close 0 z.0)) (sym mine_is) z.2) in
+      let parts = cut u.seen (told.Close 0 z.0) has in
+      record {
+        transaction = z.0;
+        opened = z.1;
+        decided = record {
+          before = parts.0;
+          later = parts.1;
+          closes = parts.2;
+          decided = decided_at_close u.seen parts.0 parts.1 z.0 r.version (key_of r.wish) rest.0.lawful parts.2
+              (decided_on d.seat.seen u.seen z.0 r.version (key_of r.wish) rest.1 (subst (λ n. WasDecided d.seat.seen n r.version (key_of r.wish)) (sym same) w));
+        };
+      }
+
+  pub journal_of : IsJournalOf ls u.seen
+  journal_of = record {
+    lawful = rest.0.lawful;
+    below = rest.0.below;
+    own = c.records.own;
+    indices = c.records.indices;
+    lines = c.records.lines u.seen rest.1;
+    closing = c.records.closing;
+    ends = subst (AddsEnds c.records.indices (after_all nothing ls).opened ls) (append-nil c.records.closing) (c.records.ends [] refl);
+    events = mine_is ∙ c.records.mine;
+    decisions = λ r h n.
+        let i = c.records.knows.requests r h in
+        by_open r i (i.decided (c.answered r h n)) (c.past.opened r.transaction) refl;
+  }
+
+pub rests_itself : (id : TableId) (s : Place) → IsOurs id s → Rests id s s
+rests_itself id s o = (o, begins_itself s.seen, refl)

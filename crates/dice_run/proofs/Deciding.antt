@@ -85,7 +85,7 @@ close_allowed J before later t e l = lawful_back (reverse later) (Close 0 t ∷ 
     back : reverse (before ++ Close 0 t ∷ later) ≡ reverse later ++ Close 0 t ∷ reverse before
     back = ap reverse (sym (append_assoc before (Close 0 t ∷ []) later)) ∙ (reverse-append (before ++ Close 0 t ∷ []) later ∙ ap (λ (l : Events). reverse later ++ l) (reverse-append before (Close 0 t ∷ [])))
 
-version_in : Told Key Value → ℕ
+abbrev version_in : Told Key Value → ℕ
 version_in (Open by v) = v
 version_in _ = 0
 

@@ -7,4 +7,5 @@ pub mod Ending
 pub mod Printed
 pub mod Recorded
 pub mod Deciding
+pub mod Traced
 pub mod Closings

@@ -56,10 +56,13 @@ begins_on I J K a b = (b.0 ++ a.0, a.1 ∙ (ap (λ (x : Events). x ++ a.0) b.1 �
 pub begins_itself : (J : Events) → StartsWith J J
 begins_itself J = ([], sym (append-nil J))
 
+below_none : (n : ℕ) → n < 0 → ⊥
+below_none n h = omega arith
+
 -- the front of a longer list
 pub take_longer : (n : ℕ) (xs ys : Events) → n < length xs → take n (xs ++ ys) ≡ take n xs
 take_longer zero xs ys h = refl
-take_longer (suc n) [] ys h = absurd (let e : length [] ≡ 0 = refl in omega arith)
+take_longer (suc n) [] ys h = absurd (below_none (suc n) h)
 take_longer (suc n) (x ∷ xs) ys h = ap (λ (zs : Events). x ∷ zs) (take_longer n xs ys (let e : length (x ∷ xs) ≡ suc (length xs) = refl in omega arith))
 
 next_on : (I J own : Events) (e : Told Key Value) (i : ℕ) → StartsWith J I → IsNext I own e i → IsNext J own e i
@@ -94,7 +97,7 @@ module _ (ls rest : List Line) (l : Line) (d e : Driver) (p : Plan) (past : Past
         (es, i, adds J s, subst (λ (own : Events). AddsLines J (is_cancelled ls) (planned (is_cancelled ls) p l) own i rest all m) mine h);
   }
 
-decided_on : (I J : Events) (t v : ℕ) (k : Key) → StartsWith J I → WasDecided I t v k → WasDecided J t v k
+pub decided_on : (I J : Events) (t v : ℕ) (k : Key) → StartsWith J I → WasDecided I t v k → WasDecided J t v k
 decided_on I J t v k b w = record { earlier = w.earlier; begins = begins_on w.earlier I J b w.begins; opening = w.opening; open_ = w.open_; decided = w.decided }
 
 -- a request that is recorded stays so
@@ -157,7 +160,7 @@ commit_records id p past d e m goes k ls rest r =
 -- ---- open
 
 module _ (id : TableId) (d e : Driver) (p : Plan) (past : Past) (t : List ℕ) (m : Matches id d p past) (new : past.opened t ≡ None) (x : DidOpen id t d e) where
-  open_own : Events
+  abbrev open_own : Events
   open_own = told.Open 0 x.transaction.version ∷ []
 
   knows_opened : (ends : Ends) (n : Indices) → KnowsIndices d p past n → KnowsIndices e (planned ends p (line.Open t)) (after past (line.Open t)) (record n { opened = with_entry t x.transaction.opened n.opened })
@@ -198,10 +201,10 @@ module _ (id : TableId) (d e : Driver) (p : Plan) (past : Past) (t : List ℕ) (
 -- ---- ask and action
 
 module _ (id : TableId) (d e : Driver) (p : Plan) (past : Past) (r : Request) (w : Wish) (m : Matches id d p past) (new : IsNew past r) (x : DidAsk id r (key_of w) d e) where
-  ask_own : Events
+  abbrev ask_own : Events
   ask_own = told.Ask 0 x.pledge.opened (arc_value x.pledge.key) ∷ []
 
-  ask_indices : Indices → Indices
+  abbrev ask_indices : Indices → Indices
   ask_indices n = record n { asked = with_entry r.name x.pledge.ask n.asked }
 
   ask_transaction : (t : List ℕ) → transaction_of e t ≡ transaction_of d t
@@ -441,7 +444,7 @@ module _ (id : TableId) (d e : Driver) (p : Plan) (past : Past) (t : List ℕ) (
   abbrev closes : Past
   closes = after past (line.Close t)
 
-  pub close_own : Events
+  abbrev close_own : Events
   close_own = told.Close 0 x.transaction.opened ∷ []
 
   closes_fate : (n : List ℕ) → fate_of closes n ≡ Some fate.Answered → fate_of past n ≡ Some fate.Answered

@@ -9,6 +9,7 @@ use Rattle.dice_words.specs.declared.words.Command.{Command}
 use Rattle.dice_words.specs.declared.words.Command.TheVariants.{Run, Bulk}
 use Rattle.bulk_script.specs.Bulk.{bulk, requests}
 use Rattle.hex.specs.Hex.{encode_lower}
+use Rattle.sha2.specs.Sha256.{sha256}
 use Rattle.dice_run.specs.Output.{line}
 use Rattle.dice_run.specs.Tracing.{IsPrintout}
 use Rattle.dice_run.specs.Keeping.{IsKeptWith, Keeps}

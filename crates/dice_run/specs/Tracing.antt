@@ -6,6 +6,10 @@ use Rattle.action_digest.specs.Buck.{buck}
 use Rattle.dice_run.specs.Output.{line, IsOutput}
 use Rattle.dice_run.specs.Events.{Events}
 
+-- how many lines there are, and each
+abbrev pub trace_text : List (List ℕ) → List ℕ
+trace_text ls = line (codes "trace " ++ decimal (length ls)) ++ flat_map line ls
+
 -- how many events there are, and the line of each
 pub record IsTraceOf (J : Events) (text : List ℕ) : Type 0 where
   pub lines : List (List ℕ)

@@ -1,6 +1,7 @@
 //! Texts that are appended to the output.
 ghost use Rattle.std.specs.Prelude.{◌≡◌, ◌++◌, OnOk, decimal, flat_map};
 ghost use Rattle.dice_run.specs.Output.{line};
+ghost use Rattle.dice_run.specs.Tracing.{trace_text};
 
 use dice_key::{Line, NoMemory};
 use itoa::Buffer;
@@ -31,4 +32,14 @@ pub(crate) fn lines(out: &mut Vec<u8>, lines: &[Line]) -> Result<(), NoMemory>
         bytes(out, b"\n")?;
     }
     Ok(())
+}
+
+/// Appends the trace that these lines of events are: how many there are, and each.
+pub(crate) fn trace(out: &mut Vec<u8>, events: &[Line]) -> Result<(), NoMemory>
+    ensures { OnOk result (out.new.items ≡ out.old.items ++ trace_text events.now) }
+{
+    bytes(out, b"trace ")?;
+    number(out, events.len() as u64)?;
+    bytes(out, b"\n")?;
+    lines(out, events)
 }

@@ -94,10 +94,7 @@ impl Driver {
     {
         let lines = client::log(rt, self.alloc, engine, &mut self.seat)?;
         let mut out = output;
-        append::bytes(&mut out, b"trace ")?;
-        append::number(&mut out, lines.len() as u64)?;
-        append::bytes(&mut out, b"\n")?;
-        append::lines(&mut out, &lines)?;
+        append::trace(&mut out, &lines)?;
         Ok(out)
     }
 

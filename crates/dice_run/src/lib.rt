@@ -2,6 +2,8 @@
 #![tactic(auto)]
 
 mod append;
+mod bulk;
+mod carried;
 mod client;
 mod driven;
 mod driver;
@@ -22,5 +24,7 @@ pub use run_of::run;
 pub use status::Status;
 pub use workers::drive;
 
+#[cfg(test)]
+mod run_tests;
 #[cfg(test)]
 mod tests;

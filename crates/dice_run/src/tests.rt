@@ -7,7 +7,7 @@ use std::test::Fail;
 use std::thread::Threads;
 
 /// How a run with these words on this script ends: its status, and what the sink holds. Source and sink move 10 bytes a call.
-fn outcome<R: Threads + Wait + Sync>(
+pub(crate) fn outcome<R: Threads + Wait + Sync>(
     rt: &R,
     alloc: Global,
     words: &[&str],
@@ -17,16 +17,16 @@ fn outcome<R: Threads + Wait + Sync>(
 ) -> Result<(u8, Vec<u8>), NoMemory> {
     let bytes = Vec::from_slice(alloc, script)?;
     let mut source = MemorySource::new(bytes, 10, Vec::from_slice(alloc, read_fails)?);
-    let mut sink = MemorySink::new(alloc, 10, Vec::from_slice(alloc, write_fails)?, 1_000)?;
+    let mut sink = MemorySink::new(alloc, 10, Vec::from_slice(alloc, write_fails)?, 4_000)?;
     let mut kept = None;
     let status = run(rt, alloc, words, &mut source, &mut sink, &Open, &mut kept);
     Ok((status.code(), Vec::from_slice(alloc, sink.bytes())?))
 }
 
-const FIRST: &[u8] =
+pub(crate) const FIRST: &[u8] =
     b"put a/BUCK 55\nwrite_file(name = \"w\", out = \"w.txt\", content = \"abc\")\n\ncommit\nopen t\naction t r //a:w\n";
 
-const FIRST_OUT: &[u8] =
+pub(crate) const FIRST_OUT: &[u8] =
     b"commit 1\nopen t 1\nr 1 action 82\nwrite_file\nw.txt\nba7816bf8f01cfea414140de5dae2223b00361a396177a9cb410ff61f20015ad\n";
 
 #[test]

@@ -146,7 +146,7 @@ fn work<R: Wait, G: Gate>(
             Worked::Did => rests = 0,
             Worked::Idle => {
                 rest(stop, rests);
-                rests = MOST_RESTS.min(rests + 1);
+                rests = MOST_RESTS.min(rests.saturating_add(1));
             }
         }
     }

@@ -1,6 +1,6 @@
-use Rattle.std.proofs.Common.{[], Result, Ok, Err, OnOk}
+use Rattle.std.proofs.Common.{[], Result, Ok, Err, OnOk, IfOk}
 use Rattle.dice_run.proofs.Ending.{closing_done}
-use Rattle.dice_run.proofs.Closings.{journal_of}
+use Rattle.dice_run.proofs.Closings.{journal_of, rests_itself}
 use Rattle.dice_run.proofs.driver.Driver.script.Goals as goal
 
 on_each : {A E : Type 0} (r : Result A E) (P : Type 0) → P → OnOk r P
@@ -10,5 +10,11 @@ on_each (Err e) P p = tt
 pub print-requires : goal.print-requires
 print-requires g c = closing_done c.args.engine.now c.args.script.now [] c.close_all.new.self c.close_all.ensures
 
+pub returns-then-trace-clause-journal : goal.returns-then-trace-clause-journal
+returns-then-trace-clause-journal g c =
+    on_each c.with_trace.result _ (journal_of c.args.engine.now c.args.script.now c.close_all.new.self c.with_trace.new.self.seat c.close_all.ensures c.with_trace.ensures.seat)
+
 pub returns-clause-journal : goal.returns-clause-journal
-returns-clause-journal g c = on_each c.print.result _ (journal_of c.args.engine.now c.args.script.now c.close_all.new.self c.close_all.ensures)
+returns-clause-journal g c =
+    let d = c.close_all.new.self in
+    journal_of c.args.engine.now c.args.script.now d d.seat c.close_all.ensures (rests_itself c.args.engine.now d.seat c.close_all.ensures.stands.ours)

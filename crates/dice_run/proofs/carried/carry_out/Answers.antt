@@ -1,0 +1,20 @@
+use Rattle.std.proofs.Common.{IfOk, OnOk, refl, subst}
+use Rattle.dice_run.specs.Events.{IsJournalOf}
+use Rattle.dice_run.specs.Tracing.{IsPrintout}
+use Rattle.dice_run.proofs.carried.carry_out.Goals as goal
+
+pub returns-clause-answers : goal.returns-clause-answers
+returns-clause-answers g c input s =
+    let ls = c.args.script.now in
+    let seat = c.drive-seat.result.0 in
+    record {
+      lines = ls;
+      script = s;
+      left = record {
+        kept = record { engine = c.in_ok-engine.engine; seat = seat };
+        is = refl;
+        ours = c.drive-seat.ensures.ours;
+        journal = subst (λ r. OnOk r (IsJournalOf ls seat.seen)) c.in_ok-out.was c.drive-seat.ensures.journal;
+      };
+      output = subst (λ r. IfOk r (λ o. IsPrintout c.args.trace ls seat.seen o.items)) c.in_ok-out.was c.drive-seat.ensures.output;
+    }
