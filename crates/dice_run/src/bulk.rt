@@ -12,7 +12,7 @@ use bulk_script::{bulk_is_script, bulk_script, request_count};
 use dice_engine::Gate;
 use dice_io::{Sink, write_all};
 use dice_key::NoMemory;
-use script::ScriptRefusal;
+use script::{ScriptRefusal, readings_are_one};
 use sha2::{Digest, Sha256};
 use std::alloc::Global;
 use std::sync::Wait;
@@ -64,10 +64,14 @@ fn sum_up<R: Threads + Wait + Sync, G: Gate>(
 {
     let bytes = bulk_script(alloc, targets)?;
     bulk_is_script();
+    readings_are_one();
     let script = match script::read(alloc, &bytes) {
         Ok(script) => script,
         Err(ScriptRefusal::TooLong) => unreachable!(),
-        Err(ScriptRefusal::Fault { .. }) => unreachable!(),
+        Err(ScriptRefusal::Fault {
+            line: _line,
+            word: _word,
+        }) => unreachable!(),
         Err(ScriptRefusal::NoMemory) => return Err(NoMemory),
     };
     let ending = carry_out(rt, alloc, workers, false, gate, &script)?;
