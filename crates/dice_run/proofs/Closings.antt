@@ -128,11 +128,11 @@ module _ (id : TableId) (ls rest : List Line) (t : List ℕ) (d e : Driver) wher
       mine = c.records.mine;
       table = with_entry t false c.records.table;
       open_ = λ u h. by_name t u _
-        (λ s. absurd (not_open (ap c.past.opened s ∙ h)))
-        (λ f. ap (λ b. cond b (Some false) (c.records.table u)) f ∙ c.records.open_ u h);
+          (λ s. absurd (not_open (ap c.past.opened s ∙ h)))
+          (λ f. ap (λ b. cond b (Some false) (c.records.table u)) f ∙ c.records.open_ u h);
       only = λ u h. by_name t u _
-        (λ s. absurd (false_true (sym (ap (λ b. cond b (Some false) (c.records.table u)) (subst (λ w. bytes_eq w u ≡ true) (sym s) (own_name u))) ∙ h)))
-        (λ f. c.records.only u (sym (ap (λ b. cond b (Some false) (c.records.table u)) f) ∙ h));
+          (λ s. absurd (false_true (sym (ap (λ b. cond b (Some false) (c.records.table u)) (subst (λ w. bytes_eq w u ≡ true) (sym s) (own_name u))) ∙ h)))
+          (λ f. c.records.only u (sym (ap (λ b. cond b (Some false) (c.records.table u)) f) ∙ h));
       ends = λ es h. c.records.ends es ([], es, no_end c.records.indices (c.records.table t) (λ k. not_open (c.records.only t k)), h, refl);
       left = λ u h. elim (c.records.left u h) as (λ _. OpenedIn rest u) [ inl s ↦ absurd (not_open (ap c.past.opened s ∙ h)) | inr b ↦ b ];
     };
@@ -140,6 +140,7 @@ module _ (id : TableId) (ls rest : List Line) (t : List ℕ) (d e : Driver) wher
     where
       not_open : c.past.opened t ≡ Some true → ⊥
       not_open k = (let x = c.stands.known t k in none_some (sym none ∙ x.1))
+
       no_end : (n : Indices) (o : Option Bool) → (o ≡ Some true → ⊥) → AddsEnd n t o []
       no_end n (Some true) f = absurd (f refl)
       no_end n (Some false) f = refl
@@ -161,28 +162,31 @@ module _ (id : TableId) (ls rest : List Line) (t : List ℕ) (d e : Driver) wher
       mine = x.goes.mine ∙ (ap (λ (es : Events). es ++ own) c.records.mine ∙ append_assoc c.records.own c.records.closing own);
       table = with_entry t false c.records.table;
       open_ = λ u h. by_name t u _
-        (λ s. absurd (false_true (sym (ap (λ b. cond b (Some false) (c.past.opened u)) (subst (λ v. bytes_eq v u ≡ true) (sym s) (own_name u))) ∙ h)))
-        (λ f. ap (λ b. cond b (Some false) (c.records.table u)) f ∙ c.records.open_ u (sym (ap (λ b. cond b (Some false) (c.past.opened u)) f) ∙ h));
+          (λ s. absurd (false_true (sym (ap (λ b. cond b (Some false) (c.past.opened u)) (subst (λ v. bytes_eq v u ≡ true) (sym s) (own_name u))) ∙ h)))
+          (λ f. ap (λ b. cond b (Some false) (c.records.table u)) f ∙ c.records.open_ u (sym (ap (λ b. cond b (Some false) (c.past.opened u)) f) ∙ h));
       only = λ u h. by_name t u _
-        (λ s. absurd (false_true (sym (ap (λ b. cond b (Some false) (c.records.table u)) (subst (λ v. bytes_eq v u ≡ true) (sym s) (own_name u))) ∙ h)))
-        (λ f. ap (λ b. cond b (Some false) (c.past.opened u)) f ∙ c.records.only u (sym (ap (λ b. cond b (Some false) (c.records.table u)) f) ∙ h));
+          (λ s. absurd (false_true (sym (ap (λ b. cond b (Some false) (c.records.table u)) (subst (λ v. bytes_eq v u ≡ true) (sym s) (own_name u))) ∙ h)))
+          (λ f. ap (λ b. cond b (Some false) (c.past.opened u)) f ∙ c.records.only u (sym (ap (λ b. cond b (Some false) (c.records.table u)) f) ∙ h));
       ends = λ es h. subst (AddsEnds c.records.indices (after_all nothing ls).opened ls) (sym (append_assoc c.records.closing own es))
-        (c.records.ends (own ++ es) (own, es, subst (λ (o : Option Bool). AddsEnd c.records.indices t o own) (sym (c.records.open_ t open_now)) (record { transaction = x.transaction.opened; opened = c.records.knows.opened t x.transaction x.held; adds = refl }), h, refl));
+          (c.records.ends (own ++ es) (own, es, subst (λ (o : Option Bool). AddsEnd c.records.indices t o own) (sym (c.records.open_ t open_now)) (record { transaction = x.transaction.opened; opened = c.records.knows.opened t x.transaction x.held; adds = refl }), h, refl));
       left = λ u h. by_name t u _
-        (λ s. absurd (false_true (sym (ap (λ b. cond b (Some false) (c.past.opened u)) (subst (λ v. bytes_eq v u ≡ true) (sym s) (own_name u))) ∙ h)))
-        (λ f. elim (c.records.left u (sym (ap (λ b. cond b (Some false) (c.past.opened u)) f) ∙ h)) as (λ _. OpenedIn rest u) [
-          | inl s ↦ absurd (true_false (sym (subst (λ v. bytes_eq t v ≡ true) s (own_name t)) ∙ f))
-          | inr b ↦ b
-        ]);
+          (λ s. absurd (false_true (sym (ap (λ b. cond b (Some false) (c.past.opened u)) (subst (λ v. bytes_eq v u ≡ true) (sym s) (own_name u))) ∙ h)))
+          (λ f. elim (c.records.left u (sym (ap (λ b. cond b (Some false) (c.past.opened u)) f) ∙ h)) as (λ _. OpenedIn rest u) [
+            | inl s ↦ absurd (true_false (sym (subst (λ v. bytes_eq t v ≡ true) s (own_name t)) ∙ f))
+            | inr b ↦ b
+          ]);
     };
   }
     where
       w : Steps id (is_cancelled ls) (plan_of ls) c.past (Close t) d e
       w = close_stands id (is_cancelled ls) d e (plan_of ls) c.past t c.stands x
+
       own : Events
       own = told.Close 0 x.transaction.opened ∷ []
+
       open_now : c.past.opened t ≡ Some true
       open_now = (c.stands.open_ t x.transaction x.held).2
+
       true_false : true ≡ false → ⊥
       true_false e = cc
 

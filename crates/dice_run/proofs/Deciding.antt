@@ -71,6 +71,7 @@ before_it (x ∷ xs) (y ∷ ys) later rest e s n =
   where
     heads : y ∷ (ys ++ e ∷ later) ≡ x ∷ (xs ++ rest) → y ≡ x
     heads s = cc
+
     tails : y ∷ (ys ++ e ∷ later) ≡ x ∷ (xs ++ rest) → ys ++ e ∷ later ≡ xs ++ rest
     tails s = cc
 
@@ -100,4 +101,4 @@ decided_at_close J before later t v k l e w =
     let there = stands_longer w.earlier before t (Open 0 v) starts w.opening in
     let same : o.version ≡ v = ap version_in (some_same (sym (open_stands (reverse before) t o a.0.1) ∙ (from_front before t ∙ there))) in
     subst (λ (R : Events). (d : Decision) × (decided key_equal R v k ≡ Some d)) (sym cut)
-      (decided_back (reverse starts.0) (reverse w.earlier) t v k o (subst (IsLawfulBack key_equal buck) cut a.1) below (subst (λ (R : Events). open_at R t ≡ Some o) cut a.0.1) same w.decided)
+    (decided_back (reverse starts.0) (reverse w.earlier) t v k o (subst (IsLawfulBack key_equal buck) cut a.1) below (subst (λ (R : Events). open_at R t ≡ Some o) cut a.0.1) same w.decided)

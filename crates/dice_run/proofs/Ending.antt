@@ -202,8 +202,8 @@ settling_waited id ls d e past q s some alive w r = record {
   stands = w.stands;
   newest = w.newest ∙ (append-nil d.newest.items ∙ s.newest);
   given_up = λ n. by_bool (bytes_eq q n) _
-    (λ t. ap is_given_up ((waited_fate past q n some).0 t) ∙ (sym alive ∙ ap (is_cancelled ls) ((bytes_eq-Decides q n).0 t)))
-    (λ f. ap is_given_up ((waited_fate past q n some).1 f) ∙ s.given_up n);
+      (λ t. ap is_given_up ((waited_fate past q n some).0 t) ∙ (sym alive ∙ ap (is_cancelled ls) ((bytes_eq-Decides q n).0 t)))
+      (λ f. ap is_given_up ((waited_fate past q n some).1 f) ∙ s.given_up n);
 }
 
 pub waiting_first : (id : TableId) (ls : List Line) (d : Driver) → Carried id ls d → Waiting id ls ls d
@@ -258,14 +258,14 @@ waiting_more id ls rest l q d e w f some s = by_bool (is_cancelled ls q) _
       plan = planned (is_cancelled ls) w.plan l;
       whole = w.whole;
       left = λ r h n. by_bool (bytes_eq q r.name) _
-        (λ t. inl ((waited_fate w.past q r.name some).0 t))
-        (λ u. elim (w.left r h n) as (λ _. (fate_of (after w.past (Wait q)) r.name ≡ Some fate.Answered) ⊎ AskedIn rest r.name) [
-          | inl a ↦ inl ((waited_fate w.past q r.name some).1 u ∙ a)
-          | inr b ↦ elim (f r.name b) as (λ _. (fate_of (after w.past (Wait q)) r.name ≡ Some fate.Answered) ⊎ AskedIn rest r.name) [
-            | inl i ↦ absurd (true_false (sym ((bytes_eq-Decides q r.name).1 i) ∙ u))
-            | inr j ↦ inr j
-          ]
-        ]);
+          (λ t. inl ((waited_fate w.past q r.name some).0 t))
+          (λ u. elim (w.left r h n) as (λ _. (fate_of (after w.past (Wait q)) r.name ≡ Some fate.Answered) ⊎ AskedIn rest r.name) [
+            | inl a ↦ inl ((waited_fate w.past q r.name some).1 u ∙ a)
+            | inr b ↦ elim (f r.name b) as (λ _. (fate_of (after w.past (Wait q)) r.name ≡ Some fate.Answered) ⊎ AskedIn rest r.name) [
+              | inl i ↦ absurd (true_false (sym ((bytes_eq-Decides q r.name).1 i) ∙ u))
+              | inr j ↦ inr j
+            ]
+          ]);
     })
 
 -- the request of a line is one of the plan's
@@ -282,6 +282,7 @@ closed_fate past t n e = by_asked (past.asked n) refl
     by_fate true fate.Pending e = (let z : fate.Pending ≡ fate.Answered = e in cc)
     by_fate true fate.Cancelled e = (let z : fate.Cancelled ≡ fate.Answered = e in cc)
     by_fate false f e = e
+
     by_asked : (o : Option Asked) → past.asked n ≡ o → fate_of (after past (Close t)) n ≡ Some fate.Answered
     by_asked None h = absurd (none_some (sym (ap (option_map (λ (a : Asked). a.fate)) h) ∙ e))
     by_asked (Some a) h =

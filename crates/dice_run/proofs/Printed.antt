@@ -143,6 +143,7 @@ open_prints ls d t u name x = record {
     looked p q en e =
         ap (λ b. cond b (Some t.newest) (get (pointwise nat_eq) t.versions q)) (nat_list_eq_equiv.symm name q)
         ∙ (ap (λ n. cond (bytes_eq q name) (Some n) (get (pointwise nat_eq) t.versions q)) en ∙ ap (cond (bytes_eq q name) (Some (length p.log))) e)
+
     known_now : (p : Plan) (past : Past) (q : List ℕ) → (past.opened q ≡ Some true → (v : ℕ) × (lookup (bytes_eq q) p.opened ≡ Some v)) → (after past (Open name)).opened q ≡ Some true → (v : ℕ) × (lookup (bytes_eq q) ((name, length p.log) ∷ p.opened) ≡ Some v)
     known_now p past q k h = by_test (bytes_eq q name) (ap (λ b. cond b (Some true) (past.opened q)) (nat_list_eq_equiv.symm q name) ∙ h)
       where
@@ -180,16 +181,18 @@ module _ (ls rest : List Line) (d : Driver) (t : Printer) (p : Plan) (past : Pas
     where
       version_is : v ≡ version_of r.transaction p.opened
       version_is = ap (λ o. unwrap_or o 0) (sym known ∙ s.versions r.transaction)
+
       some_same : {X : Type 0} {x y : X} → Some x ≡ Some y → x ≡ y
       some_same e = cc
+
       by_test : (b : Bool) → is_cancelled ls r.name ≡ b → IsReply b d r v text → IsRepliedAs b (log_of (plan_of ls).log) (wanted (is_cancelled ls) p r w) text
       by_test true c e = e ∙ ap (cancelled_line r.name) version_is
       by_test false c e =
           let a = done.told (wanted (is_cancelled ls) p r w) request_had c in
           let same : a.0 ≡ e.0 = some_same (sym a.1 ∙ e.1) in
           subst (λ x. IsAnswered (log_of (plan_of ls).log) (wanted (is_cancelled ls) p r w) x)
-              (ap (λ n. r.name ++ 32 ∷ decimal n ++ 32 ∷ e.0) (sym version_is) ∙ sym e.2)
-              (answered_so (log_of (plan_of ls).log) (wanted (is_cancelled ls) p r w) e.0 (subst (IsToldOf (log_of (plan_of ls).log) (version_of r.transaction p.opened) (key_of w)) same a.2))
+          (ap (λ n. r.name ++ 32 ∷ decimal n ++ 32 ∷ e.0) (sym version_is) ∙ sym e.2)
+          (answered_so (log_of (plan_of ls).log) (wanted (is_cancelled ls) p r w) e.0 (subst (IsToldOf (log_of (plan_of ls).log) (version_of r.transaction p.opened) (key_of w)) same a.2))
 
 has_last : {X : Type 0} (xs : List X) (y : X) → Has (xs ++ y ∷ []) y
 has_last [] y = inl refl

@@ -135,14 +135,14 @@ put_records p past path bytes d e seat k ls rest r =
     let b : StartsWith e.seat.seen d.seat.seen = ([], ap (λ (s : Place). s.seen) seat ∙ sym (append-nil d.seat.seen)) in
     let m : e.seat.mine ≡ d.seat.mine ++ [] = ap (λ (s : Place). s.mine) seat ∙ sym (append-nil d.seat.mine) in
     records_on ls rest (line.Put path bytes) d e p past r b [] r.indices (λ J s. (refl, refl)) m
-      (knows_kept d e p (planned (is_cancelled ls) p (line.Put path bytes)) past (after past (line.Put path bytes)) r.indices [] b m k refl refl refl r.knows)
+    (knows_kept d e p (planned (is_cancelled ls) p (line.Put path bytes)) past (after past (line.Put path bytes)) r.indices [] b m k refl refl refl r.knows)
 
 pub drop_records : (p : Plan) (past : Past) (path : List ℕ) (d e : Driver) → e.seat ≡ d.seat → KeepsNames d e → RecordsStep p past (line.Drop path) d e
 drop_records p past path d e seat k ls rest r =
     let b : StartsWith e.seat.seen d.seat.seen = ([], ap (λ (s : Place). s.seen) seat ∙ sym (append-nil d.seat.seen)) in
     let m : e.seat.mine ≡ d.seat.mine ++ [] = ap (λ (s : Place). s.mine) seat ∙ sym (append-nil d.seat.mine) in
     records_on ls rest (line.Drop path) d e p past r b [] r.indices (λ J s. (refl, refl)) m
-      (knows_kept d e p (planned (is_cancelled ls) p (line.Drop path)) past (after past (line.Drop path)) r.indices [] b m k refl refl refl r.knows)
+    (knows_kept d e p (planned (is_cancelled ls) p (line.Drop path)) past (after past (line.Drop path)) r.indices [] b m k refl refl refl r.knows)
 
 -- the event of a commit, in the universe's terms and in the script's
 commit_same : (C : List (List (Key × Value))) (g : List (Key × Value)) (p : Plan) → C ≡ log_of p.log → g ≡ pairs_of_changes p.gathered → event_of 0 (differing_from key_equal value_equal buck C g) ≡ commit_events p
@@ -155,7 +155,7 @@ pub commit_records : (id : TableId) (p : Plan) (past : Past) (d e : Driver) → 
 commit_records id p past d e m goes k ls rest r =
     let own = event_of 0 (differing_from key_equal value_equal buck (log_in d.seat) d.gathered) in
     records_on ls rest line.Commit d e p past r goes.later.begins own r.indices (λ J s. (commit_same (log_in d.seat) d.gathered p m.log m.gathered, refl)) goes.mine
-      (knows_kept d e p (planned (is_cancelled ls) p line.Commit) past (after past line.Commit) r.indices own goes.later.begins goes.mine k refl refl refl r.knows)
+    (knows_kept d e p (planned (is_cancelled ls) p line.Commit) past (after past line.Commit) r.indices own goes.later.begins goes.mine k refl refl refl r.knows)
 
 -- ---- open
 
@@ -166,18 +166,18 @@ module _ (id : TableId) (d e : Driver) (p : Plan) (past : Past) (t : List ℕ) (
   knows_opened : (ends : Ends) (n : Indices) → KnowsIndices d p past n → KnowsIndices e (planned ends p (line.Open t)) (after past (line.Open t)) (record n { opened = with_entry t x.transaction.opened n.opened })
   knows_opened ends n i = record {
     opened = λ q y h. by_name t q _
-      (λ s. ap (λ b. cond b (Some x.transaction.opened) (n.opened q)) (subst (λ u. bytes_eq u q ≡ true) (sym s) (own_name q))
+        (λ s. ap (λ b. cond b (Some x.transaction.opened) (n.opened q)) (subst (λ u. bytes_eq u q ≡ true) (sym s) (own_name q))
         ∙ ap Some (ap (λ (z : Transaction). z.opened) (some_same (sym (at_name t (Some x.transaction) (transaction_of d)) ∙ (sym (x.transactions t) ∙ (ap (transaction_of e) s ∙ h))))))
-      (λ f. ap (λ b. cond b (Some x.transaction.opened) (n.opened q)) f ∙ i.opened q y (sym (past_name t q (Some x.transaction) (transaction_of d) f) ∙ (sym (x.transactions q) ∙ h)));
+        (λ f. ap (λ b. cond b (Some x.transaction.opened) (n.opened q)) f ∙ i.opened q y (sym (past_name t q (Some x.transaction) (transaction_of d) f) ∙ (sym (x.transactions q) ∙ h)));
     asked = λ q y h. i.asked q y (ap (λ v. get (pointwise nat_eq) v q) (sym x.promises) ∙ h);
     closed = λ u h. by_name t u _
-      (λ s. absurd (true_none (sym (ap (λ b. cond b (Some true) (past.opened u)) (subst (λ w. bytes_eq w u ≡ true) (sym s) (own_name u))) ∙ h)))
-      (λ f. (let c = i.closed u (sym (ap (λ b. cond b (Some true) (past.opened u)) f) ∙ h) in
-          (c.0, ap (λ b. cond b (Some x.transaction.opened) (n.opened u)) f ∙ c.1, subst (λ (xs : Events). Has xs (told.Close 0 c.0)) (sym x.opens.goes.mine) (has_left d.seat.mine open_own _ c.2))));
+        (λ s. absurd (true_none (sym (ap (λ b. cond b (Some true) (past.opened u)) (subst (λ w. bytes_eq w u ≡ true) (sym s) (own_name u))) ∙ h)))
+        (λ f. (let c = i.closed u (sym (ap (λ b. cond b (Some true) (past.opened u)) f) ∙ h) in
+        (c.0, ap (λ b. cond b (Some x.transaction.opened) (n.opened u)) f ∙ c.1, subst (λ (xs : Events). Has xs (told.Close 0 c.0)) (sym x.opens.goes.mine) (has_left d.seat.mine open_own _ c.2))));
     requests = λ r h. (let z = i.requests r h in
         let f = other_name t r.transaction (λ s. z.known (ap past.opened (sym s) ∙ new)) in
         recorded_on d.seat.seen e.seat.seen n (record n { opened = with_entry t x.transaction.opened n.opened }) past (after past (line.Open t)) r x.opens.goes.later.begins
-          (ap (λ b. cond b (Some x.transaction.opened) (n.opened r.transaction)) f) (λ g y. g (sym (ap (λ b. cond b (Some true) (past.opened r.transaction)) f) ∙ y)) (λ y. y) z);
+        (ap (λ b. cond b (Some x.transaction.opened) (n.opened r.transaction)) f) (λ g y. g (sym (ap (λ b. cond b (Some true) (past.opened r.transaction)) f) ∙ y)) (λ y. y) z);
   }
     where
       true_none : Some true ≡ Some false → ⊥
@@ -186,17 +186,17 @@ module _ (id : TableId) (d e : Driver) (p : Plan) (past : Past) (t : List ℕ) (
   pub open_records : (version : ℕ) → x.transaction.version ≡ length p.log → RecordsStep p past (line.Open t) d e
   open_records version v ls rest r =
       records_on ls rest (line.Open t) d e p past r x.opens.goes.later.begins open_own (record r.indices { opened = with_entry t x.transaction.opened r.indices.opened })
-        (λ J s. record {
-          index = x.transaction.opened;
-          next = next_on e.seat.seen J d.seat.mine (told.Open 0 (length p.log)) x.transaction.opened s (record {
-            stands = subst (λ w. StandsAt e.seat.seen x.transaction.opened (told.Open 0 w)) v (subst (λ n. StandsAt e.seat.seen x.transaction.opened (told.Open n x.transaction.version)) x.opens.goes.ours.number x.opens.has.opening);
-            before = x.opens.before;
-          });
-          adds = ap (λ w. told.Open 0 w ∷ []) v;
-          indices = refl;
-        })
-        x.opens.goes.mine
-        (knows_opened (is_cancelled ls) r.indices r.knows)
+      (λ J s. record {
+        index = x.transaction.opened;
+        next = next_on e.seat.seen J d.seat.mine (told.Open 0 (length p.log)) x.transaction.opened s (record {
+          stands = subst (λ w. StandsAt e.seat.seen x.transaction.opened (told.Open 0 w)) v (subst (λ n. StandsAt e.seat.seen x.transaction.opened (told.Open n x.transaction.version)) x.opens.goes.ours.number x.opens.has.opening);
+          before = x.opens.before;
+        });
+        adds = ap (λ w. told.Open 0 w ∷ []) v;
+        indices = refl;
+      })
+      x.opens.goes.mine
+      (knows_opened (is_cancelled ls) r.indices r.knows)
 
 -- ---- ask and action
 
@@ -227,6 +227,7 @@ module _ (id : TableId) (d e : Driver) (p : Plan) (past : Past) (r : Request) (w
     where
       some_none : Some true ≡ None → ⊥
       some_none e = cc
+
       new_recorded : (wish : Wish) → IsRecorded e.seat.seen (ask_indices n) (after past (line.Ask r)) (wanted ends p r wish)
       new_recorded wish = record {
         transaction = x.transaction.opened;
@@ -234,18 +235,20 @@ module _ (id : TableId) (d e : Driver) (p : Plan) (past : Past) (r : Request) (w
         known = λ h. some_none (sym new.opened ∙ h);
         decided = λ h. absurd (pending_now r.name (own_name r.name) h);
       }
+
       old_recorded : (s : Planned) → Has p.requests s → IsRecorded e.seat.seen (ask_indices n) (after past (line.Ask r)) s
       old_recorded s h =
           let f = other_request id d p past r.name s m new.free h in
           recorded_on d.seat.seen e.seat.seen n (ask_indices n) past (after past (line.Ask r)) s x.asks.goes.later.begins refl (λ g. g)
-            (λ z. sym (ap (λ b. option_map (λ (a : Asked). a.fate) (cond b (Some (made_in r.transaction)) (past.asked s.name))) f) ∙ z) (i.requests s h)
+          (λ z. sym (ap (λ b. option_map (λ (a : Asked). a.fate) (cond b (Some (made_in r.transaction)) (past.asked s.name))) f) ∙ z) (i.requests s h)
+
       both : (wish : Wish) → KnowsIndices e (record p { requests = p.requests ++ wanted ends p r wish ∷ [] }) (after past (line.Ask r)) (ask_indices n)
       both wish = record {
         opened = λ t y h. i.opened t y (sym (ask_transaction t) ∙ h);
         asked = λ q y h. by_name r.name q _
-          (λ s. ap (λ b. cond b (Some x.pledge.ask) (n.asked q)) (subst (λ u. bytes_eq u q ≡ true) (sym s) (own_name q))
+            (λ s. ap (λ b. cond b (Some x.pledge.ask) (n.asked q)) (subst (λ u. bytes_eq u q ≡ true) (sym s) (own_name q))
             ∙ ap Some (ap (λ (z : Pledge). z.ask) (some_same (sym (at_name r.name (Some x.pledge) (pledge_of d)) ∙ (sym (x.promises r.name) ∙ (ap (pledge_of e) s ∙ h))))))
-          (λ f. ap (λ b. cond b (Some x.pledge.ask) (n.asked q)) f ∙ i.asked q y (sym (past_name r.name q (Some x.pledge) (pledge_of d) f) ∙ (sym (x.promises q) ∙ h)));
+            (λ f. ap (λ b. cond b (Some x.pledge.ask) (n.asked q)) f ∙ i.asked q y (sym (past_name r.name q (Some x.pledge) (pledge_of d) f) ∙ (sym (x.promises q) ∙ h)));
         closed = λ t h. (let c = i.closed t h in (c.0, c.1, subst (λ (xs : Events). Has xs (told.Close 0 c.0)) (sym x.asks.goes.mine) (has_left d.seat.mine ask_own _ c.2)));
         requests = λ s h. elim (has_end p.requests (wanted ends p r wish) s h) as (λ _. IsRecorded e.seat.seen (ask_indices n) (after past (line.Ask r)) s) [
           | inl a ↦ old_recorded s a
@@ -271,12 +274,12 @@ module _ (id : TableId) (d e : Driver) (p : Plan) (past : Past) (r : Request) (w
 pub ask_records : (id : TableId) (p : Plan) (past : Past) (r : Request) (d e : Driver) → Matches id d p past → IsNew past r → DidAsk id r (key.Digest r.label) d e → RecordsStep p past (line.Ask r) d e
 ask_records id p past r d e m new x ls rest z =
     records_on ls rest (line.Ask r) d e p past z x.asks.goes.later.begins (ask_own id d e p past r (Digest r.label) m new x) (ask_indices id d e p past r (Digest r.label) m new x z.indices)
-      (ask_adds id d e p past r (Digest r.label) m new x z.indices z.knows) x.asks.goes.mine (knows_asked id d e p past r (Digest r.label) m new x (is_cancelled ls) z.indices z.knows).0
+    (ask_adds id d e p past r (Digest r.label) m new x z.indices z.knows) x.asks.goes.mine (knows_asked id d e p past r (Digest r.label) m new x (is_cancelled ls) z.indices z.knows).0
 
 pub action_records : (id : TableId) (p : Plan) (past : Past) (r : Request) (d e : Driver) → Matches id d p past → IsNew past r → DidAsk id r (key.Action r.label) d e → RecordsStep p past (line.Action r) d e
 action_records id p past r d e m new x ls rest z =
     records_on ls rest (line.Action r) d e p past z x.asks.goes.later.begins (ask_own id d e p past r (Text r.label) m new x) (ask_indices id d e p past r (Text r.label) m new x z.indices)
-      (ask_adds id d e p past r (Text r.label) m new x z.indices z.knows) x.asks.goes.mine (knows_asked id d e p past r (Text r.label) m new x (is_cancelled ls) z.indices z.knows).1
+    (ask_adds id d e p past r (Text r.label) m new x z.indices z.knows) x.asks.goes.mine (knows_asked id d e p past r (Text r.label) m new x (is_cancelled ls) z.indices z.knows).1
 
 -- ---- wait
 
@@ -327,10 +330,12 @@ module _ (id : TableId) (d e : Driver) (p : Plan) (past : Past) (q : List ℕ) (
       where
         made : IsMade d past r
         made = m.requests r h
+
         at_fate : (f : Fate) → made.asked.fate ≡ f → r.name ≡ q → IsAt d r f → WasDecided d.seat.seen i.transaction r.version (key_of r.wish)
         at_fate fate.Pending g s a = absurd (none_some (sym none ∙ (ap (pledge_of d) (sym s) ∙ a.held)))
         at_fate fate.Answered g s a = i.decided (ap (option_map (λ (b : Asked). b.fate)) made.made ∙ ap Some g)
         at_fate fate.Cancelled g s a = absurd (dead r s made g)
+
         again : r.name ≡ q → WasDecided d.seat.seen i.transaction r.version (key_of r.wish)
         again s = at_fate made.asked.fate refl s made.at
 
@@ -352,6 +357,7 @@ module _ (id : TableId) (d e : Driver) (p : Plan) (past : Past) (q : List ℕ) (
       where
         made : IsMade d past r
         made = m.requests r h
+
         pending : (a : IsPending d r) → r.name ≡ q → WasDecided e.seat.seen i.transaction r.version (key_of r.wish)
         pending a s =
             let same : a.pledge ≡ x = some_same (sym a.held ∙ (ap (pledge_of d) s ∙ held)) in
@@ -370,6 +376,7 @@ module _ (id : TableId) (d e : Driver) (p : Plan) (past : Past) (q : List ℕ) (
               open_ = subst (λ n. NotClosed n e.seat.seen) index (unclosed_seen id e.seat a.pledge.opened goes.ours closed);
               decided = subst (λ u. IsDecidedIn e.seat.seen u (key_of r.wish)) v (subst (IsDecidedIn e.seat.seen x.version) k (decides (λ z. computed r.wish (ap buck.kind (sym k) ∙ z))));
             }
+
         at_fate : (f : Fate) → made.asked.fate ≡ f → r.name ≡ q → IsAt d r f → WasDecided e.seat.seen i.transaction r.version (key_of r.wish)
         at_fate fate.Pending g s a = pending a s
         at_fate fate.Answered g s a = absurd (none_some (sym a.0 ∙ (ap (pledge_of d) s ∙ held)))
@@ -379,8 +386,8 @@ module _ (id : TableId) (d e : Driver) (p : Plan) (past : Past) (q : List ℕ) (
     knows_now n i = record {
       opened = λ t y h. i.opened t y (ap (λ v. get (pointwise nat_eq) v t) (sym transactions) ∙ h);
       asked = λ u y h. by_name q u _
-        (λ s. absurd (none_some (sym (promises q ∙ at_name q None (pledge_of d)) ∙ (ap (pledge_of e) s ∙ h))))
-        (λ f. i.asked u y (sym (past_name q u None (pledge_of d) f) ∙ (sym (promises u) ∙ h)));
+          (λ s. absurd (none_some (sym (promises q ∙ at_name q None (pledge_of d)) ∙ (ap (pledge_of e) s ∙ h))))
+          (λ f. i.asked u y (sym (past_name q u None (pledge_of d) f) ∙ (sym (promises u) ∙ h)));
       closed = λ t h. (let c = i.closed t h in (c.0, c.1, subst (λ (xs : Events). Has xs (told.Close 0 c.0)) (sym (goes.mine ∙ append-nil d.seat.mine)) c.2));
       requests = λ r h. now_recorded n i r h (i.requests r h);
     }
@@ -427,8 +434,8 @@ module _ (id : TableId) (d e : Driver) (p : Plan) (past : Past) (q : List ℕ) (
   knows_cancelled n i = record {
     opened = λ t y h. i.opened t y (ap (λ v. get (pointwise nat_eq) v t) (sym x.transactions) ∙ h);
     asked = λ u y h. by_name q u _
-      (λ s. absurd (none_some (sym (x.promises q ∙ at_name q None (pledge_of d)) ∙ (ap (pledge_of e) s ∙ h))))
-      (λ f. i.asked u y (sym (past_name q u None (pledge_of d) f) ∙ (sym (x.promises u) ∙ h)));
+        (λ s. absurd (none_some (sym (x.promises q ∙ at_name q None (pledge_of d)) ∙ (ap (pledge_of e) s ∙ h))))
+        (λ f. i.asked u y (sym (past_name q u None (pledge_of d) f) ∙ (sym (x.promises u) ∙ h)));
     closed = λ t h. (let c = i.closed t h in (c.0, c.1, subst (λ (xs : Events). Has xs (told.Close 0 c.0)) (sym x.goes.mine) (has_left d.seat.mine (told.Leave 0 x.pledge.ask ∷ []) _ c.2)));
     requests = λ r h. recorded_on d.seat.seen e.seat.seen n n past cancels r x.goes.later.begins refl (λ g. g) (cancels_fate r.name) (i.requests r h);
   }
@@ -436,7 +443,7 @@ module _ (id : TableId) (d e : Driver) (p : Plan) (past : Past) (q : List ℕ) (
   pub cancel_records : RecordsStep p past (line.Cancel q) d e
   cancel_records ls rest r =
       records_on ls rest (line.Cancel q) d e p past r x.goes.later.begins (told.Leave 0 x.pledge.ask ∷ []) r.indices
-        (λ J s. (record { ask = x.pledge.ask; asked = r.knows.asked q x.pledge x.held; adds = refl }, refl)) x.goes.mine (knows_cancelled r.indices r.knows)
+      (λ J s. (record { ask = x.pledge.ask; asked = r.knows.asked q x.pledge x.held; adds = refl }, refl)) x.goes.mine (knows_cancelled r.indices r.knows)
 
 -- ---- close
 
@@ -455,6 +462,7 @@ module _ (id : TableId) (d e : Driver) (p : Plan) (past : Past) (t : List ℕ) (
       by_fate true fate.Pending z = (let y : Some fate.Cancelled ≡ Some fate.Answered = z in cc)
       by_fate true fate.Cancelled z = (let y : Some fate.Cancelled ≡ Some fate.Answered = z in cc)
       by_fate false f z = z
+
       by_asked : (o : Option Asked) → option_map (λ (a : Asked). a.fate) (left_by t o) ≡ Some fate.Answered → option_map (λ (a : Asked). a.fate) o ≡ Some fate.Answered
       by_asked None z = z
       by_asked (Some a) z = by_fate (bytes_eq t a.transaction) a.fate z
@@ -466,17 +474,18 @@ module _ (id : TableId) (d e : Driver) (p : Plan) (past : Past) (t : List ℕ) (
   pub knows_closed : (n : Indices) → KnowsIndices d p past n → KnowsIndices e p closes n
   knows_closed n i = record {
     opened = λ u y h. by_name t u _
-      (λ s. absurd (none_some (sym (x.transactions t ∙ at_name t None (transaction_of d)) ∙ (ap (transaction_of e) s ∙ h))))
-      (λ f. i.opened u y (sym (past_name t u None (transaction_of d) f) ∙ (sym (x.transactions u) ∙ h)));
+        (λ s. absurd (none_some (sym (x.transactions t ∙ at_name t None (transaction_of d)) ∙ (ap (transaction_of e) s ∙ h))))
+        (λ f. i.opened u y (sym (past_name t u None (transaction_of d) f) ∙ (sym (x.transactions u) ∙ h)));
     asked = λ u y h. i.asked u y (ap (λ v. get (pointwise nat_eq) v u) (sym x.promises) ∙ h);
     closed = λ u h. by_name t u _
-      (λ s. (x.transaction.opened, ap n.opened (sym s) ∙ i.opened t x.transaction x.held, subst (λ (xs : Events). Has xs (told.Close 0 x.transaction.opened)) (sym x.goes.mine) (has_last d.seat.mine (told.Close 0 x.transaction.opened))))
-      (λ f. (let c = i.closed u (sym (ap (λ b. cond b (Some false) (past.opened u)) f) ∙ h) in (c.0, c.1, subst (λ (xs : Events). Has xs (told.Close 0 c.0)) (sym x.goes.mine) (has_left d.seat.mine close_own _ c.2))));
+        (λ s. (x.transaction.opened, ap n.opened (sym s) ∙ i.opened t x.transaction x.held, subst (λ (xs : Events). Has xs (told.Close 0 x.transaction.opened)) (sym x.goes.mine) (has_last d.seat.mine (told.Close 0 x.transaction.opened))))
+        (λ f. (let c = i.closed u (sym (ap (λ b. cond b (Some false) (past.opened u)) f) ∙ h) in (c.0, c.1, subst (λ (xs : Events). Has xs (told.Close 0 c.0)) (sym x.goes.mine) (has_left d.seat.mine close_own _ c.2))));
     requests = λ r h. recorded_on d.seat.seen e.seat.seen n n past closes r x.goes.later.begins refl (known r.transaction) (closes_fate r.name) (i.requests r h);
   }
     where
       false_none : Some false ≡ None → ⊥
       false_none e = cc
+
       known : (u : List ℕ) → past.opened u ≢ None → closes.opened u ≢ None
       known u g h = by_test (bytes_eq t u) h
         where
@@ -487,4 +496,4 @@ module _ (id : TableId) (d e : Driver) (p : Plan) (past : Past) (t : List ℕ) (
   pub close_records : RecordsStep p past (line.Close t) d e
   close_records ls rest r =
       records_on ls rest (line.Close t) d e p past r x.goes.later.begins close_own r.indices
-        (λ J s. (record { transaction = x.transaction.opened; opened = r.knows.opened t x.transaction x.held; adds = refl }, refl)) x.goes.mine (knows_closed r.indices r.knows)
+      (λ J s. (record { transaction = x.transaction.opened; opened = r.knows.opened t x.transaction x.held; adds = refl }, refl)) x.goes.mine (knows_closed r.indices r.knows)

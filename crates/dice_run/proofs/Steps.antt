@@ -283,20 +283,18 @@ module _ (id : TableId) (ends : Ends) (d e : Driver) (p : Plan) (past : Past) (t
   opens_open : (q : List ℕ) (y : Transaction) → transaction_of e q ≡ Some y → HasOpen e.seat y.opened y.version × (lookup (bytes_eq q) ((t, length p.log) ∷ p.opened) ≡ Some y.version) × ((after past (line.Open t)).opened q ≡ Some true)
   opens_open q y h = by_name t q _
       (λ s.
-        let is : x.transaction ≡ y = some_same (sym (at_name t (Some x.transaction) (transaction_of d)) ∙ (sym (x.transactions t) ∙ (ap (transaction_of e) s ∙ h))) in
-        (
-          subst (λ (z : Transaction). HasOpen e.seat z.opened z.version) is x.opens.has,
-          ap (λ b. cond b (Some (length p.log)) (lookup (bytes_eq q) p.opened)) (subst (λ u. bytes_eq q u ≡ true) (sym s) (own_name q)) ∙ ap Some (sym version_is ∙ ap (λ (z : Transaction). z.version) is),
-          ap (λ b. cond b (Some true) (past.opened q)) (subst (λ u. bytes_eq u q ≡ true) (sym s) (own_name q)),
-        ))
+      let is : x.transaction ≡ y = some_same (sym (at_name t (Some x.transaction) (transaction_of d)) ∙ (sym (x.transactions t) ∙ (ap (transaction_of e) s ∙ h))) in (
+        subst (λ (z : Transaction). HasOpen e.seat z.opened z.version) is x.opens.has,
+        ap (λ b. cond b (Some (length p.log)) (lookup (bytes_eq q) p.opened)) (subst (λ u. bytes_eq q u ≡ true) (sym s) (own_name q)) ∙ ap Some (sym version_is ∙ ap (λ (z : Transaction). z.version) is),
+        ap (λ b. cond b (Some true) (past.opened q)) (subst (λ u. bytes_eq u q ≡ true) (sym s) (own_name q)),
+      ))
       (λ f.
-        let old : transaction_of d q ≡ Some y = sym (past_name t q (Some x.transaction) (transaction_of d) f) ∙ (sym (x.transactions q) ∙ h) in
-        let z = m.open_ q y old in
-        (
-          still_open d.seat e.seat opens_own opens_onward y.opened y.version tt z.0,
-          open_looked t q (length p.log) p.opened f ∙ z.1,
-          ap (λ b. cond b (Some true) (past.opened q)) f ∙ z.2,
-        ))
+      let old : transaction_of d q ≡ Some y = sym (past_name t q (Some x.transaction) (transaction_of d) f) ∙ (sym (x.transactions q) ∙ h) in
+      let z = m.open_ q y old in (
+        still_open d.seat e.seat opens_own opens_onward y.opened y.version tt z.0,
+        open_looked t q (length p.log) p.opened f ∙ z.1,
+        ap (λ b. cond b (Some true) (past.opened q)) f ∙ z.2,
+      ))
 
   -- what was opened before has a lower index
   opens_below : (q : List ℕ) (y : Transaction) → transaction_of d q ≡ Some y → y.opened < x.transaction.opened
@@ -394,9 +392,9 @@ module _ (id : TableId) (ends : Ends) (d e : Driver) (p : Plan) (past : Past) (r
   old_made s h =
       let f = other_request id d p past r.name s m new.free h in
       made_still d e asks_own asks_onward [] (asks_log ∙ sym (append-nil (log_in d.seat))) s past (after past (line.Ask r))
-          (ap (λ b. cond b (Some (made_in r.transaction)) (past.asked s.name)) f) (λ y i. tt)
-          (x.promises s.name ∙ past_name r.name s.name (Some x.pledge) (pledge_of d) f)
-          (ap (λ v. option_map (λ u. u.items) (get (pointwise nat_eq) v s.name)) x.answers) (λ y i. asks_transaction s.transaction ∙ i) (m.requests s h)
+      (ap (λ b. cond b (Some (made_in r.transaction)) (past.asked s.name)) f) (λ y i. tt)
+      (x.promises s.name ∙ past_name r.name s.name (Some x.pledge) (pledge_of d) f)
+      (ap (λ v. option_map (λ u. u.items) (get (pointwise nat_eq) v s.name)) x.answers) (λ y i. asks_transaction s.transaction ∙ i) (m.requests s h)
 
   asks_requests : (s : Planned) → Has (p.requests ++ asked_now ∷ []) s → IsMade e (after past (line.Ask r)) s
   asks_requests s h = elim (has_end p.requests asked_now s h) as (λ _. IsMade e (after past (line.Ask r)) s) [
@@ -572,6 +570,7 @@ module _ (id : TableId) (ends : Ends) (d e : Driver) (p : Plan) (past : Past) (q
       at_again r fate.Pending n c i = absurd (none_some (sym none ∙ (ap (pledge_of d) (sym n) ∙ i.held)))
       at_again r fate.Answered n c i = i
       at_again r fate.Cancelled n c i = absurd (c refl)
+
       again : (r : Planned) → r.name ≡ q → IsMade d past r → IsMade e waits r
       again r n i =
           let a = at_again r i.asked.fate n (not_cancelled r n i) i.at in
@@ -598,7 +597,7 @@ module _ (id : TableId) (ends : Ends) (d e : Driver) (p : Plan) (past : Past) (q
     at_told r fate.Pending n c i =
         let s : i.pledge ≡ x = some_same (sym i.held ∙ (ap (pledge_of d) n ∙ held)) in
         subst (λ k. IsToldOf (log_in d.seat) r.version k text) (ap (λ (y : Pledge). arc_value y.key) (sym s) ∙ i.key)
-          (subst (λ v. IsToldOf (log_in d.seat) v (arc_value x.key) text) (ap (λ (y : Pledge). y.version) (sym s) ∙ i.version) told)
+        (subst (λ v. IsToldOf (log_in d.seat) v (arc_value x.key) text) (ap (λ (y : Pledge). y.version) (sym s) ∙ i.version) told)
     at_told r fate.Answered n c i = absurd (none_some (sym i.0 ∙ (ap (pledge_of d) n ∙ held)))
     at_told r fate.Cancelled n c i = absurd (c refl)
 
@@ -770,6 +769,7 @@ module _ (id : TableId) (ends : Ends) (d e : Driver) (p : Plan) (past : Past) (t
       at_by : (b : Bool) → bytes_eq t i.asked.transaction ≡ b → IsAt e r (cond b (given_up i.asked.fate) i.asked.fate)
       at_by true c = own_at r i.asked.fate i.within i.at
       at_by false c = other_at r i.asked.fate (ap (bytes_eq t) (sym i.transaction) ∙ c) i.within i.at
+
       by_transaction : (b : Bool) → bytes_eq t i.asked.transaction ≡ b → IsMade e closes r
       by_transaction b c = record {
         asked = record { transaction = i.asked.transaction; fate = cond b (given_up i.asked.fate) i.asked.fate };
@@ -801,6 +801,7 @@ module _ (id : TableId) (ends : Ends) (d e : Driver) (p : Plan) (past : Past) (t
     where
       some_false : Some false ≡ Some true → ⊥
       some_false e = cc
+
       closes_known : (u : List ℕ) → closes.opened u ≡ Some true → (y : Transaction) × (transaction_of e u ≡ Some y)
       closes_known u k = by_name t u _
           (λ s. absurd (some_false (sym (ap (λ b. cond b (Some false) (past.opened u)) (subst (λ n. bytes_eq n u ≡ true) (sym s) (own_name u))) ∙ k)))

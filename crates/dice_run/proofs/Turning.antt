@@ -96,8 +96,8 @@ module _ (id : TableId) (s u : Place) (o : IsOurs id s) (P : Events → Events �
 pub turn_commits : (id : TableId) (s u : Place) (ps : List (Key × Value)) → (o : IsOurs id s) → IsTurn s u (λ found. CommitsIn key_equal value_equal buck s.number (log_of found) ps) → Commits id s u ps
 turn_commits id s u ps o t =
     turn_goes id s u o _ t (event_of 0 (differing_from key_equal value_equal buck (log_in s) ps))
-      (t.adds.did.0 ∙ (ap (λ n. event_of n (differing_from key_equal value_equal buck (log_of t.found) ps)) o.number
-      ∙ ap (λ C. event_of 0 (differing_from key_equal value_equal buck C ps)) (found_log id s u o _ t)))
+    (t.adds.did.0 ∙ (ap (λ n. event_of n (differing_from key_equal value_equal buck (log_of t.found) ps)) o.number
+    ∙ ap (λ C. event_of 0 (differing_from key_equal value_equal buck C ps)) (found_log id s u o _ t)))
 
 pub turn_opens : (id : TableId) (s u : Place) (opened version : ℕ) → (o : IsOurs id s) → HasOpen u opened version → IsTurn s u (λ found own work. OpensIn s.number found own work × (version ≡ newest_in found) × (opened ≡ length found)) → Opens id s u opened version
 turn_opens id s u opened version o h t = record {

@@ -68,10 +68,12 @@ fn sum_up<R: Threads + Wait + Sync, G: Gate>(
     let script = match script::read(alloc, &bytes) {
         Ok(script) => script,
         Err(ScriptRefusal::TooLong) => unreachable!(),
-        Err(ScriptRefusal::Fault {
-            line: _line,
-            word: _word,
-        }) => unreachable!(),
+        Err(
+            ScriptRefusal::Fault {
+                line: _line,
+                word: _word,
+            },
+        ) => unreachable!(),
         Err(ScriptRefusal::NoMemory) => return Err(NoMemory),
     };
     let ending = carry_out(rt, alloc, workers, false, gate, &script)?;

@@ -8,10 +8,9 @@ ghost use Rattle.script.specs.declared.line.Line.{Line};
 ghost use Rattle.dice_run.specs.Driven.{Carried, Settled, Closing, ClosesOpen, Waiting, MaySettle, SettlesOne};
 ghost use Rattle.dice_run.specs.Printing.{IsDone};
 
-use crate::append;
-use crate::client;
 use crate::driver::Driver;
 use crate::printer::print;
+use crate::{append, client};
 use action_digest::Buck;
 use dice_engine::{Engine, Gate, Seat, Updater};
 use dice_key::NoMemory;

@@ -102,12 +102,7 @@ impl Driver {
     }
 
     /// Opens a transaction.
-    fn open<R: Wait>(
-        &mut self,
-        rt: &R,
-        engine: &Engine<Buck>,
-        name: &Name,
-    ) -> Result<(), NoMemory>
+    fn open<R: Wait>(&mut self, rt: &R, engine: &Engine<Buck>, name: &Name) -> Result<(), NoMemory>
         requires { IsOurs engine.now self.old.seat }
         ensures ours { IsOurs engine.now self.new.seat }
         ensures did { OnOk result (DidOpen engine.now name.now self.old self.new) }

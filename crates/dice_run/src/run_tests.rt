@@ -3,8 +3,8 @@ use crate::tests::{FIRST, FIRST_OUT, outcome};
 use crate::{Gate, MemorySink, MemorySource, run};
 use dice_io::NoMemory;
 use std::alloc::Global;
-use std::sync::atomic::{AtomicBool, AtomicU64, Ordering};
 use std::sync::Wait;
+use std::sync::atomic::{AtomicBool, AtomicU64, Ordering};
 use std::test::Fail;
 use std::thread::{self, Threads};
 
@@ -95,7 +95,10 @@ impl Meeting {
 impl Gate for Meeting {
     fn at(&self, worker: u32) {
         let number = worker as u64 + 1;
-        match self.first.compare_exchange(0, number, Ordering::AcqRel, Ordering::Acquire) {
+        match self
+            .first
+            .compare_exchange(0, number, Ordering::AcqRel, Ordering::Acquire)
+        {
             Ok(_) => self.wait(),
             Err(first) => {
                 if first != number {

@@ -11,8 +11,8 @@ use dice_engine::{Engine, Gate, Seat, Worked};
 use dice_key::NoMemory;
 use script::Script;
 use std::alloc::Global;
-use std::sync::atomic::{AtomicBool, Ordering};
 use std::sync::Wait;
+use std::sync::atomic::{AtomicBool, Ordering};
 use std::thread::{self, Threads, join};
 
 /// A worker that found nothing to do so many times rests no longer than before.
@@ -120,9 +120,13 @@ fn work_all<R: Threads + Wait + Sync, G: Gate>(
 ) -> bool
     requires { All (IsSeatOf engine.now) seats.items }
 {
-    thread::map_vec(rt, seats, &|seat: Seat<Buck>| -> bool
-        requires { IsSeatOf engine.now seat }
-    { work(rt, engine, seat, gate, stop) })
+    thread::map_vec(
+        rt,
+        seats,
+        &|seat: Seat<Buck>| -> bool
+            requires { IsSeatOf engine.now seat }
+        { work(rt, engine, seat, gate, stop) },
+    )
     .is_ok()
 }
 

@@ -14,7 +14,7 @@ close_open-requires-clause-open g c = λ x h. (c.requires.1.stands.open_ c.in-Op
 pub returns-in-Open : goal.returns-in-Open
 returns-in-Open g c rest w =
     closing_open c.args.engine.now c.args._script.now rest c.in-Open.name c.args.self.now c.close_open.new.self
-      (subst (λ (l : Line). Closing c.args.engine.now c.args._script.now (l ∷ rest) c.args.self.now) c.in-Open.is w) c.close_open.ensures
+    (subst (λ (l : Line). Closing c.args.engine.now c.args._script.now (l ∷ rest) c.args.self.now) c.in-Open.is w) c.close_open.ensures
 
 pub returns-in-Ask : goal.returns-in-Ask
 returns-in-Ask g c rest w =

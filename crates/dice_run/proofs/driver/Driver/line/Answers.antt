@@ -72,14 +72,14 @@ returns-in_ok-ask-in-Ask-clause-stands g c ends p past m f =
     let fits = subst (Fits past) c.in-Ask.is f in
     subst (λ (l : Line). Steps c.args.engine.now ends p past l c.args.self.now c.ask.new.self) (sym c.in-Ask.is)
     (ask_steps c.args.engine.now ends c.args.self.now c.ask.new.self p past c.in-Ask.request m fits
-      (let b : arc_value c.in_ok-key-in-Ask.key ≡ key.Digest c.in-Ask.request.label = search rules in subst (λ k. DidAsk c.args.engine.now c.in-Ask.request k c.args.self.now c.ask.new.self) b c.in_ok-ask-in-Ask.ensures.did))
+    (let b : arc_value c.in_ok-key-in-Ask.key ≡ key.Digest c.in-Ask.request.label = search rules in subst (λ k. DidAsk c.args.engine.now c.in-Ask.request k c.args.self.now c.ask.new.self) b c.in_ok-ask-in-Ask.ensures.did))
 
 pub returns-in_ok-ask-in-Action-clause-stands : goal.returns-in_ok-ask-in-Action-clause-stands
 returns-in_ok-ask-in-Action-clause-stands g c ends p past m f =
     let fits = subst (Fits past) c.in-Action.is f in
     subst (λ (l : Line). Steps c.args.engine.now ends p past l c.args.self.now c.ask-in-Action.new.self) (sym c.in-Action.is)
     (action_steps c.args.engine.now ends c.args.self.now c.ask-in-Action.new.self p past c.in-Action.request m fits
-      (let b : arc_value c.in_ok-key-in-Action.key ≡ key.Action c.in-Action.request.label = search rules in subst (λ k. DidAsk c.args.engine.now c.in-Action.request k c.args.self.now c.ask-in-Action.new.self) b c.in_ok-ask-in-Action.ensures.did))
+    (let b : arc_value c.in_ok-key-in-Action.key ≡ key.Action c.in-Action.request.label = search rules in subst (λ k. DidAsk c.args.engine.now c.in-Action.request k c.args.self.now c.ask-in-Action.new.self) b c.in_ok-ask-in-Action.ensures.did))
 
 pub returns-in_ok-wait-in-Wait-clause-stands : goal.returns-in_ok-wait-in-Wait-clause-stands
 returns-in_ok-wait-in-Wait-clause-stands g c ends p past m f =
@@ -130,14 +130,14 @@ returns-in_ok-ask-in-Ask-clause-records g c p past m f =
     let fits = subst (Fits past) c.in-Ask.is f in
     subst (λ (l : Line). RecordsStep p past l c.args.self.now c.ask.new.self) (sym c.in-Ask.is)
     (ask_records c.args.engine.now p past c.in-Ask.request c.args.self.now c.ask.new.self m fits
-      (let b : arc_value c.in_ok-key-in-Ask.key ≡ key.Digest c.in-Ask.request.label = search rules in subst (λ k. DidAsk c.args.engine.now c.in-Ask.request k c.args.self.now c.ask.new.self) b c.in_ok-ask-in-Ask.ensures.did))
+    (let b : arc_value c.in_ok-key-in-Ask.key ≡ key.Digest c.in-Ask.request.label = search rules in subst (λ k. DidAsk c.args.engine.now c.in-Ask.request k c.args.self.now c.ask.new.self) b c.in_ok-ask-in-Ask.ensures.did))
 
 pub returns-in_ok-ask-in-Action-clause-records : goal.returns-in_ok-ask-in-Action-clause-records
 returns-in_ok-ask-in-Action-clause-records g c p past m f =
     let fits = subst (Fits past) c.in-Action.is f in
     subst (λ (l : Line). RecordsStep p past l c.args.self.now c.ask-in-Action.new.self) (sym c.in-Action.is)
     (action_records c.args.engine.now p past c.in-Action.request c.args.self.now c.ask-in-Action.new.self m fits
-      (let b : arc_value c.in_ok-key-in-Action.key ≡ key.Action c.in-Action.request.label = search rules in subst (λ k. DidAsk c.args.engine.now c.in-Action.request k c.args.self.now c.ask-in-Action.new.self) b c.in_ok-ask-in-Action.ensures.did))
+    (let b : arc_value c.in_ok-key-in-Action.key ≡ key.Action c.in-Action.request.label = search rules in subst (λ k. DidAsk c.args.engine.now c.in-Action.request k c.args.self.now c.ask-in-Action.new.self) b c.in_ok-ask-in-Action.ensures.did))
 
 pub returns-in_ok-wait-in-Wait-clause-records : goal.returns-in_ok-wait-in-Wait-clause-records
 returns-in_ok-wait-in-Wait-clause-records g c p past m f =

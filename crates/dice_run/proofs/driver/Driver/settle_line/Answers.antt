@@ -36,7 +36,7 @@ returns-in-Ask-clause-settles g c = on_ok c.settle_one.result _ _ (λ f rest v.
     let w = subst (λ (l : Line). Waiting c.args.engine.now ls (l ∷ rest) c.args.self.now) c.in-Ask.is v in
     let r = wanted (is_cancelled ls) w.plan q (Digest q.label) in
     waiting_more c.args.engine.now ls rest (Ask q) q.name c.args.self.now c.settle_one.new.self w (λ n h. h)
-      (settling_some c.args.engine.now ls c.args.self.now w.past q.name w.settling r (asked_now c.args.engine.now ls rest (Ask q) c.args.self.now r w (has_last w.plan.requests r)) refl) f)
+    (settling_some c.args.engine.now ls c.args.self.now w.past q.name w.settling r (asked_now c.args.engine.now ls rest (Ask q) c.args.self.now r w (has_last w.plan.requests r)) refl) f)
     c.settle_one.ensures.settles
 
 pub returns-in-Action-clause-settles : goal.returns-in-Action-clause-settles
@@ -46,7 +46,7 @@ returns-in-Action-clause-settles g c = on_ok c.settle_one-in-Action.result _ _ (
     let w = subst (λ (l : Line). Waiting c.args.engine.now ls (l ∷ rest) c.args.self.now) c.in-Action.is v in
     let r = wanted (is_cancelled ls) w.plan q (Text q.label) in
     waiting_more c.args.engine.now ls rest (Action q) q.name c.args.self.now c.settle_one-in-Action.new.self w (λ n h. h)
-      (settling_some c.args.engine.now ls c.args.self.now w.past q.name w.settling r (asked_now c.args.engine.now ls rest (Action q) c.args.self.now r w (has_last w.plan.requests r)) refl) f)
+    (settling_some c.args.engine.now ls c.args.self.now w.past q.name w.settling r (asked_now c.args.engine.now ls rest (Action q) c.args.self.now r w (has_last w.plan.requests r)) refl) f)
     c.settle_one-in-Action.ensures.settles
 
 pub returns-in-Put-clause-settles : goal.returns-in-Put-clause-settles
@@ -76,4 +76,3 @@ returns-in-Cancel-clause-settles g c rest w =
 pub returns-in-Close-clause-settles : goal.returns-in-Close-clause-settles
 returns-in-Close-clause-settles g c rest w =
     waiting_past c.args.engine.now c.args.script.now rest (Close c.in-Close.field-0) c.args.self.now (λ q h. h) (subst (λ (l : Line). Waiting c.args.engine.now c.args.script.now (l ∷ rest) c.args.self.now) c.in-Close.is w)
-

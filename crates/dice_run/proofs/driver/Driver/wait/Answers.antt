@@ -26,11 +26,11 @@ wait-requires-clause-open g c κs within = (c.requires.open c.in-Some.promise (s
 pub returns-clause-did : goal.returns-clause-did
 returns-clause-did g c = on_ok c.note.result _ _
     (λ noted.
-        let p = c.in-Some.promise in
-        is_told p c.in_ok-answer.answer.items (sym c.take.ensures.value ∙ c.in-Some.is) c.wait.ensures.goes
-          (c.in_ok-answer.ensures (log_in c.args.self.now.seat) p.version (arc_value p.key) c.in_ok-came.ensures.came)
-          c.in_ok-came.ensures.decided
-          c.take.ensures.rest
-          (λ n. ap (option_map (λ v. v.items)) (noted n) ∙ map_if (λ v. v.items) (bytes_eq c.args.name.now n) c.in_ok-answer.answer (get (pointwise nat_eq) c.args.self.now.answers n))
-          refl refl refl)
+    let p = c.in-Some.promise in
+    is_told p c.in_ok-answer.answer.items (sym c.take.ensures.value ∙ c.in-Some.is) c.wait.ensures.goes
+    (c.in_ok-answer.ensures (log_in c.args.self.now.seat) p.version (arc_value p.key) c.in_ok-came.ensures.came)
+    c.in_ok-came.ensures.decided
+    c.take.ensures.rest
+    (λ n. ap (option_map (λ v. v.items)) (noted n) ∙ map_if (λ v. v.items) (bytes_eq c.args.name.now n) c.in_ok-answer.answer (get (pointwise nat_eq) c.args.self.now.answers n))
+    refl refl refl)
     c.note.ensures

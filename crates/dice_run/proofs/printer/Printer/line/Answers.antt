@@ -14,13 +14,13 @@ pub request-requires : goal.request-requires
 request-requires c =
     let n = c.requires in
     ask_may_reply c.args.script.now n.rest c.args.driver.now c.args.self.now n.plan n.past c.in-Ask.request
-      (subst (λ (l : Line). Stands c.args.script.now (l ∷ n.rest) c.args.driver.now c.args.self.now n.plan n.past) c.in-Ask.is n.stands) n.done (subst (Fits n.past) c.in-Ask.is n.fits)
+    (subst (λ (l : Line). Stands c.args.script.now (l ∷ n.rest) c.args.driver.now c.args.self.now n.plan n.past) c.in-Ask.is n.stands) n.done (subst (Fits n.past) c.in-Ask.is n.fits)
 
 pub request-requires-in-Action : goal.request-requires-in-Action
 request-requires-in-Action c =
     let n = c.requires in
     action_may_reply c.args.script.now n.rest c.args.driver.now c.args.self.now n.plan n.past c.in-Action.request
-      (subst (λ (l : Line). Stands c.args.script.now (l ∷ n.rest) c.args.driver.now c.args.self.now n.plan n.past) c.in-Action.is n.stands) n.done (subst (Fits n.past) c.in-Action.is n.fits)
+    (subst (λ (l : Line). Stands c.args.script.now (l ∷ n.rest) c.args.driver.now c.args.self.now n.plan n.past) c.in-Action.is n.stands) n.done (subst (Fits n.past) c.in-Action.is n.fits)
 
 pub returns-in-Commit : goal.returns-in-Commit
 returns-in-Commit c = on_ok c.commit.result _ _
