@@ -65,6 +65,7 @@ fn traces_and_summaries(rt: HostRuntime) -> Result<(), Fail> {
 }
 
 /// Holds the worker that comes first until another one comes, or for so many rounds.
+#[derive(Drop)]
 struct Meeting {
     /// The worker that came first, by its number and one.
     first: AtomicU64,
