@@ -4,14 +4,12 @@
 
 mod copying;
 mod edge;
-mod gate;
 mod memory;
 mod process;
 mod sure;
 
 pub use copying::{read_all, write_all};
 pub use edge::{Failed, NoMemory, ReadFail, Sink, Source};
-pub use gate::{Gate, Open};
 pub use memory::{MemorySink, MemorySource};
 pub use process::{RealSink, RealSource};
 pub use sure::{SureSink, SureSource};

@@ -1,6 +1,6 @@
 use crate::{
-    Failed, Gate, MemorySink, MemorySource, Open, ReadFail, RealSink, RealSource, Sink, Source,
-    SureSink, SureSource, read_all, write_all,
+    Failed, MemorySink, MemorySource, ReadFail, RealSink, RealSource, Sink, Source, SureSink,
+    SureSource, read_all, write_all,
 };
 use std::test::Fail;
 
@@ -83,6 +83,5 @@ fn stands_over_the_standard_streams(rt: HostRuntime) -> Result<(), Fail> {
     let mut sink = RealSink::new(&rt);
     write_all(&mut sink, b"a line on standard output\n")?;
     assert!(rt; sink.write(b"") == Ok(0));
-    Open.at(1);
     Ok(())
 }

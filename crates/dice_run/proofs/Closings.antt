@@ -1,33 +1,27 @@
 -- The transactions that are open at a script's end are closed; and what the journal then says.
-use Rattle.std.proofs.Common.{◌≡◌, ◌≢◌, ◌≤◌, ◌⊎◌, inl, inr, ℕ, Bool, true, false, cond, nat_eq, List, [], ◌∷◌, ◌++◌, length, reverse, Option, Some, None, refl, sym, ap, ◌∙◌, subst, arith, append-nil, append_assoc}
-use Rattle.std.specs.HashMap.{get}
+use Rattle.std.proofs.Common.{◌≡◌, ◌⊎◌, inl, inr, ℕ, Bool, true, false, cond, List, [], ◌∷◌, ◌++◌, Option, Some, None, refl, sym, ap, ◌∙◌, subst, append-nil, append_assoc}
 use Rattle.std.specs.Str.{bytes_eq}
-use Rattle.std.specs.Cmp.Lexicographic.{pointwise}
 use Rattle.atomic_table.specs.Seated.{TableId}
 use Rattle.dice_model.specs.Log.{Has}
 use Rattle.journal.specs.declared.event.Told.{Told}
 use Rattle.journal.specs.declared.event.Told.TheVariants as told
 use Rattle.journal.specs.Tell.{event_by}
 use Rattle.turnstile.specs.Events.{events_by}
-use Rattle.dice_engine.specs.declared.promise.Transaction.{Transaction}
 use Rattle.dice_engine.proofs.Indices.{from_by}
 use Rattle.script.specs.declared.line.Line.{Line}
 use Rattle.script.specs.declared.line.Line.TheVariants.{Put, Drop, Commit, Open, Ask, Action, Wait, Cancel, Close}
-use Rattle.script.specs.declared.fate.Fate.TheVariants as fate
-use Rattle.script.specs.Past.{Past, Table, with_entry, no_entries, nothing, after, after_all, fate_of, is_cancelled}
-use Rattle.script.specs.Plan.{Plan, Planned, no_plan, plan_of}
+use Rattle.script.specs.Past.{Past, Table, with_entry, nothing, after, after_all, is_cancelled}
+use Rattle.script.specs.Plan.{Planned, plan_of}
 use Rattle.action_digest.specs.declared.key.Key.{Key}
 use Rattle.action_digest.specs.declared.value.Value.{Value}
-use Rattle.action_digest.specs.Buck.{buck}
-use Rattle.action_digest.specs.Same.{key_equal}
 use Rattle.dice_run.specs.Output.{key_of}
 use Rattle.dice_run.specs.Seats.{Place, IsOurs, Rests}
 use Rattle.dice_run.specs.Events.{Events, Indices, AddsEnd, AddsEnds, IsDecided, IsJournalOf}
-use Rattle.dice_run.specs.Driving.{transaction_of, pledge_of, Matches, Steps, DidClose}
-use Rattle.dice_run.specs.Recording.{WasDecided, IsRecorded, RecordsEnds, OpenedIn}
+use Rattle.dice_run.specs.Driving.{transaction_of, Steps, DidClose}
+use Rattle.dice_run.specs.Recording.{WasDecided, IsRecorded, OpenedIn}
 use Rattle.dice_run.specs.Driven.{Settled, Closing, ClosesOpen}
 use Rattle.dice_run.specs.declared.driver.Driver.{Driver}
-use Rattle.dice_run.proofs.Steps.{own_name, past_name, by_name, close_stands}
+use Rattle.dice_run.proofs.Steps.{own_name, by_name, close_stands}
 use Rattle.dice_run.proofs.Ending.{closed_fate}
 use Rattle.dice_run.proofs.Recorded.{begins_on, begins_itself, decided_on, knows_closed}
 use Rattle.dice_run.proofs.Deciding.{decided_at_close}

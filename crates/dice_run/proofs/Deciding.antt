@@ -1,10 +1,9 @@
 -- While a transaction at a version is open, what was decided at that version stays decided.
-use Rattle.std.proofs.Common.{◌≡◌, ◌<◌, ◌+◌, ◌⊎◌, inl, inr, append_assoc, ℕ, Bool, true, false, cond, eqb, List, [], ◌∷◌, ◌++◌, length, reverse, Option, Some, None, refl, sym, ap, ◌∙◌, subst, arith, eq-eqb, length-append}
+use Rattle.std.proofs.Common.{◌≡◌, ◌<◌, inl, inr, append_assoc, ℕ, Bool, true, false, cond, eqb, [], ◌∷◌, ◌++◌, length, reverse, Option, Some, None, refl, sym, ap, ◌∙◌, subst, arith, eq-eqb, length-append}
 use Rattle.std.proofs.lemmas.Bool.{ne_eqb}
 use Rattle.std.proofs.lemmas.List.{reverse-append, length-reverse}
-use Rattle.std.specs.List.{slice_get}
 use Rattle.journal.specs.declared.event.Told.{Told}
-use Rattle.journal.specs.declared.event.Told.TheVariants.{Commit, Open, Close, Ask, Leave, Start, Keep, End, Cyclic, Drop, Lost}
+use Rattle.journal.specs.declared.event.Told.TheVariants.{Open, Close, Keep, End, Cyclic}
 use Rattle.journal.specs.Events.{Opened, Decision, ByValue, ByCycle, is_for, names_by, open_at, decided}
 use Rattle.journal.specs.Law.{IsLawfulJournal, IsLawfulBack}
 use Rattle.core_laws.proofs.Indices.{begins_none}

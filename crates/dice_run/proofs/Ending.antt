@@ -13,13 +13,13 @@ use Rattle.script.specs.declared.requests.Asked.{Asked}
 use Rattle.script.specs.Past.{Past, after, nothing, after_all, fate_of, come_to, left_by, given_up, is_given_up, is_cancelled}
 use Rattle.script.specs.Order.{InOrder}
 use Rattle.script.specs.Plan.{Ends, Plan, Planned, no_plan, planned, plan_from, plan_of}
-use Rattle.dice_run.specs.Output.{log_of, key_of}
+use Rattle.dice_run.specs.Output.{key_of}
 use Rattle.dice_run.specs.Answers.{IsToldOf}
 use Rattle.journal.specs.declared.event.Told.{Told}
 use Rattle.dice_engine.specs.Turns.{log_of as engine_log}
 use Rattle.action_digest.specs.declared.key.Key.{Key}
 use Rattle.action_digest.specs.declared.value.Value.{Value}
-use Rattle.dice_run.specs.Driving.{IsAt, IsTold, IsReady, Matches, Starts, Steps, answer_of, newest_of, newest_from}
+use Rattle.dice_run.specs.Driving.{IsAt, IsTold, IsReady, Matches, Starts, Steps, newest_of, newest_from}
 use Rattle.dice_run.specs.Driven.{Carried, Settled, Closing, Settling, AskedIn, Waiting}
 use Rattle.dice_run.specs.Recording.{Records, RecordsStep}
 use Rattle.dice_run.specs.Printing.{IsDone}

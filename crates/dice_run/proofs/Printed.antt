@@ -1,11 +1,10 @@
 -- One line of a script more that is printed.
-use Rattle.std.proofs.Common.{◌≡◌, ◌+◌, ◌⊎◌, zero, suc, inl, inr, ℕ, Bool, true, false, cond, nat_eq, decimal, codes, List, [], ◌∷◌, ◌++◌, drop, length, Option, Some, None, refl, sym, ap, ◌∙◌, subst, arith, append-nil, append_assoc}
+use Rattle.std.proofs.Common.{◌≡◌, ◌+◌, zero, suc, inl, inr, ℕ, Bool, true, false, cond, nat_eq, decimal, codes, List, [], ◌∷◌, ◌++◌, drop, length, Some, None, refl, sym, ap, ◌∙◌, subst, arith, append-nil, append_assoc}
 use Rattle.std.specs.Option.{unwrap_or}
 use Rattle.std.specs.Map.{lookup}
 use Rattle.std.specs.Str.{bytes_eq}
 use Rattle.std.specs.HashMap.{get}
 use Rattle.std.specs.Cmp.Lexicographic.{pointwise, nat_list_eq_equiv}
-use Rattle.std.proofs.lemmas.Slice.Eq.{bytes_eq-Decides}
 use Rattle.dice_model.specs.Log.{Has}
 use Rattle.dice_model.specs.Asks.{IsCycle}
 use Rattle.dice_model.specs.Eval.{HasValue}
@@ -15,15 +14,15 @@ use Rattle.script.specs.declared.line.Line.TheVariants.{Put, Drop, Commit, Open,
 use Rattle.script.specs.declared.line.Request.{Request}
 use Rattle.script.specs.Past.{Past, after, nothing, is_cancelled}
 use Rattle.script.specs.Order.{InOrder, IsNew}
-use Rattle.script.specs.Plan.{Ends, Plan, Planned, Wish, Digest, Text, no_plan, planned, plan_from, plan_of, version_of, wanted, requested, committed}
+use Rattle.script.specs.Plan.{Plan, Planned, Wish, Digest, Text, no_plan, planned, plan_from, plan_of, version_of, wanted, committed}
 use Rattle.action_digest.specs.declared.key.Key.{Key}
 use Rattle.action_digest.specs.declared.value.Value.{Value}
 use Rattle.action_digest.specs.Buck.{buck}
 use Rattle.action_digest.specs.Same.{key_equal}
 use Rattle.action_digest.specs.Cycles.{keys_of, ReachesFirst}
-use Rattle.dice_run.specs.Output.{line, log_of, key_of, told_of, cancelled_line, IsAnswered, by_value, by_cycle, IsReplied, IsRepliedAs, IsPrinted, IsOutputFrom, IsOutput}
+use Rattle.dice_run.specs.Output.{line, log_of, key_of, told_of, cancelled_line, IsAnswered, by_value, by_cycle, IsReplied, IsRepliedAs, IsOutputFrom, IsOutput}
 use Rattle.dice_run.specs.Answers.{IsToldOf, told_value, told_cycle}
-use Rattle.dice_run.specs.Driving.{answer_of, newest_from, with_named}
+use Rattle.dice_run.specs.Driving.{newest_from, with_named}
 use Rattle.dice_run.specs.Printing.{IsDone, Stands, IsNext, Prints, Told, Opened, MayReply, IsReply, Replies}
 use Rattle.dice_run.specs.declared.driver.Driver.{Driver}
 use Rattle.dice_run.specs.declared.printer.Printer.{Printer}

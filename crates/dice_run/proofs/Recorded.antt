@@ -1,5 +1,5 @@
 -- What the lines of a script add to the seat's own events.
-use Rattle.std.proofs.Common.{◌≡◌, ◌≢◌, ◌≤◌, ◌<◌, ◌+◌, zero, suc, ◌⊎◌, inl, inr, ℕ, Bool, true, false, cond, nat_eq, List, [], ◌∷◌, ◌++◌, length, take, filter, Option, Some, None, refl, sym, ap, ◌∙◌, subst, arith, append-nil, append_assoc, length-append}
+use Rattle.std.proofs.Common.{◌≡◌, ◌≢◌, ◌<◌, zero, suc, ◌⊎◌, inl, inr, ℕ, Bool, true, false, cond, nat_eq, List, [], ◌∷◌, ◌++◌, length, take, filter, Option, Some, None, refl, sym, ap, ◌∙◌, subst, arith, append-nil, append_assoc}
 use Rattle.std.specs.Option.{option_map}
 use Rattle.std.specs.HashMap.{get}
 use Rattle.std.specs.Str.{bytes_eq}
@@ -27,7 +27,7 @@ use Rattle.script.specs.declared.fate.Fate.TheVariants as fate
 use Rattle.script.specs.declared.requests.Asked.{Asked}
 use Rattle.script.specs.Past.{Past, Table, with_entry, nothing, after, fate_of, come_to, left_by, given_up, made_in, is_cancelled}
 use Rattle.script.specs.Order.{IsNew}
-use Rattle.script.specs.Plan.{Ends, Plan, Planned, Wish, Digest, Text, no_plan, wanted, planned, plan_of}
+use Rattle.script.specs.Plan.{Ends, Plan, Planned, Wish, Digest, Text, no_plan, wanted, planned}
 use Rattle.action_digest.specs.declared.key.Key.{Key}
 use Rattle.action_digest.specs.declared.key.Key.TheVariants as key
 use Rattle.action_digest.specs.declared.value.Value.{Value}
@@ -36,13 +36,13 @@ use Rattle.action_digest.specs.Same.{key_equal, value_equal}
 use Rattle.dice_run.specs.Output.{log_of, pairs_of_changes, key_of}
 use Rattle.dice_run.specs.Commits.{differs_from}
 use Rattle.dice_run.specs.Seats.{Place, log_in, IsOurs, Goes}
-use Rattle.dice_run.specs.Events.{Events, Indices, no_indices, IsNext, AddsLine, AddsLines, AddsOpen, AddsAsk, AddsLeave, AddsClose, IsDecidedIn, commit_events}
+use Rattle.dice_run.specs.Events.{Events, Indices, no_indices, IsNext, AddsLine, AddsLines, AddsAsk, IsDecidedIn, commit_events}
 use Rattle.dice_run.specs.Driving.{Pledge, transaction_of, pledge_of, IsPending, IsAt, IsMade, Matches, KeepsNames, with_named, DidOpen, DidAsk, DidWait, was_told, is_told, DidCancel, DidClose, Starts}
 use Rattle.dice_run.specs.Recording.{WasDecided, IsRecorded, KnowsIndices, Records, RecordsStep}
 use Rattle.dice_run.specs.declared.driver.Driver.{Driver}
 use Rattle.dice_run.proofs.Changing.{differing_same}
-use Rattle.dice_run.proofs.Seating.{Onward, onward, stands_below}
-use Rattle.dice_run.proofs.Steps.{own_name, same_name, at_name, past_name, other_name, by_name, other_request, live_there}
+use Rattle.dice_run.proofs.Seating.{stands_below}
+use Rattle.dice_run.proofs.Steps.{own_name, at_name, past_name, other_name, by_name, other_request, live_there}
 
 some_same : {X : Type 0} {x y : X} → Some x ≡ Some y → x ≡ y
 some_same e = cc

@@ -1,13 +1,11 @@
 -- What the driver's seat keeps from one turn to the next.
-use Rattle.std.proofs.Common.{◌≡◌, ◌≢◌, ◌≤◌, ◌<◌, ◌+◌, ◌⊎◌, inl, inr, ℕ, Bool, List, [], ◌∷◌, ◌++◌, length, reverse, Some, refl, sym, ap, ◌∙◌, subst, arith, append-nil, length-append}
+use Rattle.std.proofs.Common.{◌≡◌, ◌≤◌, ◌<◌, ℕ, List, [], ◌∷◌, ◌++◌, length, reverse, refl, sym, ap, ◌∙◌, subst, arith, append-nil, length-append}
 use Rattle.std.proofs.lemmas.List.{reverse-append, length-reverse}
-use Rattle.std.specs.List.{AllByRecursion}
 use Rattle.atomic_table.specs.Seated.{TableId}
 use Rattle.journal.specs.declared.event.Told.{Told}
-use Rattle.journal.specs.declared.event.Told.TheVariants.{Commit, Open, Close, Ask, Leave, Start, Keep, End, Cyclic, Drop, Lost}
+use Rattle.journal.specs.declared.event.Told.TheVariants.{Commit, Open, Close, Ask, Leave}
 use Rattle.journal.specs.Events.{NotClosed, commits_of}
 use Rattle.turnstile.specs.Events.{StartsWith}
-use Rattle.turnstile.specs.Seats.{SeatView}
 use Rattle.dice_core.specs.Commits.{event_of}
 use Rattle.dice_engine.specs.Turns.{log_of}
 use Rattle.dice_engine.specs.Conditions.{StandsAt, NotLeft, HasOpen, HasAsk}

@@ -1,5 +1,5 @@
 -- One line of a script more: what it leaves of the driver's requests and transactions, and what it adds.
-use Rattle.std.proofs.Common.{◌≡◌, ◌≢◌, ◌≤◌, ◌<◌, ◌+◌, zero, suc, ◌⊎◌, inl, inr, ℕ, Bool, true, false, cond, nat_eq, List, [], ◌∷◌, ◌++◌, length, filter, Option, Some, None, refl, sym, ap, ◌∙◌, subst, arith, append-nil, length-append}
+use Rattle.std.proofs.Common.{◌≡◌, ◌≢◌, ◌≤◌, ◌<◌, ◌+◌, ◌⊎◌, inl, inr, ℕ, Bool, true, false, cond, nat_eq, List, [], ◌∷◌, ◌++◌, length, filter, Option, Some, None, refl, sym, ap, ◌∙◌, subst, arith, append-nil, length-append}
 use Rattle.std.proofs.lemmas.List.{length-map}
 use Rattle.std.specs.Option.{unwrap_or, option_map}
 use Rattle.std.specs.Map.{lookup}
@@ -19,27 +19,26 @@ use Rattle.dice_core.specs.Commits.{event_of}
 use Rattle.dice_engine.specs.Calls.{differing_from}
 use Rattle.dice_engine.specs.Conditions.{NotLeft, HasOpen, HasAsk}
 use Rattle.dice_engine.specs.declared.promise.Transaction.{Transaction}
-use Rattle.script.specs.declared.line.Line.{Line}
 use Rattle.script.specs.declared.line.Line.TheVariants as line
 use Rattle.script.specs.declared.line.Request.{Request}
 use Rattle.script.specs.declared.fate.Fate.{Fate}
 use Rattle.script.specs.declared.fate.Fate.TheVariants as fate
 use Rattle.script.specs.declared.requests.Asked.{Asked}
 use Rattle.script.specs.Past.{Past, after, fate_of, come_to, left_by, given_up, made_in}
-use Rattle.script.specs.Order.{Fits, IsNew}
-use Rattle.script.specs.Plan.{Ends, Plan, Planned, Change, Wish, Digest, Text, version_of, wanted, requested, gathering, planned, differs, committed, with_commit}
+use Rattle.script.specs.Order.{IsNew}
+use Rattle.script.specs.Plan.{Ends, Plan, Planned, Change, Wish, Digest, Text, version_of, wanted, requested, gathering, differs, committed, with_commit}
 use Rattle.action_digest.specs.declared.key.Key.{Key}
 use Rattle.action_digest.specs.declared.key.Key.TheVariants as key
 use Rattle.action_digest.specs.declared.value.Value.{Value}
 use Rattle.action_digest.specs.declared.value.Value.TheVariants as value
 use Rattle.action_digest.specs.Buck.{buck}
 use Rattle.action_digest.specs.Same.{key_equal, value_equal}
-use Rattle.action_digest.specs.Cycles.{keys_of, IsLabelCycle, ReachesFirst}
+use Rattle.action_digest.specs.Cycles.{keys_of, ReachesFirst}
 use Rattle.dice_run.specs.Output.{log_of, pair_of_change, pairs_of_changes, key_of}
 use Rattle.dice_run.specs.Answers.{IsToldOf, told_value, told_cycle}
 use Rattle.dice_run.specs.Commits.{differs_from, with_pairs}
 use Rattle.dice_run.specs.Seats.{Place, log_in, IsOurs, Goes}
-use Rattle.dice_run.specs.Driving.{Pledge, transaction_of, pledge_of, answer_of, paths_of, IsPending, IsTold, IsAt, IsMade, Matches, KeepsNames, HasTransaction, MayWait, MayCancel, MayClose, with_named, DidOpen, DidAsk, DidWait, was_told, is_told, DidCancel, DidClose, newest_of, Steps}
+use Rattle.dice_run.specs.Driving.{Pledge, transaction_of, pledge_of, answer_of, paths_of, IsPending, IsTold, IsAt, IsMade, Matches, KeepsNames, HasTransaction, MayWait, MayCancel, with_named, DidOpen, DidAsk, DidWait, was_told, is_told, DidCancel, DidClose, Steps}
 use Rattle.dice_run.specs.declared.driver.Driver.{Driver}
 use Rattle.dice_run.proofs.Changing.{differing_same}
 use Rattle.dice_run.proofs.Seating.{Onward, onward, onward_same, still_open, still_asks, seen_longer, log_open, log_close, log_ask, log_leave, log_none, log_commit, commit_closes_none, commit_leaves_none, open_below, ask_below}

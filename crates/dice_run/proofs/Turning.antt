@@ -1,5 +1,5 @@
 -- What a turn of the engine comes to for the driver's seat.
-use Rattle.std.proofs.Common.{◌≡◌, ◌≤◌, ◌<◌, ◌+◌, ◌++◌, ◌∷◌, ℕ, Bool, true, false, cond, Result, Ok, Err, IfOk, OnErr, List, [], length, take, reverse, Option, Some, None, IfSome, is_some, inl, inr, refl, sym, ap, ◌∙◌, subst, arith, append-nil, length-append}
+use Rattle.std.proofs.Common.{◌≡◌, ◌≤◌, ◌++◌, ◌∷◌, ℕ, Bool, true, false, cond, Result, Ok, Err, IfOk, OnErr, List, [], length, take, reverse, Some, IfSome, is_some, inl, inr, refl, sym, ap, ◌∙◌, subst, arith, append-nil, length-append}
 use Rattle.std.specs.Arc.{arc_value}
 use Rattle.std.specs.Map.{keys_of}
 use Rattle.std.specs.List.{AllByRecursion}
@@ -13,13 +13,12 @@ use Rattle.dice_run.specs.Commits.{AreDistinctSources}
 use Rattle.dice_key.specs.declared.universe.NoMemory.{NoMemory}
 use Rattle.dice_engine.specs.declared.promise.Transaction.{Transaction}
 use Rattle.dice_run.specs.Driving.{Pledge}
-use Rattle.dice_model.specs.Eval.{HasValue}
 use Rattle.journal.specs.declared.event.Told.{Told}
 use Rattle.journal.specs.declared.event.Told.TheVariants.{Open, Close, Ask, Leave}
 use Rattle.journal.specs.Events.{NotClosed, open_at, live_at}
 use Rattle.journal.specs.Tell.{event_by}
-use Rattle.turnstile.specs.Events.{StartsWith, events_by, AllBelow}
-use Rattle.turnstile.specs.Seats.{SeatView, IsSeatOf, IsWriter}
+use Rattle.turnstile.specs.Events.{events_by, AllBelow}
+use Rattle.turnstile.specs.Seats.{IsSeatOf, IsWriter}
 use Rattle.dice_core.specs.Commits.{event_of}
 use Rattle.dice_engine.specs.Turns.{log_of, newest_in, Later, Turn}
 use Rattle.dice_engine.specs.Calls.{AddsNothing, Opens as OpensIn, Asks as AsksIn, Closes as ClosesIn, Leaves as LeavesIn, Commits as CommitsIn, differing_from}

@@ -1,5 +1,5 @@
 -- A script whose lines were carried out, and whose requests are waited for at its end.
-use Rattle.std.specs.Prelude.{◌≡◌, ◌⊎◌, ℕ, Bool, true, false, List, [], ◌∷◌, ◌++◌, cond, Some, None}
+use Rattle.std.specs.Prelude.{◌≡◌, ◌⊎◌, ℕ, false, List, [], ◌∷◌, cond, Some, None}
 use Rattle.atomic_table.specs.Seated.{TableId}
 use Rattle.dice_model.specs.Log.{Has}
 use Rattle.script.specs.declared.line.Line.{Line}

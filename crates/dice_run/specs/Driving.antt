@@ -1,5 +1,5 @@
 -- Where the driver of a script stands.
-use Rattle.std.specs.Prelude.{◌≡◌, ◌≢◌, ◌≤◌, ◌<◌, ℕ, Bool, true, false, nat_eq, if◌then◌else◌, List, [], ◌∷◌, ◌++◌, map, length, Option, Some, None}
+use Rattle.std.specs.Prelude.{◌≡◌, ◌≢◌, ◌≤◌, ◌<◌, ℕ, true, false, nat_eq, if◌then◌else◌, List, [], ◌∷◌, ◌++◌, map, length, Option, Some, None}
 use Rattle.std.specs.Map.{lookup}
 use Rattle.std.specs.Arc.{arc_value}
 use Rattle.std.specs.Str.{bytes_eq}
@@ -9,8 +9,6 @@ use Rattle.std.specs.Option.{option_map}
 use Rattle.atomic_table.specs.Seated.{TableId}
 use Rattle.dice_key.specs.declared.universe.Kind.TheVariants.{Injected}
 use Rattle.dice_model.specs.Log.{Has, AreDistinct}
-use Rattle.dice_model.specs.Eval.{HasValue}
-use Rattle.journal.specs.declared.event.Told.{Told}
 use Rattle.journal.specs.declared.event.Told.TheVariants.{Close, Leave}
 use Rattle.journal.specs.Events.{NotClosed}
 use Rattle.dice_engine.specs.Conditions.{HasOpen, HasAsk}
@@ -30,11 +28,10 @@ use Rattle.action_digest.specs.declared.run.Run.{Run}
 use Rattle.action_digest.specs.declared.key.Key.{Key}
 use Rattle.action_digest.specs.declared.value.Value.{Value}
 use Rattle.action_digest.specs.Buck.{buck}
-use Rattle.action_digest.specs.Same.{key_equal}
 use Rattle.dice_run.specs.Output.{log_of, pairs_of_changes, key_of}
 use Rattle.dice_run.specs.Answers.{IsToldOf}
 use Rattle.dice_run.specs.Events.{IsDecidedIn}
-use Rattle.dice_run.specs.Seats.{Place, log_in, IsOurs, Goes, Opens, Asks}
+use Rattle.dice_run.specs.Seats.{log_in, IsOurs, Goes, Opens, Asks}
 use Rattle.dice_run.specs.declared.driver.Driver.{Driver}
 
 abbrev pub paths_of : List Change → List (List ℕ)

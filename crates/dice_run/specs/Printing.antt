@@ -1,5 +1,5 @@
 -- What was done of a script, and what is printed of it.
-use Rattle.std.specs.Prelude.{◌≡◌, ◌+◌, ℕ, Bool, true, false, decimal, codes, nat_eq, List, [], ◌∷◌, ◌++◌, drop, length, Some}
+use Rattle.std.specs.Prelude.{◌≡◌, ◌+◌, ℕ, Bool, true, false, decimal, codes, nat_eq, List, ◌∷◌, ◌++◌, drop, length, Some}
 use Rattle.std.specs.Map.{lookup}
 use Rattle.std.specs.Str.{bytes_eq}
 use Rattle.std.specs.HashMap.{get}

@@ -1,5 +1,5 @@
 -- What a run promises.
-use Rattle.std.specs.Prelude.{◌≡◌, ◌⊎◌, ◌<◌, ℕ, Bool, true, false, List, [], ◌++◌, codes, decimal, length, Option, Some}
+use Rattle.std.specs.Prelude.{◌≡◌, ◌⊎◌, ◌<◌, ℕ, Bool, false, List, [], ◌++◌, codes, decimal, length, Option, Some}
 use Rattle.script.specs.declared.line.Line.{Line}
 use Rattle.script.specs.declared.fault.Word.{Word}
 use Rattle.script.specs.Words.{text_of}

@@ -4,8 +4,7 @@ use Rattle.std.specs.Arc.{arc_value}
 use Rattle.atomic_table.specs.Seated.{TableId}
 use Rattle.dice_model.specs.Eval.{HasValue}
 use Rattle.journal.specs.declared.event.Told.{Told}
-use Rattle.journal.specs.declared.event.Told.TheVariants.{Open, Close, Ask, Leave}
-use Rattle.journal.specs.Events.{NotClosed}
+use Rattle.journal.specs.declared.event.Told.TheVariants.{Open, Ask}
 use Rattle.journal.specs.Law.{IsLawfulJournal}
 use Rattle.journal.specs.Tell.{event_by}
 use Rattle.core_laws.specs.Stands.{CycleStands}

@@ -1,10 +1,9 @@
-use Rattle.std.proofs.Common.{◌≡◌, ◌∙◌, ◌∷◌, List, Result, Ok, Err, IfOk, sym, ap, subst}
+use Rattle.std.proofs.Common.{◌≡◌, ◌∙◌, ◌∷◌, Result, Ok, Err, IfOk, sym, ap, subst}
 use Rattle.std.specs.Arc.{arc_value}
 use Rattle.dice_model.specs.Asks.{IsCycle}
 use Rattle.action_digest.specs.Buck.{buck}
 use Rattle.action_digest.specs.Same.{key_equal}
 use Rattle.action_digest.specs.Cycles.{ReachesFirst}
-use Rattle.action_digest.specs.declared.value.Value.{Value}
 use Rattle.dice_run.specs.declared.client.Came.{Came}
 use Rattle.dice_run.specs.Seats.{IsCome}
 use Rattle.dice_run.specs.Output.{value_lines}

@@ -1,4 +1,4 @@
-use Rattle.std.proofs.Common.{◌≡◌, ◌+◌, ◌<◌, All}
+use Rattle.std.proofs.Common.{◌+◌, ◌<◌, All}
 use Rattle.turnstile.specs.Seats.{IsSeatOf, spare}
 use Rattle.dice_run.specs.Seats.{IsOurs, GivesSeats}
 use Rattle.dice_run.proofs.workers.split_seats.Given as goal

@@ -1,6 +1,6 @@
-use Rattle.std.proofs.Common.{◌≡◌, ◌∷◌, List, subst}
+use Rattle.std.proofs.Common.{◌∷◌, subst}
 use Rattle.script.specs.declared.line.Line.{Line}
-use Rattle.script.specs.declared.line.Line.TheVariants.{Put, Drop, Commit, Open, Ask, Action, Wait, Cancel, Close}
+use Rattle.script.specs.declared.line.Line.TheVariants.{Put, Drop, Commit, Ask, Action, Wait, Cancel, Close}
 use Rattle.dice_run.specs.Driven.{Closing}
 use Rattle.dice_run.proofs.Closings.{closing_past, closing_open}
 use Rattle.dice_run.proofs.driver.Driver.close_line.Goals as goal

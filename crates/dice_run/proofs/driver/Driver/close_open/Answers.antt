@@ -1,4 +1,4 @@
-use Rattle.std.proofs.Common.{◌≡◌, ◌∙◌, true, false, ℕ, List, Option, Some, None, inl, inr, is_some, refl, sym, ap}
+use Rattle.std.proofs.Common.{◌≡◌, ◌∙◌, true, false, ℕ, List, Option, Some, None, inl, inr, is_some, refl, ap}
 use Rattle.dice_run.specs.Driving.{transaction_of}
 use Rattle.dice_run.proofs.driver.Driver.close_open.Goals as goal
 

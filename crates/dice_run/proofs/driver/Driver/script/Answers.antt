@@ -1,4 +1,4 @@
-use Rattle.std.proofs.Common.{[], Result, Ok, Err, OnOk, IfOk}
+use Rattle.std.proofs.Common.{[], Result, Ok, Err, OnOk}
 use Rattle.dice_run.proofs.Ending.{closing_done}
 use Rattle.dice_run.proofs.Closings.{journal_of, rests_itself}
 use Rattle.dice_run.proofs.driver.Driver.script.Goals as goal

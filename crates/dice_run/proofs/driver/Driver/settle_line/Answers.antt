@@ -1,8 +1,8 @@
-use Rattle.std.proofs.Common.{◌≡◌, ◌∷◌, List, Result, Ok, Err, OnOk, inr, refl, subst}
+use Rattle.std.proofs.Common.{◌∷◌, Result, Ok, Err, OnOk, refl, subst}
 use Rattle.script.specs.declared.line.Line.{Line}
 use Rattle.script.specs.declared.line.Line.TheVariants.{Put, Drop, Commit, Open, Ask, Action, Wait, Cancel, Close}
 use Rattle.script.specs.Past.{is_cancelled}
-use Rattle.script.specs.Plan.{Digest, Text, wanted, planned}
+use Rattle.script.specs.Plan.{Digest, Text, wanted}
 use Rattle.dice_run.specs.Driven.{Waiting}
 use Rattle.dice_run.proofs.Ending.{waiting_past, waiting_more, asked_now, settling_some, has_last}
 use Rattle.dice_run.proofs.driver.Driver.settle_line.Goals as goal

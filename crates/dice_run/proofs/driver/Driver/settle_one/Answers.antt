@@ -1,4 +1,4 @@
-use Rattle.std.proofs.Common.{◌≡◌, Bool, true, false, cond, Result, Ok, Err, OnOk, sym, subst}
+use Rattle.std.proofs.Common.{◌≡◌, Bool, false, cond, Result, Ok, Err, OnOk, sym, subst}
 use Rattle.script.specs.declared.line.Line.TheVariants.{Wait}
 use Rattle.script.specs.Past.{after, is_cancelled}
 use Rattle.script.specs.Plan.{plan_of}

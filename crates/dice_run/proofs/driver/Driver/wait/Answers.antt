@@ -1,4 +1,4 @@
-use Rattle.std.proofs.Common.{◌≡◌, ◌∙◌, Bool, true, false, cond, ℕ, List, Result, Ok, Err, OnOk, Option, Some, None, refl, sym, ap}
+use Rattle.std.proofs.Common.{◌≡◌, ◌∙◌, Bool, true, false, cond, Result, Ok, Err, OnOk, Option, Some, refl, sym, ap}
 use Rattle.std.specs.Option.{option_map}
 use Rattle.std.specs.HashMap.{get}
 use Rattle.std.specs.Str.{bytes_eq}
@@ -6,7 +6,7 @@ use Rattle.std.specs.Cmp.Lexicographic.{pointwise}
 use Rattle.std.proofs.Common.{nat_eq}
 use Rattle.std.specs.Arc.{arc_value}
 use Rattle.dice_run.specs.Seats.{log_in}
-use Rattle.dice_run.specs.Driving.{answer_of, is_told}
+use Rattle.dice_run.specs.Driving.{is_told}
 use Rattle.dice_run.proofs.driver.Driver.wait.Goals as goal
 
 on_ok : {A E : Type 0} (r : Result A E) (P Q : Type 0) → (P → Q) → OnOk r P → OnOk r Q

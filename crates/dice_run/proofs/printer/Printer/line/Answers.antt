@@ -1,6 +1,5 @@
-use Rattle.std.proofs.Common.{◌≡◌, ◌∷◌, List, Result, Ok, Err, OnOk, sym, subst}
+use Rattle.std.proofs.Common.{◌∷◌, Result, Ok, Err, OnOk, sym, subst}
 use Rattle.script.specs.declared.line.Line.{Line}
-use Rattle.script.specs.declared.line.Line.TheVariants.{Put, Drop, Commit, Open, Ask, Action, Wait, Cancel, Close}
 use Rattle.script.specs.Order.{Fits}
 use Rattle.dice_run.specs.Printing.{Stands, Prints}
 use Rattle.dice_run.proofs.Printed.{put_prints, drop_prints, wait_prints, cancel_prints, close_prints, commit_prints, open_prints, ask_prints, action_prints, ask_may_reply, action_may_reply}
