@@ -1,13 +1,13 @@
 #!/bin/sh
-# Times the program on scripts of its own making: 2,000 packages of one target each, all asked, by 0, 1 and 4 workers.
-# With hyperfine it prints hyperfine's mean; else the least of five runs. Times are wall clock, in milliseconds.
+# Times the program on scripts of its own making, by several numbers of workers. With hyperfine each time is hyperfine's mean; else
+# the least of five runs. Times are wall clock, in milliseconds, of the whole process.
 here=$(cd "$(dirname "$0")/.." && pwd) || exit 1
-dice="$here/dice"
 work=$(mktemp -d) || exit 1
 trap 'rm -rf "$work"' EXIT
-"$dice" run </dev/null || exit 1
+"$here/dice" run </dev/null || exit 1
+dice="$here/crates/dice_cli/out/dice_cli"
 
-# the script: one `write_file` in each of so many packages, and a request for each
+# one `write_file` in each of n packages, and a request for each
 packages() {
     awk -v n="$1" 'BEGIN {
         for (i = 0; i < n; i++) {
@@ -17,6 +17,61 @@ packages() {
         print "commit"
         print "open t"
         for (i = 0; i < n; i++) printf "ask t r%d //p%d:t\n", i, i
+    }'
+}
+
+# a graph of 2,000 targets in twenty packages: target i takes source i and the targets of the quotients of i by 2 and by 3
+graph='
+    function rule(i) {
+        if (i == 0) return "export_file(name = \"t0\", src = \"s0\")\n"
+        return sprintf("filegroup(name = \"t%d\", srcs = [\"s%d\", \"//g%d:t%d\", \"//g%d:t%d\"])\n", i, i, int(int(i / 2) / 100), int(i / 2), int(int(i / 3) / 100), int(i / 3))
+    }
+    function put(path, text) { printf "put %s %d\n%s\n", path, length(text), text }
+    function make(   g, i, text) {
+        for (g = 0; g < 20; g++) {
+            text = ""
+            for (i = g * 100; i < g * 100 + 100; i++) text = text rule(i)
+            put("g" g "/BUCK", text)
+            for (i = g * 100; i < g * 100 + 100; i++) put("g" g "/s" i, "0")
+        }
+        print "commit"
+    }
+'
+
+# one leaf changes and one target above it is asked for, 200 times
+leaf() {
+    awk "$graph"'BEGIN {
+        make()
+        for (k = 0; k < 200; k++) {
+            put("g19/s1999", "" k)
+            printf "commit\nopen t%d\nask t%d r%d //g19:t1999\nwait r%d\nclose t%d\n", k, k, k, k, k
+        }
+    }'
+}
+
+# one of 1,000 targets in one file changes, and another one is asked for, or all are
+one_file() {
+    awk -v all="$1" 'BEGIN {
+        for (round = 0; round < 2; round++) {
+            text = ""
+            for (i = 0; i < 1000; i++) text = text sprintf("write_file(name = \"t%d\", content = \"%d\")\n", i, i == 7 ? round : 0)
+            printf "put a/BUCK %d\n%s\ncommit\nopen t%d\n", length(text), text, round
+            if (all) for (i = 0; i < 1000; i++) printf "ask t%d r%d-%d //a:t%d\n", round, round, i, i
+            else printf "ask t%d r%d //a:t8\nwait r%d\n", round, round, round
+        }
+    }'
+}
+
+# a chain of 2,000 targets in twenty packages, whose end changes
+chain() {
+    awk 'BEGIN {
+        for (g = 0; g < 20; g++) {
+            text = ""
+            for (i = g * 100; i < g * 100 + 100; i++)
+                text = text (i == 0 ? "export_file(name = \"t0\", src = \"s\")\n" : sprintf("filegroup(name = \"t%d\", srcs = [\"//g%d:t%d\"])\n", i, int((i - 1) / 100), i - 1))
+            printf "put g%d/BUCK %d\n%s\n", g, length(text), text
+        }
+        for (round = 0; round < 2; round++) printf "put g0/s 1\n%d\ncommit\nopen t%d\nask t%d r%d //g19:t1999\nwait r%d\n", round, round, round, round, round
     }'
 }
 
@@ -46,6 +101,22 @@ timed() {
 }
 
 packages 2000 >"$work/packages"
+leaf >"$work/leaf"
+one_file 0 >"$work/equal"
+one_file 1 >"$work/file"
+chain >"$work/chain"
+: >"$work/none"
 for workers in 0 1 4; do
     printf 'packages 2000, workers %s: %s ms\n' "$workers" "$(timed "$work/packages" "$dice" run --workers "$workers")"
+done
+for n in 100 1000 10000; do
+    for workers in 0 4; do
+        printf 'bulk %s, workers %s: %s ms\n' "$n" "$workers" "$(timed "$work/none" "$dice" bulk "$n" --workers "$workers")"
+    done
+done
+for workers in 0 4; do
+    printf 'one leaf of 2000 changed and asked, 200 times, workers %s: %s ms\n' "$workers" "$(timed "$work/leaf" "$dice" run --workers "$workers")"
+    printf 'a file edited whose asked target is equal, workers %s: %s ms\n' "$workers" "$(timed "$work/equal" "$dice" run --workers "$workers")"
+    printf 'one of 1000 targets in one file edited, all asked, workers %s: %s ms\n' "$workers" "$(timed "$work/file" "$dice" run --workers "$workers")"
+    printf 'a chain of 2000 whose end changed, workers %s: %s ms\n' "$workers" "$(timed "$work/chain" "$dice" run --workers "$workers")"
 done

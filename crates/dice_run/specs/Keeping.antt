@@ -1,7 +1,6 @@
 -- What a run leaves.
 use Rattle.std.specs.Prelude.{◌≡◌, ℕ, List, Option, Some}
 use Rattle.script.specs.declared.line.Line.{Line}
-use Rattle.script.specs.Scripts.{IsScript}
 use Rattle.dice_run.specs.Events.{IsJournalOf}
 use Rattle.dice_run.specs.Seats.{IsOurs}
 use Rattle.dice_run.specs.declared.kept.Kept.{Kept}
@@ -12,10 +11,3 @@ pub record IsKeptWith (ls : List Line) (k : Option Kept) : Type 0 where
   pub is : k ≡ Some kept
   pub ours : IsOurs kept.engine kept.seat
   pub journal : IsJournalOf ls kept.seat.seen
-
--- and these are the lines of some script
-pub record Keeps (k : Option Kept) : Type 0 where
-  pub input : List ℕ
-  pub lines : List Line
-  pub script : IsScript input lines
-  pub left : IsKeptWith lines k

@@ -4,7 +4,7 @@ use Rattle.script.specs.declared.line.Line.{Line}
 use Rattle.script.specs.declared.fault.Word.{Word}
 use Rattle.script.specs.Words.{text_of}
 use Rattle.script.specs.Scripts.{IsScript, IsFirstFault}
-use Rattle.dice_io.specs.Streams.{Unread}
+use Rattle.dice_io.specs.Streams.{ReadTo}
 use Rattle.dice_words.specs.declared.words.Command.{Command}
 use Rattle.dice_words.specs.declared.words.Command.TheVariants.{Run, Bulk}
 use Rattle.bulk_script.specs.Bulk.{bulk, requests}
@@ -12,7 +12,7 @@ use Rattle.hex.specs.Hex.{encode_lower}
 use Rattle.sha2.specs.Sha256.{sha256}
 use Rattle.dice_run.specs.Output.{line}
 use Rattle.dice_run.specs.Tracing.{IsPrintout}
-use Rattle.dice_run.specs.Keeping.{IsKeptWith, Keeps}
+use Rattle.dice_run.specs.Keeping.{IsKeptWith}
 use Rattle.dice_run.specs.declared.kept.Kept.{Kept}
 use Rattle.dice_run.specs.declared.status.Status.{Status}
 use Rattle.dice_run.specs.declared.status.Status.TheVariants.{Done, WordsRefused, ReadFailed, WriteFailed, ScriptRefused, NoMemory}
@@ -53,12 +53,16 @@ pub record Sums (n : ℕ) (out : List ℕ) (k : Option Kept) : Type 0 where
   pub answers : Answers false (bulk n) text k
   pub is : out ≡ summary n text
 
--- what a command writes and leaves; of a source that tells its bytes these are the input of `run`, and `bulk` reads nothing
-abbrev pub Does : Command → Option (List ℕ) → Option (List ℕ) → (List ℕ → Type 0) → Option Kept → Type 0
-Does (Run workers trace) left after P k = Keeps k × ((input : List ℕ) → left ≡ Some input → (out : List ℕ) × Answers trace input out k × P out × (after ≡ Some []))
-Does (Bulk targets workers) left after P k = Unread left after × ((out : List ℕ) × Sums targets out k × P out)
+-- the source gave these bytes, which go to its end: so they are all that it told to be left, where it tells that
+abbrev pub ReadWhole : Option (List ℕ) → Option (List ℕ) → List ℕ → Type 0
+ReadWhole left after read = (all : List ℕ) → left ≡ Some all → (all ≡ read) × (after ≡ Some [])
 
--- what a command begins to write
-abbrev pub Begins : Command → Option (List ℕ) → (List ℕ → Type 0) → Type 0
-Begins (Run workers trace) left P = (input : List ℕ) → left ≡ Some input → (out : List ℕ) × IsWritten trace input out × P out
-Begins (Bulk targets workers) left P = (out : List ℕ) × (k : Option Kept) × Sums targets out k × P out
+-- what a command reads, writes and leaves
+abbrev pub Does : Command → Option (List ℕ) → Option (List ℕ) → (List ℕ → Type 0) → Option Kept → Type 0
+Does (Run workers trace) left after P k = (read : List ℕ) × (out : List ℕ) × ReadWhole left after read × Answers trace read out k × P out
+Does (Bulk targets workers) left after P k = (out : List ℕ) × Sums targets out k × P out
+
+-- what a command reads, and begins to write
+abbrev pub Begins : Command → Option (List ℕ) → Option (List ℕ) → (List ℕ → Type 0) → Type 0
+Begins (Run workers trace) left after P = (read : List ℕ) × (out : List ℕ) × ReadTo left after read 4194305 × IsWritten trace read out × P out
+Begins (Bulk targets workers) left after P = (out : List ℕ) × (k : Option Kept) × Sums targets out k × P out

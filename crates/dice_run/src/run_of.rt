@@ -1,11 +1,10 @@
 //! A run, from the words of the command line to a status.
-ghost use Rattle.std.specs.Prelude.{◌≡◌, ◌≢◌, ◌≤◌, ◌⊎◌, List, [], ℕ, Option, Some, None, map};
-ghost use Rattle.dice_io.specs.Streams.{Rose, ReadPart, Unread, Gained, GainedPart, Unchanged};
+ghost use Rattle.std.specs.Prelude.{◌≡◌, ◌≢◌, ◌≤◌, ◌⊎◌, List, ℕ, None, map};
+ghost use Rattle.dice_io.specs.Streams.{Rose, ReadPart, ReadTo, Unread, Gained, GainedPart, Unchanged};
 ghost use Rattle.dice_words.specs.Accepted.{IsAccepted, Asks};
 ghost use Rattle.dice_words.specs.declared.words.Command.{Command};
 ghost use Rattle.dice_words.specs.declared.words.Command.TheVariants as command;
-ghost use Rattle.dice_run.specs.Run.{Answers, Refuses, IsWritten, Does, Begins};
-ghost use Rattle.dice_run.specs.Keeping.{Keeps};
+ghost use Rattle.dice_run.specs.Run.{Answers, Refuses, IsWritten, ReadWhole, Does, Begins};
 
 use crate::bulk::run_bulk;
 use crate::carried::answer;
@@ -30,9 +29,10 @@ const MOST: usize = 4_194_305;
 /// The status says how it ended, and is tested in this order: words, reading, length, grammar, running, writing; want of memory
 /// comes where it is met, before anything is written. At most 4,194,305 bytes are read, and at most 65,536 asked for in one
 /// call; the whole rest of the output is handed to the sink in each call, and no memory is taken once it is built. The gate is
-/// told of each job before a worker does it.
+/// told of each job before a worker does it. Of these no clause speaks but of the bytes that are read.
 ///
-/// With status 0 `kept` gets the engine that did the work, with the seat that drove it; else it stays empty.
+/// With status 0 `kept` gets an engine, which did the work, and the driver's seat at it, whose seen journal is one of the script;
+/// else it stays empty.
 pub fn run<R: Threads + Wait + Sync, S: Source, K: Sink, G: Gate>(
     rt: &R,
     alloc: Global,
@@ -46,9 +46,10 @@ pub fn run<R: Threads + Wait + Sync, S: Source, K: Sink, G: Gate>(
     ensures words { result ≡ Status.WordsRefused → (IsAccepted (map (λ w. w.now) words.now) → ⊥) × Unread (S.left source.old) (S.left source.new) × Unchanged (K.taken sink.old) (K.taken sink.new) }
     ensures accepted { IsAccepted (map (λ w. w.now) words.now) ⊎ ((result ≡ Status.WordsRefused) ⊎ (result ≡ Status.NoMemory)) }
     ensures few { ReadPart (S.left source.old) (S.left source.new) 4194305 }
-    ensures read { result ≡ Status.ReadFailed → Rose (S.faults source.old) (S.faults source.new) × Unchanged (K.taken sink.old) (K.taken sink.new) }
-    ensures write { result ≡ Status.WriteFailed → Rose (K.faults sink.old) (K.faults sink.new) × ((c : Command) × Asks (map (λ w. w.now) words.now) c × Begins c (S.left source.old) (GainedPart (K.taken sink.old) (K.taken sink.new))) }
-    ensures script { result ≡ Status.ScriptRefused → ((workers : ℕ) × (trace : _) × Asks (map (λ w. w.now) words.now) (command.Run workers trace)) × ((input : List ℕ) → S.left source.old ≡ Some input → (out : List ℕ) × Refuses input out × Gained (K.taken sink.old) (K.taken sink.new) out) }
+    ensures unread { (targets workers : ℕ) → Asks (map (λ w. w.now) words.now) (command.Bulk targets workers) → Unread (S.left source.old) (S.left source.new) }
+    ensures read { result ≡ Status.ReadFailed → ((workers : ℕ) × (trace : _) × Asks (map (λ w. w.now) words.now) (command.Run workers trace)) × Rose (S.faults source.old) (S.faults source.new) × Unchanged (K.taken sink.old) (K.taken sink.new) }
+    ensures write { result ≡ Status.WriteFailed → Rose (K.faults sink.old) (K.faults sink.new) × ((c : Command) × Asks (map (λ w. w.now) words.now) c × Begins c (S.left source.old) (S.left source.new) (GainedPart (K.taken sink.old) (K.taken sink.new))) }
+    ensures script { result ≡ Status.ScriptRefused → ((workers : ℕ) × (trace : _) × Asks (map (λ w. w.now) words.now) (command.Run workers trace)) × ((read : List ℕ) × (out : List ℕ) × ReadTo (S.left source.old) (S.left source.new) read 4194305 × Refuses read out × Gained (K.taken sink.old) (K.taken sink.new) out) }
     ensures done { result ≡ Status.Done → (c : Command) × Asks (map (λ w. w.now) words.now) c × Does c (S.left source.old) (S.left source.new) (Gained (K.taken sink.old) (K.taken sink.new)) kept.new }
     ensures memory { result ≡ Status.NoMemory → Unchanged (K.taken sink.old) (K.taken sink.new) }
     ensures empty { result ≢ Status.Done → kept.new ≡ None }
@@ -81,10 +82,9 @@ fn run_script<R: Threads + Wait + Sync, S: Source, K: Sink, G: Gate>(
     ensures accepted { result ≢ Status.WordsRefused }
     ensures few { ReadPart (S.left source.old) (S.left source.new) 4194305 }
     ensures read { result ≡ Status.ReadFailed → Rose (S.faults source.old) (S.faults source.new) × Unchanged (K.taken sink.old) (K.taken sink.new) }
-    ensures write { result ≡ Status.WriteFailed → Rose (K.faults sink.old) (K.faults sink.new) × ((input : List ℕ) → S.left source.old ≡ Some input → (out : List ℕ) × IsWritten trace input out × GainedPart (K.taken sink.old) (K.taken sink.new) out) }
-    ensures script { result ≡ Status.ScriptRefused → (input : List ℕ) → S.left source.old ≡ Some input → (out : List ℕ) × Refuses input out × Gained (K.taken sink.old) (K.taken sink.new) out }
-    ensures done { result ≡ Status.Done → (input : List ℕ) → S.left source.old ≡ Some input → (out : List ℕ) × Answers trace input out kept.new × Gained (K.taken sink.old) (K.taken sink.new) out × (S.left source.new ≡ Some []) }
-    ensures kept { result ≡ Status.Done → Keeps kept.new }
+    ensures write { result ≡ Status.WriteFailed → Rose (K.faults sink.old) (K.faults sink.new) × ((read : List ℕ) × (out : List ℕ) × ReadTo (S.left source.old) (S.left source.new) read 4194305 × IsWritten trace read out × GainedPart (K.taken sink.old) (K.taken sink.new) out) }
+    ensures script { result ≡ Status.ScriptRefused → (read : List ℕ) × (out : List ℕ) × ReadTo (S.left source.old) (S.left source.new) read 4194305 × Refuses read out × Gained (K.taken sink.old) (K.taken sink.new) out }
+    ensures done { result ≡ Status.Done → (read : List ℕ) × (out : List ℕ) × ReadWhole (S.left source.old) (S.left source.new) read × Answers trace read out kept.new × Gained (K.taken sink.old) (K.taken sink.new) out }
     ensures memory { result ≡ Status.NoMemory → Unchanged (K.taken sink.old) (K.taken sink.new) }
     ensures empty { result ≢ Status.Done → kept.new ≡ None }
 {

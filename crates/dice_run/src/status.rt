@@ -5,13 +5,13 @@ ghost use Rattle.dice_run.specs.Run.{code_of};
 /// How a run ended.
 #[derive(Clone, Copy, Debug, PartialEq, Eq)]
 pub enum Status {
-    /// The script was read to its end, and the whole output was written.
+    /// The whole output was written; the script of a `run` was read to its end.
     Done,
     /// The words of the command line were refused; nothing was read or written.
     WordsRefused,
     /// The source failed; nothing was written.
     ReadFailed,
-    /// The sink failed; it holds a beginning of the output.
+    /// The sink failed; it holds a beginning of the output, or of the line of the script's fault.
     WriteFailed,
     /// The script is too long or not in the grammar; its first fault was written.
     ScriptRefused,

@@ -12,11 +12,15 @@ use dice_key::NoMemory;
 use script::Script;
 use std::alloc::Global;
 use std::sync::Wait;
-use std::sync::atomic::{AtomicBool, Ordering};
+use std::sync::atomic::{AtomicU64, Ordering};
 use std::thread::{self, Threads, join};
+use std::time::Duration;
 
-/// A worker that found nothing to do so many times rests no longer than before.
-const MOST_RESTS: u32 = 12;
+/// How long a worker rests behind a job, and at first where it finds none, in microseconds.
+const REST: u64 = 50;
+
+/// How often a rest is twice as long as the one before it, at most.
+const DOUBLED: u32 = 6;
 
 /// Drives a script on an engine whose one writer this seat is, with so many workers beside it, and answers its output: what each
 /// line prints, in the order of the lines. A request that the script cancels has the line `cancelled`; each other one is waited for,
@@ -91,7 +95,7 @@ fn drive_with<R: Threads + Wait + Sync, G: Gate>(
     ensures output { IfOk result.1 (λ out. IsPrintout trace script.now result.0.seen out.items) }
     ensures journal { OnOk result.1 (IsJournalOf script.now result.0.seen) }
 {
-    let done = AtomicBool::new(false);
+    let done = AtomicU64::new(0);
     let stop = &done;
     let (_, driven) = join(
         rt,
@@ -103,7 +107,8 @@ fn drive_with<R: Threads + Wait + Sync, G: Gate>(
             ensures { IsOurs engine.entry.now result.0 × IfOk result.1 (λ out. IsPrintout trace script.entry.now result.0.seen out.items) × OnOk result.1 (IsJournalOf script.entry.now result.0.seen) }
         {
             let driven = drive_alone(rt, alloc, engine, seat, script, trace, gate);
-            stop.store(true, Ordering::Release);
+            stop.store(1, Ordering::Release);
+            stop.wake_all();
             driven
         },
     );
@@ -116,7 +121,7 @@ fn work_all<R: Threads + Wait + Sync, G: Gate>(
     engine: &Engine<Buck>,
     seats: Vec<Seat<Buck>>,
     gate: &G,
-    stop: &AtomicBool,
+    stop: &AtomicU64,
 ) -> bool
     requires { All (IsSeatOf engine.now) seats.items }
 {
@@ -130,39 +135,34 @@ fn work_all<R: Threads + Wait + Sync, G: Gate>(
     .is_ok()
 }
 
-/// Does jobs until the script is done, which it answers.
+/// Does jobs until the script is done, which it answers. Behind each job it rests a little, and for longer while it finds none, so that
+/// the turns are left to the driver: most jobs are short.
 fn work<R: Wait, G: Gate>(
     rt: &R,
     engine: &Engine<Buck>,
     mut seat: Seat<Buck>,
     gate: &G,
-    stop: &AtomicBool,
+    stop: &AtomicU64,
 ) -> bool
     requires { IsSeatOf engine.now seat }
 {
     let worker = (seat.number() % 4_294_967_296) as u32;
-    let mut rests = 0;
+    let mut tries = 0u32;
     for _ in rt.forever() {
-        if stop.load(Ordering::Acquire) {
+        if stop.load(Ordering::Acquire) != 0 {
             return true;
         }
         match engine.work(rt, &mut seat, gate, worker) {
-            Worked::Did => rests = 0,
-            Worked::Idle => {
-                rest(stop, rests);
-                rests = MOST_RESTS.min(rests.saturating_add(1));
-            }
+            Worked::Did => tries = 0,
+            Worked::Idle => tries = tries.saturating_add(1),
         }
+        rest(rt, stop, tries);
     }
     unreachable!()
 }
 
-/// Lets others go on, for the longer the more often nothing was found, but not after the script is done.
-fn rest(stop: &AtomicBool, rests: u32) {
-    for _ in 0..1u32 << rests.min(MOST_RESTS) {
-        if stop.load(Ordering::Acquire) {
-            return;
-        }
-        thread::yield_now();
-    }
+/// Sleeps for a while, the longer the more tries found nothing, but not on after the script is done.
+fn rest<R: Wait>(rt: &R, stop: &AtomicU64, tries: u32) {
+    let time = Duration::from_micros(REST << tries.min(DOUBLED));
+    stop.park_timeout(rt, 0, time);
 }
