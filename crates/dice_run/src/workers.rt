@@ -17,10 +17,10 @@ use std::thread::{self, Threads, join};
 use std::time::Duration;
 
 /// How long a worker rests behind a job, and at first where it finds none, in microseconds.
-const REST: u64 = 50;
+const REST: u64 = 300;
 
 /// How often a rest is twice as long as the one before it, at most.
-const DOUBLED: u32 = 6;
+const DOUBLED: u32 = 5;
 
 /// Drives a script on an engine whose one writer this seat is, with so many workers beside it, and answers its output: what each
 /// line prints, in the order of the lines. A request that the script cancels has the line `cancelled`; each other one is waited for,
