@@ -26,15 +26,7 @@ fn status<R: Input + Print + Threads + Wait + Sync>(rt: &R, alloc: Global, given
     let mut source = RealSource::new(rt);
     let mut sink = RealSink::new(rt);
     let mut kept = None;
-    run(
-        rt,
-        alloc,
-        &texts,
-        &mut source,
-        &mut sink,
-        &Open,
-        &mut kept,
-    )
+    run(rt, alloc, &texts, &mut source, &mut sink, &Open, &mut kept)
 }
 
 fn main(rt: HostRuntime) -> ExitCode {
