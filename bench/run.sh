@@ -38,11 +38,22 @@ graph='
     }
 '
 
-# one leaf changes and one target above it is asked for, 200 times
+# the source of the lowest target changes and a target far above it is asked for, 200 times
 leaf() {
     awk "$graph"'BEGIN {
         make()
         for (k = 0; k < 200; k++) {
+            put("g0/s0", "" k)
+            printf "commit\nopen t%d\nask t%d r%d //g19:t1999\nwait r%d\nclose t%d\n", k, k, k, k, k
+        }
+    }'
+}
+
+# the source of a target changes and that target is asked for, 2,000 times
+own() {
+    awk "$graph"'BEGIN {
+        make()
+        for (k = 0; k < 2000; k++) {
             put("g19/s1999", "" k)
             printf "commit\nopen t%d\nask t%d r%d //g19:t1999\nwait r%d\nclose t%d\n", k, k, k, k, k
         }
@@ -75,6 +86,25 @@ chain() {
     }'
 }
 
+# a script of 4 MiB: 100,000 puts of one byte, 50,000 transactions that stay open, 125,000 requests, each name a new one
+worst() {
+    awk 'BEGIN {
+        for (i = 0; i < 100000; i++) printf "put %x 1\n%d\n", i, i % 10
+        print "commit"
+        for (i = 0; i < 50000; i++) printf "open %x\n", i
+        for (i = 0; i < 125000; i++) printf "ask %x %x //a\n", i % 50000, i
+    }'
+}
+
+# one path is put and committed n times, and asked for each time
+history() {
+    awk -v n="$1" 'BEGIN {
+        text = "export_file(name = \"f\")\n"
+        printf "put a/BUCK %d\n%s\n", length(text), text
+        for (i = 0; i < n; i++) printf "put a/f 1\n%d\ncommit\nopen t%d\nask t%d r%d //a:f\n", i % 2, i, i, i
+    }'
+}
+
 # the least of five runs of a command over a script, in milliseconds
 least() {
     script=$1
@@ -102,9 +132,13 @@ timed() {
 
 packages 2000 >"$work/packages"
 leaf >"$work/leaf"
+own >"$work/own"
 one_file 0 >"$work/equal"
 one_file 1 >"$work/file"
 chain >"$work/chain"
+worst >"$work/worst"
+history 1000 >"$work/history1"
+history 4000 >"$work/history4"
 : >"$work/none"
 for workers in 0 1 4; do
     printf 'packages 2000, workers %s: %s ms\n' "$workers" "$(timed "$work/packages" "$dice" run --workers "$workers")"
@@ -115,8 +149,12 @@ for n in 100 1000 10000; do
     done
 done
 for workers in 0 4; do
+    printf 'one target of 2000 changed and asked, 2000 times, workers %s: %s ms\n' "$workers" "$(timed "$work/own" "$dice" run --workers "$workers")"
     printf 'one leaf of 2000 changed and asked, 200 times, workers %s: %s ms\n' "$workers" "$(timed "$work/leaf" "$dice" run --workers "$workers")"
     printf 'a file edited whose asked target is equal, workers %s: %s ms\n' "$workers" "$(timed "$work/equal" "$dice" run --workers "$workers")"
     printf 'one of 1000 targets in one file edited, all asked, workers %s: %s ms\n' "$workers" "$(timed "$work/file" "$dice" run --workers "$workers")"
     printf 'a chain of 2000 whose end changed, workers %s: %s ms\n' "$workers" "$(timed "$work/chain" "$dice" run --workers "$workers")"
+    printf 'a script of 4 MiB of puts, transactions and requests, workers %s: %s ms\n' "$workers" "$(timed "$work/worst" "$dice" run --workers "$workers")"
+    printf 'one path changed and asked 1000 times, workers %s: %s ms\n' "$workers" "$(timed "$work/history1" "$dice" run --workers "$workers")"
+    printf 'one path changed and asked 4000 times, workers %s: %s ms\n' "$workers" "$(timed "$work/history4" "$dice" run --workers "$workers")"
 done

@@ -28,7 +28,7 @@ key_equal = key_eq.ghosts.eq
 abbrev pub value_equal : Value → Value → Bool
 value_equal = value_eq.ghosts.eq
 
-text_same : (x y : List ℕ) → pointwise nat_eq x y ≡ true → x ≡ y
+pub text_same : (x y : List ℕ) → pointwise nat_eq x y ≡ true → x ≡ y
 text_same x y h = (bytes_decides x y).0 h
 
 pub keys_equal : AreSame key_equal

@@ -11,6 +11,7 @@ use crate::action::{action_of, digest_of};
 use crate::asked::asked_by;
 use crate::fault::Fault;
 use crate::key::Key;
+use crate::package_file::PackageFile;
 use crate::rule::Rule;
 use crate::run::Run;
 use crate::value::{ActionText, Value};
@@ -18,7 +19,7 @@ use buck_label::{Label, Package, Text};
 use dice_key::{Answers, Batch, Kind, Line, Move, NoMemory, Universe};
 use std::alloc::Global;
 use std::sync::Arc;
-use target_file::{File, FileFault};
+use target_file::FileFault;
 
 /// The universe of Buck targets. Sources are set from outside; a package is read from its target file, a rule is found in its
 /// package, an action's text is made of its rule, and a digest is the SHA-256 of the text.
@@ -61,25 +62,28 @@ fn package_by(
     alloc: Global,
     home: &Package,
     source: Option<&Text>,
-) -> Result<Result<File, Fault>, NoMemory>
+) -> Result<Result<PackageFile, Fault>, NoMemory>
     ensures { IfOk result (λ r. r ≡ package_by home.now (option_copied source.entry)) }
 {
     let Some(bytes) = source else {
         return Ok(Err(Fault::NoPackage(home.try_clone()?)));
     };
     match target_file::read(alloc, bytes.as_bytes()) {
-        Ok(file) => Ok(Ok(file)),
+        Ok(file) => Ok(Ok(PackageFile::of(bytes.try_clone()?, file))),
         Err(FileFault::Bad { line }) => { Ok(Err(Fault::BadFile(home.target_file(alloc)?, line))) }
         Err(FileFault::NoMemory) => Err(NoMemory),
     }
 }
 
 /// The target of a label, by the targets of its package.
-fn rule_by(label: &Label, found: &Result<File, Fault>) -> Result<Result<Rule, Fault>, NoMemory>
+fn rule_by(
+    label: &Label,
+    found: &Result<PackageFile, Fault>,
+) -> Result<Result<Rule, Fault>, NoMemory>
     ensures { IfOk result (λ r. r ≡ rule_by label.now found.now) }
 {
     match found {
-        Ok(file) => match file.target(label.name()) {
+        Ok(package) => match package.file().target(label.name()) {
             Some(target) => Ok(Ok(Rule::of(Arc::try_clone(target)?))),
             None => Ok(Err(Fault::NoTarget(label.try_clone()?))),
         },

@@ -5,11 +5,11 @@ ghost use Rattle.std.specs.Option.{option_copied};
 use crate::buck::Buck;
 use crate::fault::Fault;
 use crate::key::Key;
+use crate::package_file::PackageFile;
 use crate::rule::Rule;
 use crate::value::{ActionText, Value};
 use buck_label::{Label, Package, Path, Text};
 use dice_key::{ProjectionKey, TypedKey};
-use target_file::File;
 
 /// The bytes of a file.
 #[derive(Drop)]
@@ -69,7 +69,7 @@ impl TypedKey<Buck> for PackageKey {
     ghost use Rattle.action_digest.specs.declared.key.Key.TheVariants as key;
     ghost use Rattle.action_digest.specs.Fronts.{as_package, package_front};
 
-    type Out = Result<File, Fault>;
+    type Out = Result<PackageFile, Fault>;
 
     ghost wrapped = { λ k. key.Package k.package };
 
@@ -79,7 +79,7 @@ impl TypedKey<Buck> for PackageKey {
         Key::Package(self.package)
     }
 
-    fn read(value: &Value) -> Option<&Result<File, Fault>> {
+    fn read(value: &Value) -> Option<&Result<PackageFile, Fault>> {
         match value {
             Value::Package(package) => Some(package),
             _ => None,

@@ -66,23 +66,37 @@ fn a_package_asks_its_target_file(rt: HostRuntime) -> Result<(), Fail> {
     Ok(())
 }
 
+/// The rule of `//a:w`.
+fn rule_key(alloc: Global) -> Result<Key, NoMemory> {
+    let label = label(alloc, b"//a:w")?;
+    Ok(RuleKey { label }.wrap())
+}
+
 #[test]
-fn a_rule_is_found_in_its_package(rt: HostRuntime) -> Result<(), Fail> {
+fn a_rule_stands_on_its_package(rt: HostRuntime) -> Result<(), Fail> {
     let alloc = rt.alloc();
     let universe = Buck::new(alloc)?;
-    let rule = RuleKey {
-        label: label(alloc, b"//a:w")?,
-    }
-    .wrap();
+    let rule = rule_key(alloc)?;
     let base = universe.base(&rule)?;
     assert!(rt; universe.print(&base, false)?.as_bytes() == b"package //a".as_slice());
     assert!(rt; universe.print(&rule, true)?.as_bytes() == b"//a:w".as_slice());
+    assert!(rt; universe.most_batches(&rule) == 1);
+    Ok(())
+}
+
+#[test]
+fn a_rule_of_no_package_has_its_fault(rt: HostRuntime) -> Result<(), Fail> {
+    let alloc = rt.alloc();
+    let universe = Buck::new(alloc)?;
     let package = Package::read(alloc, b"a").map_err(|_| NoMemory)?;
     let none = Value::Package(Err(Fault::NoPackage(package)));
-    let found = universe.project(&rule, &none)?;
-    assert!(rt; matches!(RuleKey::read(&found), Some(Err(Fault::NoPackage(_)))));
-    assert!(rt; !universe.is_transient(&found) && universe.most_batches(&rule) == 1);
+    let found = universe.project(&rule_key(alloc)?, &none)?;
+    assert!(rt; is_no_package_of_rule(&found) && !universe.is_transient(&found));
     Ok(())
+}
+
+fn is_no_package_of_rule(value: &Value) -> bool {
+    matches!(RuleKey::read(value), Some(Err(Fault::NoPackage(_))))
 }
 
 /// Files that are put, each by a commit of its own.
@@ -136,6 +150,42 @@ fn action_text(alloc: Global, files: Files<'_>, name: &[u8]) -> Result<Vec<u8>, 
         },
         None => Ok(Vec::new(alloc)),
     }
+}
+
+/// The value of the package `a`, whose target file has these bytes.
+fn package_of(alloc: Global, bytes: &[u8]) -> Result<Option<Arc<Value>>, NoMemory> {
+    let package = Package::read(alloc, b"a").map_err(|_| NoMemory)?;
+    value_of(alloc, &[(b"a/BUCK", bytes)], PackageKey { package }.wrap())
+}
+
+fn has_one_target(value: &Value) -> bool {
+    match value {
+        Value::Package(Ok(package)) => package.file().targets().len() == 1,
+        _ => false,
+    }
+}
+
+#[test]
+fn a_package_is_its_targets_whatever_their_text(rt: HostRuntime) -> Result<(), Fail> {
+    let alloc = rt.alloc();
+    let package = package_of(alloc, WRITE)?;
+    let rows: [(&[u8], bool); 4] = [
+        (WRITE, true),
+        (
+            b"write_file(content = 'abc', out = 'w.txt', name = 'w')",
+            true,
+        ),
+        (
+            b"\nwrite_file(name = 'w', out = 'w.txt', content = 'abc')",
+            false,
+        ),
+        (b"write_file(name = 'w', content = 'abc')", false),
+    ];
+    for (bytes, same) in rows {
+        assert!(rt; (package_of(alloc, bytes)? == package) == same);
+    }
+    assert!(rt; package.is_some_and(|value| has_one_target(&value)));
+    Ok(())
 }
 
 const EXPORT: &[u8] = b"export_file(name = \"f\")\n";

@@ -1,9 +1,9 @@
 //! The values.
 
 use crate::fault::Fault;
+use crate::package_file::PackageFile;
 use crate::rule::Rule;
 use buck_label::Text;
-use target_file::File;
 
 /// The text of an action.
 #[derive(PartialEq, Eq, Drop)]
@@ -20,7 +20,7 @@ pub enum Value {
     /// The bytes of a file, or that there is none.
     Source(Option<Text>),
     /// The targets of a package.
-    Package(Result<File, Fault>),
+    Package(Result<PackageFile, Fault>),
     /// One target.
     Rule(Result<Rule, Fault>),
     /// The text of an action.

@@ -85,7 +85,9 @@ fn label_of(alloc: Global, home: &[u8], target: &[u8]) -> Result<Label, AllocErr
     requires { IsName (record { home = home.now; target = target.now }) }
     ensures { IfOk result (λ l. l ≡ printed (record { home = home.now; target = target.now })) }
 {
-    let mut text = Vec::from_slice(alloc, b"//")?;
+    let room = home.len().saturating_add(target.len()).saturating_add(3);
+    let mut text = Vec::with_capacity(alloc, room)?;
+    text.extend_from_slice(b"//")?;
     text.extend_from_slice(home)?;
     let colon = text.len();
     text.push(b':')?;

@@ -43,7 +43,7 @@ const PARITY: Place = Place::Parity(1);
 
 const RING: Place = Place::Ring(false);
 
-const ROWS: [Row; 31] = [
+const ROWS: [Row; 35] = [
     // A value that is not there yet, and that is.
     (Call::Commit(CELL, 2), 1, CELL, Seen::Absent, 0, 0),
     (Call::Open, 1, CELL, Seen::Number(2), 0, 0),
@@ -75,25 +75,30 @@ const ROWS: [Row; 31] = [
     ),
     (Call::Close, 1, SUM, Seen::Absent, 0, 0),
     (Call::Open, 2, CELL, Seen::Number(2), 0, 0),
-    (Call::Ask(SUM), 2, SUM, Seen::Pending, 1, 0),
-    (Call::Work, 2, SUM, Seen::Number(2), 0, 0),
+    (Call::Ask(SUM), 2, SUM, Seen::Number(2), 0, 0),
     (Call::Close, 2, SUM, Seen::Absent, 0, 0),
+    // What stands on a cell that changed is checked anew.
+    (Call::Commit(CELL, 6), 3, SUM, Seen::Absent, 0, 0),
+    (Call::Open, 3, CELL, Seen::Number(6), 0, 0),
+    (Call::Ask(SUM), 3, SUM, Seen::Pending, 1, 0),
+    (Call::Work, 3, SUM, Seen::Number(6), 0, 0),
+    (Call::Close, 3, SUM, Seen::Absent, 0, 0),
     // A job that goes out, comes back, goes out and is given up; the key's task is made anew.
-    (Call::Open, 2, PARITY, Seen::Absent, 0, 0),
-    (Call::Ask(PARITY), 2, PARITY, Seen::Pending, 1, 0),
-    (Call::Take, 2, PARITY, Seen::Pending, 0, 1),
-    (Call::Back, 2, PARITY, Seen::Pending, 1, 0),
-    (Call::Take, 2, PARITY, Seen::Pending, 0, 1),
-    (Call::Fail, 2, PARITY, Seen::Lost, 0, 0),
-    (Call::Ask(PARITY), 2, PARITY, Seen::Pending, 1, 0),
+    (Call::Open, 3, PARITY, Seen::Absent, 0, 0),
+    (Call::Ask(PARITY), 3, PARITY, Seen::Pending, 1, 0),
+    (Call::Take, 3, PARITY, Seen::Pending, 0, 1),
+    (Call::Back, 3, PARITY, Seen::Pending, 1, 0),
+    (Call::Take, 3, PARITY, Seen::Pending, 0, 1),
+    (Call::Fail, 3, PARITY, Seen::Lost, 0, 0),
+    (Call::Ask(PARITY), 3, PARITY, Seen::Pending, 1, 0),
     // A step of an ask that was left is stale.
-    (Call::Take, 2, PARITY, Seen::Pending, 0, 1),
-    (Call::Leave, 2, PARITY, Seen::Pending, 0, 1),
-    (Call::Close, 2, PARITY, Seen::Absent, 0, 0),
-    (Call::Give, 2, PARITY, Seen::Absent, 0, 0),
-    (Call::Open, 2, PARITY, Seen::Absent, 0, 0),
-    (Call::Ask(PARITY), 2, PARITY, Seen::Pending, 1, 0),
-    (Call::Work, 2, PARITY, Seen::Number(0), 0, 0),
+    (Call::Take, 3, PARITY, Seen::Pending, 0, 1),
+    (Call::Leave, 3, PARITY, Seen::Pending, 0, 1),
+    (Call::Close, 3, PARITY, Seen::Absent, 0, 0),
+    (Call::Give, 3, PARITY, Seen::Absent, 0, 0),
+    (Call::Open, 3, PARITY, Seen::Absent, 0, 0),
+    (Call::Ask(PARITY), 3, PARITY, Seen::Pending, 1, 0),
+    (Call::Work, 3, PARITY, Seen::Number(0), 0, 0),
 ];
 
 fn polled(alloc: Global, core: &Core<Tiny>, version: u64, key: Place) -> Result<Seen, NoMemory> {

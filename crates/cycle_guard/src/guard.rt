@@ -7,6 +7,7 @@ ghost use Rattle.task_share.specs.Seen.{asked_of};
 ghost use Rattle.cycle_guard.specs.Circle.{IsCircle};
 ghost use Rattle.cycle_guard.specs.Search.{next_wait};
 
+use crate::walk::leads_to;
 use dice_key::{NoMemory, Path};
 use std::alloc::Global;
 use std::collections::HashSet;
@@ -17,7 +18,8 @@ use task_share::{Table, table_in_order};
 /// The circle that would be closed if the task of `from` waited for that of `to`: a path exactly where `to` leads to `from` by
 /// waits, or is `from`. It begins with `from`, then `to`; each key waits for the next, and the last for the first.
 ///
-/// Each wait is passed at most once. Where `to` waits for nothing the answer takes no memory.
+/// Each task is looked up at most once where there is none, and each wait once more where there is one. Where `to` waits for nothing
+/// the answer takes no memory.
 pub fn would_close<K: Eq + Hash + Drop, T: Drop>(
     alloc: Global,
     table: &Table<K, T>,
@@ -34,7 +36,7 @@ pub fn would_close<K: Eq + Hash + Drop, T: Drop>(
         keys.push(Arc::try_clone(from)?)?;
         return Ok(Some(Path::from_keys(keys)));
     }
-    if table.waits(to).is_empty() {
+    if table.waits(to).is_empty() || !leads_to(alloc, table, to, from)? {
         return Ok(None);
     }
     search(alloc, table, from, to)

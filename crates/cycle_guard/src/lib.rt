@@ -3,6 +3,7 @@
 
 mod guard;
 mod laws;
+mod walk;
 
 pub use guard::would_close;
 pub use laws::no_circle_stays;

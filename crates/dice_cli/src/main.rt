@@ -5,6 +5,7 @@ use dice_run::{Open, RealSink, RealSource, Status, run};
 use std::alloc::Global;
 use std::env::{self, Args};
 use std::io::{ErrorKind, Input, Print};
+use std::mem;
 use std::process::ExitCode;
 use std::sync::Wait;
 use std::thread::Threads;
@@ -26,7 +27,10 @@ fn status<R: Input + Print + Threads + Wait + Sync>(rt: &R, alloc: Global, given
     let mut source = RealSource::new(rt);
     let mut sink = RealSink::new(rt);
     let mut kept = None;
-    run(rt, alloc, &texts, &mut source, &mut sink, &Open, &mut kept)
+    let status = run(rt, alloc, &texts, &mut source, &mut sink, &Open, &mut kept);
+    // The process ends here, and what the engine holds goes with it.
+    mem::forget(kept);
+    status
 }
 
 fn main(rt: HostRuntime) -> ExitCode {

@@ -33,7 +33,7 @@ use Rattle.dice_tasks.specs.Hands.{DeskSeen, desk_of, tasks_of, seen_world, AreN
 use Rattle.dice_tasks.specs.Helds.{Held}
 use Rattle.dice_core.specs.Sessions.{SessionSeen, SessionsSeen, has_ask, asks_in, owed, session_at, SessionsStand, Closing}
 use Rattle.dice_core.specs.Cores.{CoreSeen, table_at, has_table, world_of, WorksOn, CoreStands}
-use Rattle.dice_core.proofs.AskingLemmas.{cleaning_by}
+use Rattle.dice_core.proofs.AskingLemmas.{dropped_live, cleaning_by}
 use Rattle.dice_tasks.proofs.EndsLemmas.{back_more}
 use Rattle.dice_tasks.proofs.EntriesLemmas.{stand_close}
 use Rattle.dice_core.proofs.EventLemmas.{all_drops, all_works, entries_given_up, cells_works, count_works, sessions_works}
@@ -174,6 +174,7 @@ module _ {K V : Type 0} (eq : K → K → Bool) (equality : IsEquality eq) (m : 
   pub closed_log : (x : Told K V) (ks : List K) (ps qs rs : List (K × Share K (Held K V))) (d e : DeskSeen K V) → KeepsTasks eq ps qs → DropsTasks eq v ks qs rs (with_event d x) e → DropsAfter eq v (x ∷ []) ks ps rs d e
   closed_log x ks ps qs rs d e keeps drops = record {
     events = drops.events ∙ append_assoc d.events (x ∷ []) (map (Drop v) ks);
+    at_work = λ q h. sym (keeps.live q) ∙ dropped_live eq ks (asked_of eq qs) (asked_of eq rs) drops.cascade q h;
     tasks = λ q. drops.tasks q ∙ ap (λ o. cond (list_has q) None o) (keeps.tasks q);
   }
     where

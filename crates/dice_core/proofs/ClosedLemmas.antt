@@ -1,5 +1,5 @@
 -- A transaction that is closed, and a step that is given, over all versions.
-use Rattle.std.proofs.Common.{◌≡◌, ◌<◌, ◌-◌, ◌⊎◌, inl, inr, ℕ, zero, suc, Bool, true, false, cond, nat_eq, eqb, List, [], reverse, Option, Some, None, Result, Ok, Err, unwrap_or, refl, sym, ap, ◌∙◌, subst, arith}
+use Rattle.std.proofs.Common.{◌≡◌, ◌<◌, ◌-◌, ◌&&◌, ℕ, zero, suc, Bool, true, false, cond, nat_eq, List, [], reverse, Option, Some, None, Result, Ok, Err, unwrap_or, refl, sym, ap, ◌∙◌, subst, arith}
 use Rattle.std.specs.Prelude.{OnOk, IfOk, IfSome, IfNone}
 use Rattle.std.specs.Map.{lookup}
 use Rattle.std.specs.Option.{option_map}
@@ -7,7 +7,7 @@ use Rattle.std.specs.List.{list_any}
 use Rattle.std.proofs.lemmas.Bool.{eqb-true}
 use Rattle.dice_key.specs.Meaning.{Meaning}
 use Rattle.dice_key.specs.Lawful.{IsEquality, IsLawful}
-use Rattle.task_share.specs.Seen.{Share, task_at}
+use Rattle.task_share.specs.Seen.{Share, task_at, is_live}
 use Rattle.injected.specs.Seen.{Seen}
 use Rattle.journal.specs.declared.event.Told.{Told}
 use Rattle.journal.specs.Events.{Opened, open_at, open_count}
@@ -15,13 +15,14 @@ use Rattle.version_epoch.specs.Standings.{open_count_of}
 use Rattle.versioned_graph.specs.Entries.{Stored}
 use Rattle.dice_jobs.specs.Jobs.{Stepped}
 use Rattle.dice_steps.specs.AtHand.{AtHand}
+use Rattle.dice_core.specs.Askings.{DropsAfter}
 use Rattle.dice_core.specs.Closings.{LeftHand}
 use Rattle.dice_core.specs.Givings.{Gives}
 use Rattle.dice_tasks.specs.Hands.{DeskSeen}
 use Rattle.dice_tasks.specs.Helds.{Held}
 use Rattle.dice_core.specs.Sessions.{SessionSeen, SessionsSeen, opened_of, session_at, owed, SessionsStand}
-use Rattle.dice_core.specs.Cores.{table_at, has_table, world_of, core_of, PutsTable, Turned, CoreStands, WorksOn}
-use Rattle.dice_core.proofs.CoreLemmas.{in_hand, put_back_so, table_put}
+use Rattle.dice_core.specs.Cores.{table_at, has_table, world_of, core_of, PutsTable, Turned, DropsThese, CoreStands, WorksOn}
+use Rattle.dice_core.proofs.CoreLemmas.{in_hand, put_back_so}
 use Rattle.dice_core.proofs.CloseLemmas.{hand_of_left, thrown_away_so}
 use Rattle.dice_core.proofs.TurnLemmas.{opened_some}
 
@@ -33,30 +34,40 @@ put_away ts us ws v qs put gone u = gone u ∙ by_test (nat_eq v u) (put u)
     by_test true e = refl
     by_test false e = e
 
-module _ {K V : Type 0} (eq : K → K → Bool) where
-  gone_or : (ps qs : List (K × Share K (Held K V))) (ks : List K) (q : K) → ((j : K) → task_at eq qs j ≡ cond (list_any (eq j) ks) None (task_at eq ps j)) → (task_at eq qs q ≡ None) ⊎ (task_at eq qs q ≡ task_at eq ps q)
-  gone_or ps qs ks q tasks = by_test (list_any (eq q) ks) (tasks q)
+module _ {K V : Type 0} (eq : K → K → Bool) (v : ℕ) (ts us : List (ℕ × List (K × Share K (Held K V)))) where
+  -- what becomes of one table, and of all others nothing
+  pub drops_put : (qs : List (K × Share K (Held K V))) (gone : K → Bool) → PutsTable v qs ts us → ((q : K) → task_at eq qs q ≡ cond (gone q) None (task_at eq (table_at ts v) q)) → (u : ℕ) (q : K) → task_at eq (table_at us u) q ≡ cond (nat_eq v u && gone q) None (task_at eq (table_at ts u) q)
+  drops_put qs gone put tasks u q = by_test (nat_eq v u) refl (put u)
     where
-      by_test : (b : Bool) → task_at eq qs q ≡ cond b None (task_at eq ps q) → (task_at eq qs q ≡ None) ⊎ (task_at eq qs q ≡ task_at eq ps q)
-      by_test true e = inl e
-      by_test false e = inr e
+      by_test : (b : Bool) → nat_eq v u ≡ b → lookup (nat_eq u) us ≡ cond b (Some qs) (lookup (nat_eq u) ts) → task_at eq (table_at us u) q ≡ cond (b && gone q) None (task_at eq (table_at ts u) q)
+      by_test true i e = ap (λ (o : Option (List (K × Share K (Held K V)))). task_at eq (unwrap_or o []) q) e ∙ subst (λ z. task_at eq qs q ≡ cond (gone q) None (task_at eq (table_at ts z) q)) (eqb-true v u i) (tasks q)
+      by_test false i e = ap (λ (o : Option (List (K × Share K (Held K V)))). task_at eq (unwrap_or o []) q) e
 
-  -- the tasks of the version, where its table stays
-  pub closed_tasks : (ts us : List (ℕ × List (K × Share K (Held K V)))) (v : ℕ) (ps qs : List (K × Share K (Held K V))) (ks : List K) → table_at ts v ≡ ps → PutsTable v qs ts us → ((j : K) → task_at eq qs j ≡ cond (list_any (eq j) ks) None (task_at eq ps j))
-      → (u : ℕ) (q : K) → (task_at eq (table_at us u) q ≡ None) ⊎ (task_at eq (table_at us u) q ≡ task_at eq (table_at ts u) q)
-  closed_tasks ts us v ps qs ks found put tasks u q = subst (λ a. (task_at eq a q ≡ None) ⊎ (task_at eq a q ≡ task_at eq (table_at ts u) q)) (sym (table_put ts us v qs put u)) (by_version (eqb u v) refl)
-    where
-      by_version : (b : Bool) → eqb u v ≡ b → (task_at eq (cond b qs (table_at ts u)) q ≡ None) ⊎ (task_at eq (cond b qs (table_at ts u)) q ≡ task_at eq (table_at ts u) q)
-      by_version true i = subst (λ a. (task_at eq qs q ≡ None) ⊎ (task_at eq qs q ≡ task_at eq a q)) (sym (ap (table_at ts) (eqb-true u v i) ∙ found)) (gone_or ps qs ks q tasks)
-      by_version false i = inr refl
+  -- an ask was left, or a transaction closed beside another one
+  pub drops_some : (all : Bool) (ks : List K) (before : List (Told K V)) (ps qs : List (K × Share K (Held K V))) (d e : DeskSeen K V) → all ≡ false → table_at ts v ≡ ps → PutsTable v qs ts us → DropsAfter eq v before ks ps qs d e → DropsThese eq v all ks ts us
+  drops_some all ks before ps qs d e off found put drops = subst (λ b. DropsThese eq v b ks ts us) (sym off) (record {
+    at_work = λ q h. ap (λ x. is_live eq x q) found ∙ drops.at_work q h;
+    tasks = drops_put qs (λ q. list_any (eq q) ks) put (λ q. drops.tasks q ∙ ap (λ x. cond (list_any (eq q) ks) None (task_at eq x q)) (sym found));
+  })
 
-  -- and where it is thrown away
-  pub thrown_tasks : (ts ws : List (ℕ × List (K × Share K (Held K V)))) (v : ℕ) → ((u : ℕ) → lookup (nat_eq u) ws ≡ cond (nat_eq v u) None (lookup (nat_eq u) ts)) → (u : ℕ) (q : K) → (task_at eq (table_at ws u) q ≡ None) ⊎ (task_at eq (table_at ws u) q ≡ task_at eq (table_at ts u) q)
-  thrown_tasks ts ws v gone u q = by_test (nat_eq v u) (gone u)
+  -- the last transaction was closed: the table went
+  pub drops_all : (all : Bool) (ks : List K) (before : List (Told K V)) (ps qs : List (K × Share K (Held K V))) (d e : DeskSeen K V) → all ≡ true → table_at ts v ≡ ps → DropsAfter eq v before ks ps qs d e → ((u : ℕ) → lookup (nat_eq u) us ≡ cond (nat_eq v u) None (lookup (nat_eq u) ts)) → DropsThese eq v all ks ts us
+  drops_all all ks before ps qs d e on found drops gone = subst (λ b. DropsThese eq v b ks ts us) (sym on) (record {
+    at_work = λ q h. ap (λ x. is_live eq x q) found ∙ drops.at_work q h;
+    tasks = λ u q. by_test u q (nat_eq v u) (gone u);
+  })
     where
-      by_test : (b : Bool) → lookup (nat_eq u) ws ≡ cond b None (lookup (nat_eq u) ts) → (task_at eq (table_at ws u) q ≡ None) ⊎ (task_at eq (table_at ws u) q ≡ task_at eq (table_at ts u) q)
-      by_test true e = inl (ap (λ (o : Option (List (K × Share K (Held K V)))). task_at eq (unwrap_or o []) q) e)
-      by_test false e = inr (ap (λ (o : Option (List (K × Share K (Held K V)))). task_at eq (unwrap_or o []) q) e)
+      by_test : (u : ℕ) (q : K) (b : Bool) → lookup (nat_eq u) us ≡ cond b None (lookup (nat_eq u) ts) → task_at eq (table_at us u) q ≡ cond (b && true) None (task_at eq (table_at ts u) q)
+      by_test u q true e = ap (λ (o : Option (List (K × Share K (Held K V)))). task_at eq (unwrap_or o []) q) e
+      by_test u q false e = ap (λ (o : Option (List (K × Share K (Held K V)))). task_at eq (unwrap_or o []) q) e
+
+-- whether no transaction is open any more, by the count that was looked at
+pub open_test : (n k l : ℕ) → n ≡ k → k ≡ l → (n ≡ 0 → ⊥) → nat_eq l 0 ≡ false
+open_test n k l i j some = by_test (nat_eq l 0) refl
+  where
+    by_test : (b : Bool) → nat_eq l 0 ≡ b → b ≡ false
+    by_test true e = absurd (some (i ∙ (j ∙ eqb-true l 0 e)))
+    by_test false e = refl
 
 module _ {K V : Type 0} (eq : K → K → Bool) (equality : IsEquality eq) (m : Meaning K V) (law : IsLawful m) (d : DeskSeen K V) (ts us : List (ℕ × List (K × Share K (Held K V)))) (es : List (K × Stored K V)) (s : Seen K V) (x y : SessionsSeen K) (st : CoreStands eq m (core_of d ts es s x)) (v t : ℕ) (o : Opened) (op : open_at (reverse d.events) t ≡ Some o) (at : o.version ≡ v)
     (ps qs : List (K × Share K (Held K V))) (found : table_at ts v ≡ ps) (put : PutsTable v qs ts us) (e : DeskSeen K V) (stands : SessionsStand (reverse e.events) y) (counts : (u : ℕ) → open_count (reverse e.events) u ≡ cond (nat_eq v u) (open_count (reverse d.events) u - 1) (open_count (reverse d.events) u)) where

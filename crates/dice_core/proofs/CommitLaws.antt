@@ -14,7 +14,10 @@ use Rattle.journal.specs.declared.event.Told.{Told}
 use Rattle.journal.specs.declared.event.Told.TheVariants.{Commit}
 use Rattle.journal.specs.Events.{commits_of}
 use Rattle.journal.specs.Law.{IsAllowed, IsLawfulBack, IsLawfulJournal}
-use Rattle.dice_core.specs.Commits.{AreSettable, differs, differing_of, SameSets, AreSet, event_of, Commits}
+use Rattle.dice_core.specs.Commits.{AreSettable, differs, differing_of, SameSets, AreSet, event_of, Commits, CommitsEntries}
+use Rattle.versioned_graph.specs.Entries.{Stored}
+use Rattle.versioned_graph.specs.Edges.{IsCut}
+use Rattle.versioned_graph.specs.Sound.{AreTrue}
 use Rattle.dice_steps.specs.Cells.{CellsStand}
 use Rattle.dice_core.proofs.CommitLemmas.{all_mapped}
 
@@ -131,3 +134,16 @@ module _ {K V : Type 0} (eq : K → K → Bool) (m : Meaning K V) where
   pub commit_lawful : (by : ℕ) (c : List (K × V)) (J I : List (Told K V)) → I ≡ J ++ event_of by c → AllByRecursion (IsAllowed eq m (reverse J)) (event_of by c) → IsLawfulJournal eq m J → IsLawfulJournal eq m I
   commit_lawful by [] J I e a l = subst (IsLawfulJournal eq m) (sym (e ∙ append-nil J)) l
   commit_lawful by (p ∷ c) J I e a l = subst (IsLawfulBack eq m) (sym (ap reverse e ∙ backwards J (Commit by (p ∷ c)))) (a.0, l)
+
+module _ {K V : Type 0} (eq : K → K → Bool) (m : Meaning K V) where
+  -- where there are changes, the entries are cut
+  pub cuts_entries : (c : List (K × V)) (v : ℕ) (es fs : List (K × Stored K V)) → 0 < length c
+      → IsCut eq es (keys_of c) v fs × ((C : List (List (K × V))) (d : List (K × V)) → v ≡ suc (length C) → ((k : K) → Has (keys_of d) k → Has (keys_of c) k) → AreTrue eq m C es → AreTrue eq m (C ++ d ∷ []) fs)
+      → CommitsEntries eq m c v es fs
+  cuts_entries [] v es fs some h = absurd (omega arith)
+  cuts_entries (p ∷ c) v es fs some h = record { cut = h.0; kept = λ C n t. h.1 C (p ∷ c) n (λ k i. i) t }
+
+  -- without any they stay
+  pub keeps_entries : (c : List (K × V)) (v : ℕ) (es : List (K × Stored K V)) → c ≡ [] → CommitsEntries eq m c v es es
+  keeps_entries [] v es e = refl
+  keeps_entries (p ∷ c) v es e = cc

@@ -19,6 +19,7 @@ use Rattle.journal.specs.Events.{open_count, commits_of}
 use Rattle.journal.specs.Law.{IsWanted, IsLawfulBack}
 use Rattle.journal.specs.Tell.{reason_of}
 use Rattle.versioned_graph.specs.Entries.{Stored}
+use Rattle.versioned_graph.specs.Looks.{Look, Matches, Computes, Checks}
 use Rattle.core_laws.specs.Changes.{SameAsks, Joins}
 use Rattle.core_laws.specs.Tasks.{Ended, IsOut, WithValue, WithNothing, is_going}
 use Rattle.core_laws.specs.Stands.{VersionStands, IsAtRest}
@@ -34,9 +35,9 @@ use Rattle.dice_core.specs.Cores.{IsWorkAt, WorksOn}
 use Rattle.dice_tasks.specs.Endings.{AreTasked}
 use Rattle.dice_tasks.specs.Entries.{EntriesStand}
 use Rattle.dice_tasks.specs.Hands.{DeskSeen, desk_of, tasks_of, seen_world, with_event, Stays, KeepsHands, KeepsDeskRoom, HasDeskRoom, Working}
-use Rattle.dice_tasks.specs.Helds.{Held, held_of, works as work_of}
-use Rattle.dice_core.specs.Joinings.{KeepsAtHand, IsNewTask, AsksForKey, IsOpenAt}
-use Rattle.dice_tasks.specs.Makings.{IsFree, HasTask, IsOfMake, MayMake, IsMaking, CanMake, IsMade, MakesAlone}
+use Rattle.dice_tasks.specs.Helds.{Held, held_of, held_ended, works as work_of}
+use Rattle.dice_core.specs.Joinings.{KeepsAtHand, IsMadeBy, AsksForKey, IsOpenAt}
+use Rattle.dice_tasks.specs.Makings.{IsFree, HasTask, IsOfMake, MayMake, IsMaking, CanMake, IsMade, MakesAlone, held_run, held_check}
 use Rattle.dice_tasks.specs.declared.making.Making.{Making}
 use Rattle.dice_tasks.specs.declared.making.Making.TheVariants.{Join, Match, Run, Check}
 use Rattle.dice_tasks.proofs.EndsLemmas.{back_more, same_tasks, same_table, working_knows}
@@ -180,16 +181,6 @@ module _ {K V : Type 0} (eq : K → K → Bool) (equality : IsEquality eq) (m : 
       cells = cells_asked s h.cells;
     }
 
-    pub asks_injected : KeepsAtHand eq ps qs d e → (w : World K V) (owed : ℕ) → Working eq m v [] w owed ps d → AsksForKey eq v by t k ps qs d (with_event e (Ask by t k))
-    asks_injected kept w owed h = record {
-      made = [];
-      told = tt;
-      events = ap (λ (X : List (Told K V)). X ++ Ask by t k ∷ []) hands.events;
-      others = λ q n. tasks q;
-      own = inl (tasks k);
-      outs = record { kept = λ x i. subst (λ xs. Has xs x) (sym hands.out) i; only = λ x i. subst (λ xs. Has xs x) hands.out i; distinct = subst (λ xs. AreDistinct xs) (sym hands.out) h.outs.distinct };
-    }
-
 -- ---- what is made after the Ask
 
 module _ {U K V A : Type 0} (eq : K → K → Bool) (m : Meaning K V) (v : ℕ) (k : K) (born : ℕ) (es : List (K × Stored K V)) (ps qs : List (K × Share K (Held K V))) (same : task_at eq qs k ≡ task_at eq ps k) where
@@ -310,7 +301,7 @@ module _ {U K V A : Type 0} (eq : K → K → Bool) (equality : IsEquality eq) (
                 (r.0, same q r.0 ∙ (joins q r.0 ∙ or_left (asks eq os q r.0) _ (kept.asks q r.0 ∙ r.1)))
 
     -- what was told and made
-    pub asks_joined : (w : World K V) (owed : ℕ) → Working eq m v [] w owed ps c → AsksForKey eq v by t k ps rs c e
+    pub asks_joined : (w : World K V) (owed : ℕ) → Working eq m v [] w owed ps c → AsksForKey eq m v by t k ps rs es fs c e
     asks_joined w owed h = by_making p making_first made
       where
         x : Told K V
@@ -334,13 +325,13 @@ module _ {U K V A : Type 0} (eq : K → K → Bool) (equality : IsEquality eq) (
         named : (b : ℕ) → b ≡ index + 1 → b ≡ length c.events + 1
         named b i = let z = at in omega arith
 
-        by_making : (y : Making U K V A) → IsMaking eq m v k (index + 1) ps es y → IsMade eq v k qs (with_event d (Ask by t k)) es y rs e fs → AsksForKey eq v by t k ps rs c e
+        by_making : (y : Making U K V A) → IsMaking eq m v k (index + 1) ps es y → IsMade eq v k qs (with_event d (Ask by t k)) es y rs e fs → AsksForKey eq m v by t k ps rs es fs c e
         by_making Join i r = record {
           made = [];
           told = tt;
           events = ap (λ (z : DeskSeen K V). z.events) r.1 ∙ start;
           others = others;
-          own = inl (ap (λ z. task_at eq z k) r.0 ∙ keeps.tasks k);
+          own = inl (record { there = inr i; task = ap (λ z. task_at eq z k) r.0 ∙ keeps.tasks k; entries = r.2; silent = refl });
           outs = outs_same e.out (ap (λ (z : DeskSeen K V). z.out) r.1);
         }
         by_making (Match event base task) i r = record {
@@ -348,7 +339,12 @@ module _ {U K V A : Type 0} (eq : K → K → Bool) (equality : IsEquality eq) (
           told = (refl, refl);
           events = ap (λ (z : DeskSeen K V). z.events) r.1 ∙ (append_assoc d.events (Ask by t k ∷ []) (Keep v k base ∷ []) ∙ ap (λ (X : List (Told K V)). X ++ (Ask by t k ∷ Keep v k base ∷ [])) kept.hands.events);
           others = others;
-          own = inr (i.0, task, put task r.0.tasks, record { name = ap (λ (z : Held K V). z.name) i.1.2 ∙ ap (λ b. record { version = v; key = k; born = b }) (named (index + 1) refl); stands = inr (i.1.0, ap (λ (z : Held K V). z.standing) i.1.2) });
+          own = inr (record {
+            free = i.0;
+            held = task;
+            task = put task r.0.tasks;
+            by_look = subst (IsMadeBy eq v k (length c.events + 1) es fs task (Keep v k base ∷ [])) (sym i.1.1) (i.1.2 ∙ ap (λ b. held_ended (record { version = v; key = k; born = b }) (WithValue i.1.0)) (named (index + 1) refl), refl, r.2);
+          });
           outs = outs_same e.out (ap (λ (z : DeskSeen K V). z.out) r.1);
         }
         by_making (Run event cause ready task) i r = record {
@@ -356,7 +352,12 @@ module _ {U K V A : Type 0} (eq : K → K → Bool) (equality : IsEquality eq) (
           told = (refl, refl);
           events = r.1.rest.events ∙ (append_assoc d.events (Ask by t k ∷ []) (Start v k (reason_of cause) ∷ []) ∙ ap (λ (X : List (Told K V)). X ++ (Ask by t k ∷ Start v k (reason_of cause) ∷ [])) kept.hands.events);
           others = others;
-          own = inr (i.0, task, put task r.0.tasks, record { name = ap (λ (z : Held K V). z.name) i.1.3 ∙ ap (λ b. record { version = v; key = k; born = b }) (named (index + 1) refl); stands = inl (ap (λ (z : Held K V). ready_in z.standing) i.1.3) });
+          own = inr (record {
+            free = i.0;
+            held = task;
+            task = put task r.0.tasks;
+            by_look = subst (IsMadeBy eq v k (length c.events + 1) es fs task (Start v k (reason_of cause) ∷ [])) (sym i.1.1) (i.1.3 ∙ ap (λ b. held_run (record { version = v; key = k; born = b })) (named (index + 1) refl), ap (λ y. Start v k y ∷ []) i.1.2, r.2);
+          });
           outs = stays e r.1.out;
         }
         by_making (Check ready task) i r = record {
@@ -364,7 +365,12 @@ module _ {U K V A : Type 0} (eq : K → K → Bool) (equality : IsEquality eq) (
           told = tt;
           events = r.1.rest.events ∙ start;
           others = others;
-          own = inr (i.0, task, put task r.0.tasks, record { name = ap (λ (z : Held K V). z.name) i.1.4 ∙ ap (λ b. record { version = v; key = k; born = b }) (named (index + 1) refl); stands = inl (ap (λ (z : Held K V). ready_in z.standing) i.1.4) });
+          own = inr (record {
+            free = i.0;
+            held = task;
+            task = put task r.0.tasks;
+            by_look = subst (IsMadeBy eq v k (length c.events + 1) es fs task []) (sym i.1.3) (i.1.4 ∙ ap (λ b. held_check (record { version = v; key = k; born = b }) i.1.0 i.1.1 i.1.2) (named (index + 1) refl), refl, r.2);
+          });
           outs = stays e r.1.out;
         }
 
@@ -380,16 +386,15 @@ module _ {U K V A : Type 0} (eq : K → K → Bool) (equality : IsEquality eq) (
       pub hand_made : (w : World K V) (owed : ℕ) (s : Seen K V) → HasDeskRoom owed 3 1 d → MakesFrom f → AtHand eq m v w owed ps c es s → AtHand eq m v w (owed + 1) rs e fs s
       hand_made w owed s desk makes h = hand_joined (subst (λ z. IsMade eq v k qs z es p rs e fs) told made) (subst (λ z. MakesAlone eq v k qs z es rs e fs) told alone) w owed s desk (subst MakesFrom told makes) h
 
-      pub asks_made : (w : World K V) (owed : ℕ) → Working eq m v [] w owed ps c → AsksForKey eq v by t k ps rs c e
+      pub asks_made : (w : World K V) (owed : ℕ) → Working eq m v [] w owed ps c → AsksForKey eq m v by t k ps rs es fs c e
       asks_made w owed work = asks_joined (subst (λ z. IsMade eq v k qs z es p rs e fs) told made) (subst (λ z. MakesAlone eq v k qs z es rs e fs) told alone) w owed work
 
 -- no job that is out is another then
-module _ {K V : Type 0} (eq : K → K → Bool) (equality : IsEquality eq) (v by t : ℕ) (k : K) (ps qs : List (K × Share K (Held K V))) (d e : DeskSeen K V) (asked : AsksForKey eq v by t k ps qs d e) (a : Assigned K V) where
-  new_home : (born : ℕ) (h : Held K V) → IsNewTask v k born h → h ≡ held_of a IsOut → ⊥
-  new_home born h new i = elim new.stands as (λ _. ⊥) [
-    | inl r ↦ (let z : false ≡ true = ap (λ (x : Held K V). ready_in x.standing) (sym i) ∙ r in cc)
-    | inr r ↦ (let z : work_of a IsOut ≡ Ended (WithValue r.0) = ap (λ (x : Held K V). x.standing) (sym i) ∙ r.1 in cc)
-  ]
+module _ {K V : Type 0} (eq : K → K → Bool) (equality : IsEquality eq) (m : Meaning K V) (v by t : ℕ) (k : K) (ps qs : List (K × Share K (Held K V))) (es fs : List (K × Stored K V)) (d e : DeskSeen K V) (asked : AsksForKey eq m v by t k ps qs es fs d e) (a : Assigned K V) where
+  new_home : (born : ℕ) (made : List (Told K V)) (h : Held K V) (o : Look K V) → IsMadeBy eq v k born es fs h made o → h ≡ held_of a IsOut → ⊥
+  new_home born made h (Matches x b) n i = let z : work_of a IsOut ≡ Ended (WithValue x) = ap (λ (x : Held K V). x.standing) (sym i ∙ n.0) in cc
+  new_home born made h (Computes y) n i = let z : false ≡ true = ap (λ (x : Held K V). ready_in x.standing) (sym i ∙ n.0) in cc
+  new_home born made h (Checks x T b) n i = let z : false ≡ true = ap (λ (x : Held K V). ready_in x.standing) (sym i ∙ n.0) in cc
 
   free_home : (o : Option (Held K V)) → IsFree o → o ≡ Some (held_of a IsOut) → ⊥
   free_home None f i = let z : None ≡ Some (held_of a IsOut) = i in cc
@@ -397,8 +402,8 @@ module _ {K V : Type 0} (eq : K → K → Bool) (equality : IsEquality eq) (v by
 
   own_out : (task_at eq qs k ≡ Some (held_of a IsOut) → task_at eq ps k ≡ Some (held_of a IsOut)) × (task_at eq ps k ≡ Some (held_of a IsOut) → task_at eq qs k ≡ Some (held_of a IsOut))
   own_out = elim asked.own as (λ _. (task_at eq qs k ≡ Some (held_of a IsOut) → task_at eq ps k ≡ Some (held_of a IsOut)) × (task_at eq ps k ≡ Some (held_of a IsOut) → task_at eq qs k ≡ Some (held_of a IsOut))) [
-    | inl s ↦ ((λ i. sym s ∙ i), (λ i. s ∙ i))
-    | inr n ↦ ((λ i. absurd (new_home _ n.1 n.3 (same_Some n.1 (held_of a IsOut) (sym n.2 ∙ i)))), (λ i. absurd (free_home (task_at eq ps k) n.0 i)))
+    | inl s ↦ ((λ i. sym s.task ∙ i), (λ i. s.task ∙ i))
+    | inr n ↦ ((λ i. absurd (new_home _ asked.made n.held _ n.by_look (same_Some n.held (held_of a IsOut) (sym n.task ∙ i)))), (λ i. absurd (free_home (task_at eq ps k) n.free i)))
   ]
 
   pub out_stays : (q : K) → (task_at eq qs q ≡ Some (held_of a IsOut) → task_at eq ps q ≡ Some (held_of a IsOut)) × (task_at eq ps q ≡ Some (held_of a IsOut) → task_at eq qs q ≡ Some (held_of a IsOut))

@@ -1,8 +1,9 @@
 -- What the public calls say, by what they do over the tables of all versions.
-use Rattle.std.proofs.Common.{◌≡◌, ◌↔◌, IsTrue, ◌⊎◌, inl, inr, ◌++◌, ℕ, Bool, true, false, cond, eqb, List, [], ◌∷◌, map, Option, Some, None, refl, sym, ap, ◌∙◌, subst, append_assoc}
+use Rattle.std.proofs.Common.{◌≡◌, ◌↔◌, IsTrue, ◌⊎◌, inl, inr, ◌++◌, ℕ, Bool, true, false, cond, eqb, eq-eqb, List, [], ◌∷◌, map, Option, Some, None, refl, sym, ap, ◌∙◌, subst, append_assoc}
 use Rattle.std.specs.Prelude.{IfSome}
 use Rattle.std.specs.List.{list_any}
 use Rattle.std.proofs.lemmas.Bool.{eqb-true}
+use Rattle.std.proofs.lemmas.Option.{same_Some}
 use Rattle.dice_key.specs.Meaning.{Meaning}
 use Rattle.dice_key.specs.Lawful.{IsEquality, IsLawful}
 use Rattle.dice_model.specs.Log.{Has}
@@ -11,13 +12,14 @@ use Rattle.injected.specs.Seen.{Seen}
 use Rattle.journal.specs.declared.event.Told.TheVariants.{Lost, Drop}
 use Rattle.versioned_graph.specs.Entries.{Stored}
 use Rattle.dice_jobs.specs.Jobs.{Assigned}
-use Rattle.core_laws.specs.Tasks.{Outcome, WithNothing}
+use Rattle.core_laws.specs.Tasks.{IsOut, Outcome, WithNothing}
+use Rattle.core_laws.specs.Desk.{out_in}
 use Rattle.dice_tasks.specs.Endings.{told_end, GivesUpAll}
 use Rattle.dice_tasks.specs.Hands.{DeskSeen}
-use Rattle.dice_tasks.specs.Helds.{Held, held_ended}
+use Rattle.dice_tasks.specs.Helds.{Held, held_of, held_ended}
 use Rattle.dice_core.specs.Sessions.{SessionsSeen}
 use Rattle.dice_tasks.specs.Waitings.{TakesJob}
-use Rattle.dice_core.specs.Cores.{table_at, core_of, PutsTable, Turned, TakesOut, DropsOnly, GivesUpOnly}
+use Rattle.dice_core.specs.Cores.{table_at, core_of, PutsTable, Turned, TakesOut, GivesUpOnly}
 use Rattle.dice_core.proofs.CoreLemmas.{table_put}
 use Rattle.dice_core.proofs.ResultLemmas.{takes_out}
 
@@ -26,18 +28,6 @@ module _ {K V : Type 0} (eq : K → K → Bool) (equality : IsEquality eq) (m : 
   pub some_out : (o : Option (Assigned K V)) → IfSome o (λ j. Turned eq m j.name.version ts us (λ a b. TakesJob eq j.name.version j.name.key j a b d e)) → IfSome o (λ j. TakesOut eq j (core_of d ts es s x) (core_of e us es s x))
   some_out None h = tt
   some_out (Some j) h = takes_out eq equality m law j d e ts us es s x h.tasks h.put h.turned
-
-  -- tasks of one version were dropped
-  pub drops_only : (v : ℕ) (qs : List (K × Share K (Held K V))) (gone : K → Bool) → PutsTable v qs ts us → ((q : K) → task_at eq qs q ≡ cond (gone q) None (task_at eq (table_at ts v) q)) → DropsOnly eq (core_of d ts es s x) (core_of e us fs s y)
-  drops_only v qs gone put tasks u q = subst (λ ps. (task_at eq ps q ≡ None) ⊎ (task_at eq ps q ≡ task_at eq (table_at ts u) q)) (sym (table_put ts us v qs put u)) (by_version (eqb u v) refl)
-    where
-      by_test : (b : Bool) → task_at eq qs q ≡ cond b None (task_at eq (table_at ts v) q) → (task_at eq qs q ≡ None) ⊎ (task_at eq qs q ≡ task_at eq (table_at ts v) q)
-      by_test true i = inl i
-      by_test false i = inr i
-
-      by_version : (b : Bool) → eqb u v ≡ b → (task_at eq (cond b qs (table_at ts u)) q ≡ None) ⊎ (task_at eq (cond b qs (table_at ts u)) q ≡ task_at eq (table_at ts u) q)
-      by_version true i = subst (λ z. (task_at eq qs q ≡ None) ⊎ (task_at eq qs q ≡ task_at eq (table_at ts z) q)) (sym (eqb-true u v i)) (by_test (gone q) (tasks q))
-      by_version false i = inr refl
 
   -- all that is told of tasks that are lost
   module _ (v : ℕ) (k : K) (qs : List (K × Share K (Held K V))) (put : PutsTable v qs ts us) (g : GivesUpAll eq v None k (table_at ts v) qs d e) where
@@ -84,6 +74,16 @@ module _ {K V : Type 0} (eq : K → K → Bool) (equality : IsEquality eq) (m : 
         by_version : (b : Bool) → eqb u v ≡ b → (task_at eq (cond b qs (table_at ts u)) q ≡ None) ⊎ (task_at eq (cond b qs (table_at ts u)) q ≡ task_at eq (table_at ts u) q) ⊎ ((h : Held K V) × (task_at eq (table_at ts u) q ≡ Some h) × (task_at eq (cond b qs (table_at ts u)) q ≡ Some (held_ended h.name WithNothing)))
         by_version true i = subst (λ z. (task_at eq qs q ≡ None) ⊎ (task_at eq qs q ≡ task_at eq (table_at ts z) q) ⊎ ((h : Held K V) × (task_at eq (table_at ts z) q ≡ Some h) × (task_at eq qs q ≡ Some (held_ended h.name WithNothing)))) (sym (eqb-true u v i)) (by_drop (list_any (eq q) g.drops) (g.dropped.tasks q))
         by_version false i = inr (inl refl)
+
+    -- the job of k is out no more
+    pub home_now : (a : Assigned K V) → task_at eq (table_at us v) k ≡ Some (held_of a IsOut) → ⊥
+    home_now a i =
+        let r = g.ended.ended (k, g.ended.first.0) g.ended.first.1 in
+        by_drop (list_any (eq k) g.drops) (sym (subst (λ ps. task_at eq ps k ≡ Some (held_of a IsOut)) (table_put ts us v qs put v ∙ ap (λ b. cond b qs (table_at ts v)) (eq-eqb v v refl)) i) ∙ g.dropped.tasks k) r.3
+      where
+        by_drop : (b : Bool) → Some (held_of a IsOut) ≡ cond b None (task_at eq g.tasks k) → task_at eq g.tasks k ≡ Some (held_ended (g.ended.ended (k, g.ended.first.0) g.ended.first.1).0.name g.ended.first.0) → ⊥
+        by_drop true j e = let z : Some (held_of a IsOut) ≡ None = j in cc
+        by_drop false j e = let z : held_of a IsOut ≡ held_ended (g.ended.ended (k, g.ended.first.0) g.ended.first.1).0.name g.ended.first.0 = same_Some _ _ (j ∙ e) in let w : true ≡ false = ap (λ (h : Held K V). out_in h.standing) z in cc
 
 -- a test that is true exactly where P holds
 pub named_iff : (b : Bool) (P : Type 0) → (b ≡ false → P → ⊥) → (b ≡ true → P) → IsTrue b ↔ P

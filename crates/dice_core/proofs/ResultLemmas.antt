@@ -16,7 +16,8 @@ use Rattle.versioned_graph.specs.Entries.{Stored}
 use Rattle.dice_jobs.specs.Jobs.{Assigned}
 use Rattle.core_laws.specs.Tasks.{IsOut}
 use Rattle.core_laws.proofs.StepsRests.{rests_commit}
-use Rattle.dice_core.specs.Commits.{Commits, SameSets, event_of}
+use Rattle.std.specs.Map.{keys_of}
+use Rattle.dice_core.specs.Commits.{Commits, CutsEntries, CommitsEntries, SameSets, event_of}
 use Rattle.dice_steps.specs.Cells.{CellsStand}
 use Rattle.dice_tasks.specs.Hands.{DeskSeen, desk_of, KeepsHands, KeepsDeskRoom, KeepsWork}
 use Rattle.dice_tasks.specs.Helds.{Held, held_of}
@@ -47,6 +48,10 @@ on_ok (Err e) A B a f = tt
 pub both_ok : {X E : Type 0} (r : Result X E) (A B : Type 0) → OnOk r A → OnOk r B → OnOk r (A × B)
 both_ok (Ok x) A B a b = (a, b)
 both_ok (Err e) A B a b = tt
+
+pub both_err : {X E : Type 0} (r : Result X E) (A B : Type 0) → OnErr r A → OnErr r B → OnErr r (A × B)
+both_err (Ok x) A B a b = tt
+both_err (Err e) A B a b = (a, b)
 
 -- there are no more commits than events
 pub commits_within : {K V : Type 0} (R : List (Told K V)) → length (commits_of R) ≤ length R
@@ -91,15 +96,15 @@ module _ {K V : Type 0} (eq : K → K → Bool) (equality : IsEquality eq) (m : 
       sessions = same_sessions x;
     }
 
-    more : (by : ℕ) (c : List (K × V)) → e.events ≡ d.events ++ Commit by c ∷ [] → IsAllowed eq m (reverse d.events) (Commit by c) → CoreStands eq m (core_of e ts es t x)
-    more by c h a = record {
+    more : (by : ℕ) (c : List (K × V)) (fs : List (K × Stored K V)) → CutsEntries eq m c (s.last + 1) es fs → e.events ≡ d.events ++ Commit by c ∷ [] → IsAllowed eq m (reverse d.events) (Commit by c) → CoreStands eq m (core_of e ts fs t x)
+    more by c fs cuts h a = record {
       rests = subst (λ S. Rests eq m S (world_of eq ts) (desk_of e) (owed x)) (sym past)
           (rests_commit eq equality m law (reverse d.events) (world_of eq ts) (desk_of d) (desk_of e) (owed x) (owed x) st.rests (record { ready = keeps.ready; out = ap length keeps.out; live = keeps.live })
           (let r = st.rests.room in let p = keeps.spare in let l = keeps.live in omega arith) by c a);
       outs = subst (λ xs. AreAll (λ (p : ℕ × K). is_out ((world_of eq ts).tasks p.0 p.1)) xs) (sym keeps.out) st.outs;
       named = st.named;
       told = keeps.ended ∙ st.told;
-      entries = subst (λ S. EntriesStand eq m S es) (sym past) (stand_commit eq m (reverse d.events) es st.entries by c);
+      entries = subst (λ S. EntriesStand eq m S fs) (sym past) (stand_commit eq m (reverse d.events) es st.entries by (s.last + 1) c (keys_of c) fs cuts.cut (cuts.kept (commits_of (reverse d.events)) (let l = st.cells.newest in omega arith) st.entries.entries_true));
       cells = cells;
       sessions = subst (λ S. SessionsStand S x) (sym past) (quiet_stands (reverse d.events) (Commit by c) x refl st.sessions);
       tabled = λ v l. st.tabled v (subst (λ S. 0 < open_count S v) past l);
@@ -111,8 +116,8 @@ module _ {K V : Type 0} (eq : K → K → Bool) (equality : IsEquality eq) (m : 
     with_cells : CoreStands eq m (core_of e ts es s x) → CoreStands eq m (core_of e ts es t x)
     with_cells h = record { rests = h.rests; outs = h.outs; named = h.named; told = h.told; entries = h.entries; cells = cells; sessions = h.sessions; tabled = h.tabled }
 
-    pub committed_stands : (by : ℕ) (c : List (K × V)) → Commits eq by c s t d.events e.events → AllByRecursion (IsAllowed eq m (reverse d.events)) (event_of by c) → CoreStands eq m (core_of e ts es t x)
-    committed_stands by [] w a = with_cells (stands_same eq equality m law (core_of d ts es s x) (core_of e ts es s x) (record {
+    pub committed_stands : (by : ℕ) (c : List (K × V)) (fs : List (K × Stored K V)) → CommitsEntries eq m c (s.last + 1) es fs → Commits eq by c s t d.events e.events → AllByRecursion (IsAllowed eq m (reverse d.events)) (event_of by c) → CoreStands eq m (core_of e ts fs t x)
+    committed_stands by [] fs cuts w a = subst (λ gs. CoreStands eq m (core_of e ts gs t x)) (sym cuts) (with_cells (stands_same eq equality m law (core_of d ts es s x) (core_of e ts es s x) (record {
       hands = same_hands (w.events ∙ append-nil d.events);
       room = rooms;
       tasks = λ v q. refl;
@@ -123,8 +128,8 @@ module _ {K V : Type 0} (eq : K → K → Bool) (equality : IsEquality eq) (m : 
       cells = λ k. refl;
       newest = refl;
       sessions = same_sessions x;
-    }) st)
-    committed_stands by (p ∷ c) w a = more by (p ∷ c) w.events a.0
+    }) st))
+    committed_stands by (p ∷ c) fs cuts w a = more by (p ∷ c) fs cuts w.events a.0
 
   -- a job that goes out, with all else as before
   pub takes_out : (j : Assigned K V) (d e : DeskSeen K V) (ts us : List (ℕ × List (K × Share K (Held K V)))) (es : List (K × Stored K V)) (s : Seen K V) (x : SessionsSeen K) (qs : List (K × Share K (Held K V))) → PutsTable j.name.version qs ts us → TakesJob eq j.name.version j.name.key j (table_at ts j.name.version) qs d e

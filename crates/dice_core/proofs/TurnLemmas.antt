@@ -50,7 +50,7 @@ module _ {K V : Type 0} (eq : K → K → Bool) (equality : IsEquality eq) (m : 
         (λ u l. st.tabled u (subst (λ n. 0 < n) (count_works v d.events e.events u works) l))
 
     -- after an Ask, and events of tasks at v
-    pub asked_stands : (by t : ℕ) (k : K) (y : SessionsSeen K) → AsksForKey eq v by t k (table_at ts v) qs d e → AtHand eq m v (world_of eq ts) (owed y) qs e fs s → SessionsStand (Ask by t k ∷ reverse d.events) y → CoreStands eq m (core_of e us fs s y)
+    pub asked_stands : (by t : ℕ) (k : K) (y : SessionsSeen K) → AsksForKey eq m v by t k (table_at ts v) qs es fs d e → AtHand eq m v (world_of eq ts) (owed y) qs e fs s → SessionsStand (Ask by t k ∷ reverse d.events) y → CoreStands eq m (core_of e us fs s y)
     asked_stands by t k y asks hand stands = put_back_so eq equality m law (core_of d ts es s x) st v us qs e fs s y put hand
         (sessions_works v (d.events ++ Ask by t k ∷ []) e.events y works (subst (λ S. SessionsStand S y) (sym (back_more d.events (Ask by t k))) stands))
         (λ u l. st.tabled u (subst (λ n. 0 < n) (count_works v (d.events ++ Ask by t k ∷ []) e.events u works ∙ ap (λ S. open_count S u) (back_more d.events (Ask by t k))) l))
@@ -69,15 +69,15 @@ module _ {K V : Type 0} (eq : K → K → Bool) (equality : IsEquality eq) (m : 
   hand_open = subst (λ a. AtHand eq m v (world_of eq ts) n a d es s) found (subst (λ k. AtHand eq m v (world_of eq ts) k (table_at ts v) d es s) (sym owes) (in_hand eq equality m law (core_of d ts es s x) st v (opened_some eq equality m law d ts es s x st v t o op at)))
 
   -- a key was asked for there
-  pub asked_in_stands : (us : List (ℕ × List (K × Share K (Held K V)))) (qs : List (K × Share K (Held K V))) (e : DeskSeen K V) (fs : List (K × Stored K V)) (by : ℕ) (k : K) (y : SessionsSeen K) → PutsTable v qs ts us → AsksForKey eq v by t k ps qs d e → owed y ≡ n + 1
+  pub asked_in_stands : (us : List (ℕ × List (K × Share K (Held K V)))) (qs : List (K × Share K (Held K V))) (e : DeskSeen K V) (fs : List (K × Stored K V)) (by : ℕ) (k : K) (y : SessionsSeen K) → PutsTable v qs ts us → AsksForKey eq m v by t k ps qs es fs d e → owed y ≡ n + 1
       → (AtHand eq m v (world_of eq ts) n ps d es s → AtHand eq m v (world_of eq ts) (n + 1) qs e fs s) → SessionsStand (Ask by t k ∷ reverse d.events) y → CoreStands eq m (core_of e us fs s y)
-  asked_in_stands us qs e fs by k y put asks more kept stands = asked_stands eq equality m law d ts es s x st v us qs e fs put by t k y (subst (λ a. AsksForKey eq v by t k a qs d e) (sym found) asks)
+  asked_in_stands us qs e fs by k y put asks more kept stands = asked_stands eq equality m law d ts es s x st v us qs e fs put by t k y (subst (λ a. AsksForKey eq m v by t k a qs es fs d e) (sym found) asks)
       (subst (λ i. AtHand eq m v (world_of eq ts) i qs e fs s) (sym more) (kept hand_open)) stands
 
 -- what is told of the ask
-pub asked_turned : {K V : Type 0} (eq : K → K → Bool) (m : Meaning K V) (R : List (Told K V)) (d e : DeskSeen K V) (ts us : List (ℕ × List (K × Share K (Held K V)))) (v by t : ℕ) (k : K) (o : Opened) (ps qs : List (K × Share K (Held K V))) → open_at R t ≡ Some o → o.version ≡ v → table_at ts v ≡ ps → PutsTable v qs ts us → AsksForKey eq v by t k ps qs d e
-    → (p : Opened) × (open_at R t ≡ Some p) × Turned eq m p.version ts us (λ a b. AsksForKey eq p.version by t k a b d e)
-asked_turned eq m R d e ts us v by t k o ps qs op at found put asks = (o, op, subst (λ z. Turned eq m z ts us (λ a b. AsksForKey eq z by t k a b d e)) (sym at) (record { tasks = qs; put = put; turned = subst (λ a. AsksForKey eq v by t k a qs d e) (sym found) asks }))
+pub asked_turned : {K V : Type 0} (eq : K → K → Bool) (m : Meaning K V) (R : List (Told K V)) (d e : DeskSeen K V) (ts us : List (ℕ × List (K × Share K (Held K V)))) (v by t : ℕ) (k : K) (o : Opened) (ps qs : List (K × Share K (Held K V))) (es fs : List (K × Stored K V)) → open_at R t ≡ Some o → o.version ≡ v → table_at ts v ≡ ps → PutsTable v qs ts us → AsksForKey eq m v by t k ps qs es fs d e
+    → (p : Opened) × (open_at R t ≡ Some p) × Turned eq m p.version ts us (λ a b. AsksForKey eq m p.version by t k a b es fs d e)
+asked_turned eq m R d e ts us v by t k o ps qs es fs op at found put asks = (o, op, subst (λ z. Turned eq m z ts us (λ a b. AsksForKey eq m z by t k a b es fs d e)) (sym at) (record { tasks = qs; put = put; turned = subst (λ a. AsksForKey eq m v by t k a qs es fs d e) (sym found) asks }))
 
 -- a call on one version that changed nothing that is seen
 pub kept_core : {K V : Type 0} (eq : K → K → Bool) (d e : DeskSeen K V) (ts us : List (ℕ × List (K × Share K (Held K V)))) (es : List (K × Stored K V)) (s : Seen K V) (x y : SessionsSeen K) (v : ℕ) (ps qs : List (K × Share K (Held K V))) → table_at ts v ≡ ps → PutsTable v qs ts us → KeepsAtHand eq ps qs d e → IsSame x y

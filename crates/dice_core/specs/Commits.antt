@@ -2,10 +2,13 @@
 use Rattle.std.specs.Prelude.{◌≡◌, ◌≢◌, ◌<◌, ℕ, ◌+◌, suc, Bool, not, List, [], ◌∷◌, ◌++◌, length, filter, Option, Some, None}
 use Rattle.std.specs.Arc.{arc_value}
 use Rattle.std.specs.List.{AllByRecursion}
-use Rattle.std.specs.Map.{lookup}
+use Rattle.std.specs.Map.{lookup, keys_of}
 use Rattle.dice_key.specs.Meaning.{Meaning}
 use Rattle.dice_key.specs.declared.universe.Kind.TheVariants.{Injected}
 use Rattle.dice_model.specs.Log.{Has, AreDistinct}
+use Rattle.versioned_graph.specs.Entries.{Stored}
+use Rattle.versioned_graph.specs.Edges.{IsCut}
+use Rattle.versioned_graph.specs.Sound.{AreTrue}
 use Rattle.injected.specs.Seen.{Seen, sets_at, room_at, newest_at}
 use Rattle.injected.specs.Inputs.{set_if}
 use Rattle.journal.specs.declared.event.Told.{Told}
@@ -86,3 +89,15 @@ module _ {K V : Type 0} (eq : K → K → Bool) where
     pub events : I ≡ J
     pub last : t.last ≡ s.last
     pub sets : SameSets eq s t
+
+module _ {K V : Type 0} (eq : K → K → Bool) (m : Meaning K V) where
+  -- by a commit of these changes at v the entries es become fs: the tails of all that it reaches are cut, and no others; and what was
+  -- true of them before it is true after it
+  pub record CutsEntries (c : List (K × V)) (v : ℕ) (es fs : List (K × Stored K V)) : Type 0 where
+    pub cut : IsCut eq es (keys_of c) v fs
+    pub kept : (C : List (List (K × V))) → v ≡ suc (length C) → AreTrue eq m C es → AreTrue eq m (C ++ c ∷ []) fs
+
+  -- so they do where there are changes; without any they stay
+  abbrev pub CommitsEntries : List (K × V) → ℕ → List (K × Stored K V) → List (K × Stored K V) → Type 0
+  CommitsEntries [] v es fs = fs ≡ es
+  CommitsEntries (p ∷ c) v es fs = CutsEntries (p ∷ c) v es fs

@@ -1,5 +1,5 @@
 -- The core as contracts see it, and what holds of it between calls.
-use Rattle.std.specs.Prelude.{◌≡◌, ◌<◌, ℕ, Bool, true, cond, ◌&&◌, ◌++◌, ◌+◌, ◌⊎◌, nat_eq, List, [], reverse, length, Option, Some, None, unwrap_or, is_some}
+use Rattle.std.specs.Prelude.{◌≡◌, ◌<◌, ℕ, Bool, true, cond, ◌&&◌, ◌||◌, ◌++◌, ◌+◌, ◌⊎◌, nat_eq, List, [], reverse, length, Option, Some, None, unwrap_or, is_some}
 use Rattle.std.specs.Map.{lookup}
 use Rattle.std.specs.Arc.{arc_value}
 use Rattle.dice_key.specs.Meaning.{Meaning}
@@ -10,7 +10,8 @@ use Rattle.task_share.specs.Seen.{Share, task_at, is_live, asks, asked_of}
 use Rattle.injected.specs.Seen.{Seen, cell_at}
 use Rattle.journal.specs.declared.event.Told.{Told}
 use Rattle.journal.specs.declared.event.Told.TheVariants.{Start, Keep, End, Cyclic, Drop, Lost}
-use Rattle.std.specs.List.{AllByRecursion}
+use Rattle.std.specs.List.{AllByRecursion, list_any}
+use Rattle.dice_model.specs.Log.{Has}
 use Rattle.journal.specs.Events.{Decision, ByValue, ByCycle, open_count}
 use Rattle.version_epoch.specs.Standings.{open_count_of}
 use Rattle.versioned_graph.specs.Entries.{Stored}
@@ -182,9 +183,10 @@ module _ {K V : Type 0} (eq : K → K → Bool) where
     pub ready : d.desk.ready ≡ c.desk.ready
     pub out : d.desk.out ≡ c.desk.out
 
-  -- tasks may have gone; all others are as before
-  abbrev pub DropsOnly : CoreSeen K V → CoreSeen K V → Type 0
-  DropsOnly c d = (v : ℕ) (q : K) → (held_in eq d v q ≡ None) ⊎ (held_in eq d v q ≡ held_in eq c v q)
+  -- these tasks of v are gone, which were at work, and where it says so all tasks of v are; all other tasks, of all versions, are as before
+  pub record DropsThese (v : ℕ) (all : Bool) (ks : List K) (ts us : List (ℕ × List (K × Share K (Held K V)))) : Type 0 where
+    pub at_work : (q : K) → Has ks q → is_live eq (table_at ts v) q ≡ true
+    pub tasks : (u : ℕ) (q : K) → task_at eq (table_at us u) q ≡ cond (nat_eq v u && (all || list_any (eq q) ks)) None (task_at eq (table_at ts u) q)
 
   -- this job is that of a task that is out
   abbrev pub IsJobOut : CoreSeen K V → Assigned K V → Type 0

@@ -1,16 +1,21 @@
 -- What is made of a step that is given.
 use Rattle.std.specs.Prelude.{◌≡◌, ◌⊎◌, ℕ, Bool, List, [], ◌∷◌, ◌++◌, Option, Some, None}
 use Rattle.std.specs.List.{AllByRecursion}
-use Rattle.dice_key.specs.Meaning.{Answered}
+use Rattle.dice_key.specs.Meaning.{Meaning, Answered}
 use Rattle.dice_jobs.specs.Jobs.{Work, Checks, Assigned, Outcome, Stepped, Wanting, Valued, Unchanged, Changed}
 use Rattle.task_share.specs.Seen.{Share, task_at}
+use Rattle.injected.specs.Seen.{Seen}
 use Rattle.journal.specs.declared.event.Told.{Told}
 use Rattle.journal.specs.declared.event.Told.TheVariants.{Start, Keep, End}
 use Rattle.journal.specs.declared.event.Reason.TheVariants.{Differs}
+use Rattle.versioned_graph.specs.Entries.{Stored}
 use Rattle.core_laws.specs.Tasks.{IsOut, Outcome as Ended}
 use Rattle.dice_tasks.specs.Helds.{Held, held_of}
 use Rattle.dice_tasks.specs.Hands.{DeskSeen}
-use Rattle.dice_steps.specs.Batches.{LeavesOut, IsOfMakes, ending_events}
+use Rattle.dice_tasks.specs.Makings.{held_run}
+use Rattle.dice_tasks.specs.Waitings.{IsTurned}
+use Rattle.dice_steps.specs.Batches.{LeavesOut, IsOfMakes, TakesUp, ending_events}
+use Rattle.dice_steps.specs.Finishings.{IsFinished, EndsAndWakes}
 use Rattle.dice_core.specs.Cores.{IsWorkAt}
 use Rattle.dice_core.specs.declared.giving.Gave.{Gave}
 use Rattle.dice_core.specs.declared.giving.Gave.TheVariants.{Taken, Stale}
@@ -40,3 +45,18 @@ module _ {K V : Type 0} (eq : K → K → Bool) (v : ℕ) (s : Stepped K V) wher
     pub told : e.events ≡ d.events ++ events
     pub works : AllByRecursion (IsWorkAt v) events
     pub by : IsToldBy v s.job.name.key s.job.work s.outcome events
+
+module _ {K V : Type 0} (eq : K → K → Bool) (m : Meaning K V) (veq : V → V → Bool) (v : ℕ) (s : Stepped K V) (cells : Seen K V) (ps qs : List (K × Share K (Held K V))) (es fs : List (K × Stored K V)) where
+  -- the task of the step's key has ended with x, and the tasks that waited for it alone are ready; and the entry of the key is finished with x and with
+  -- the answers of the step as its trace
+  pub record EndsIn (x : V) : Type 0 where
+    pub tasks : EndsAndWakes eq m cells v s.job.name.key x s.job.name ps qs
+    pub entries : IsFinished eq m veq cells v s.job.name.key x s.job.answered es fs
+
+  -- what becomes of the tasks and the entries by a step: its value ends its task; a check that found all as it was ends it with the value that was
+  -- checked; one that found a change makes it compute from the beginning; and a batch is taken up
+  abbrev pub IsTakenUp : DeskSeen K V → DeskSeen K V → Outcome K V → Type 0
+  IsTakenUp d e (Valued x) = EndsIn x
+  IsTakenUp d e Unchanged = (x : V) × (T : List (Answered K V)) × (b : ℕ) × (s.job.work ≡ Checks x T b) × EndsIn x
+  IsTakenUp d e (Changed j) = IsTurned eq s.job.name.key (held_of s.job IsOut) (held_run s.job.name) ps qs × (fs ≡ es)
+  IsTakenUp d e (Wanting ks) = TakesUp eq m v s.job ks ps d qs e

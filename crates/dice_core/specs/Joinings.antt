@@ -1,18 +1,22 @@
 -- Keys that are asked for, with one version in hand.
-use Rattle.std.specs.Prelude.{◌≡◌, ◌⊎◌, ℕ, Bool, true, false, List, [], ◌∷◌, ◌++◌, ◌+◌, length, Some}
+use Rattle.std.specs.Prelude.{◌≡◌, ◌⊎◌, ℕ, Bool, true, false, cond, List, [], ◌∷◌, ◌++◌, ◌+◌, length, Some}
+use Rattle.std.specs.Option.{option_map}
 use Rattle.dice_key.specs.Meaning.{Meaning}
+use Rattle.dice_key.specs.declared.universe.Kind.TheVariants.{Injected}
 use Rattle.task_share.specs.Seen.{Share, task_at, is_live, KeepsAsks}
 use Rattle.injected.specs.Seen.{Seen}
 use Rattle.journal.specs.declared.event.Told.{Told}
-use Rattle.journal.specs.declared.event.Told.TheVariants.{Ask}
+use Rattle.journal.specs.declared.event.Told.TheVariants.{Ask, Start, Keep}
 use Rattle.journal.specs.Events.{Opened, open_at}
-use Rattle.versioned_graph.specs.Entries.{Stored}
+use Rattle.versioned_graph.specs.Entries.{Stored, entry_at, seen_at}
+use Rattle.versioned_graph.specs.Looks.{Look, Matches, Computes, Checks, look}
 use Rattle.core_laws.specs.Tasks.{Ended, WithValue}
-use Rattle.core_laws.specs.Desk.{World, ready_in}
-use Rattle.dice_tasks.specs.Helds.{Held}
+use Rattle.core_laws.specs.Desk.{World}
+use Rattle.dice_tasks.specs.Entries.{started_for}
+use Rattle.dice_tasks.specs.Helds.{Held, held_ended}
 use Rattle.dice_tasks.specs.Hands.{DeskSeen, Stays, KeepsHands, KeepsDeskRoom}
 use Rattle.dice_steps.specs.AtHand.{AtHand}
-use Rattle.dice_tasks.specs.Makings.{IsFree, IsOfMake}
+use Rattle.dice_tasks.specs.Makings.{IsFree, HasTask, IsOfMake, held_run, held_check}
 
 module _ {K V : Type 0} (eq : K → K → Bool) where
   -- all that is seen of the tasks and of the desk is as before; there may be more room
@@ -30,20 +34,39 @@ module _ {K V : Type 0} (v : ℕ) (k : K) where
   IsToldOfMake (x ∷ []) = IsOfMake v k x
   IsToldOfMake (x ∷ y ∷ xs) = ⊥
 
-  -- a task of k at v that was made when the journal had so many events: it is ready, or has ended with a value
-  pub record IsNewTask (born : ℕ) (h : Held K V) : Type 0 where
-    pub name : h.name ≡ record { version = v; key = k; born = born }
-    pub stands : (ready_in h.standing ≡ true) ⊎ ((x : V) × (h.standing ≡ Ended (WithValue x)))
+module _ {K V : Type 0} (eq : K → K → Bool) (v : ℕ) (k : K) (born : ℕ) (es fs : List (K × Stored K V)) (h : Held K V) (made : List (Told K V)) where
+  -- the task h was made of k at v by what a look-up says, when the journal had so many events; this was told, and the entries es became fs: a value
+  -- that matches ends it and is kept, and its entry was seen at v; a key that has to be computed is started, for the reason that the look-up has; and a
+  -- value whose dependencies have to be checked waits for its check
+  abbrev pub IsMadeBy : Look K V → Type 0
+  IsMadeBy (Matches x b) = (h ≡ held_ended (record { version = v; key = k; born = born }) (WithValue x)) × (made ≡ Keep v k b ∷ []) × ((q : K) → entry_at eq fs q ≡ cond (eq k q) (option_map (seen_at v) (entry_at eq es k)) (entry_at eq es q))
+  IsMadeBy (Computes y) = (h ≡ held_run (record { version = v; key = k; born = born })) × (made ≡ Start v k (started_for y) ∷ []) × (fs ≡ es)
+  IsMadeBy (Checks x T b) = (h ≡ held_check (record { version = v; key = k; born = born }) x T b) × (made ≡ []) × (fs ≡ es)
 
-module _ {K V : Type 0} (eq : K → K → Bool) where
-  -- in the transaction t at v a seat asked for k: the event, and then what is told of a new task, if one was made. It was made where k had none,
-  -- or one that was given up; all other tasks are as before, and the same ones are out
-  pub record AsksForKey (v by t : ℕ) (k : K) (ps qs : List (K × Share K (Held K V))) (d e : DeskSeen K V) : Type 0 where
+module _ {K V : Type 0} (eq : K → K → Bool) (m : Meaning K V) (k : K) (ps qs : List (K × Share K (Held K V))) (es fs : List (K × Stored K V)) where
+  -- k is injected, or has a task that was not given up: nothing is made
+  pub record JoinsTask (made : List (Told K V)) : Type 0 where
+    pub there : (m.kind k ≡ Injected) ⊎ HasTask (task_at eq ps k)
+    pub task : task_at eq qs k ≡ task_at eq ps k
+    pub entries : fs ≡ es
+    pub silent : made ≡ []
+
+  -- k has no task at v, or one that was given up: one is made, by what a look-up says
+  pub record MakesTask (v born : ℕ) (made : List (Told K V)) : Type 0 where
+    pub free : IsFree (task_at eq ps k)
+    pub held : Held K V
+    pub task : task_at eq qs k ≡ Some held
+    pub by_look : IsMadeBy eq v k born es fs held made (look m.is_transient (entry_at eq es k) v)
+
+module _ {K V : Type 0} (eq : K → K → Bool) (m : Meaning K V) where
+  -- in the transaction t at v a seat asked for k: the event, and then what is told of a new task, if one was made; all other tasks are as before, and
+  -- the same ones are out
+  pub record AsksForKey (v by t : ℕ) (k : K) (ps qs : List (K × Share K (Held K V))) (es fs : List (K × Stored K V)) (d e : DeskSeen K V) : Type 0 where
     pub made : List (Told K V)
     pub told : IsToldOfMake v k made
     pub events : e.events ≡ d.events ++ (Ask by t k ∷ made)
     pub others : (q : K) → eq k q ≡ false → task_at eq qs q ≡ task_at eq ps q
-    pub own : (task_at eq qs k ≡ task_at eq ps k) ⊎ (IsFree (task_at eq ps k) × (h : Held K V) × (task_at eq qs k ≡ Some h) × IsNewTask v k (length d.events + 1) h)
+    pub own : JoinsTask eq m k ps qs es fs made ⊎ MakesTask eq m k ps qs es fs v (length d.events + 1) made
     pub outs : Stays d.out e.out
 
 -- the transaction t is open at v

@@ -42,7 +42,7 @@ pub(crate) fn ask_key<U: Universe>(
     requires hand { MayBeWith U.Key.eq U.meaning version owed tasks.old desk.old graph.old }
     requires opened { IsOpenAt (reverse desk.old.events) version tx }
     ensures index { IfOk result (λ n. n ≡ length desk.old.events) }
-    ensures asked { OnOk result (AsksForKey U.Key.eq version by tx (arc_value key.now) tasks.old tasks.new desk.old desk.new) }
+    ensures asked { OnOk result (AsksForKey U.Key.eq U.meaning version by tx (arc_value key.now) tasks.old tasks.new graph.old graph.new desk.old desk.new) }
     ensures kept { OnOk result (OwesOneMore U.Key.eq U.meaning version owed tasks.old desk.old graph.old tasks.new desk.new graph.new) }
     ensures err { OnErr result (KeepsAtHand U.Key.eq tasks.old tasks.new desk.old desk.new) }
     ensures graph { OnErr result (graph.new ≡ graph.old) }

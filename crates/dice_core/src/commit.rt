@@ -1,5 +1,5 @@
 //! Commits.
-ghost use Rattle.std.specs.Prelude.{◌≡◌, ◌<◌, ◌≤◌, ℕ, suc, not, true, List, [], ◌++◌, ◌∷◌, if◌then◌else◌, length, map, reverse, IfOk, IfErr, OnOk, OnErr, IfSome, MatchResult};
+ghost use Rattle.std.specs.Prelude.{◌≡◌, ◌<◌, ◌≤◌, ◌+◌, ℕ, suc, not, true, List, [], ◌++◌, ◌∷◌, if◌then◌else◌, length, map, reverse, IfOk, IfErr, OnOk, OnErr, IfSome, MatchResult};
 ghost use Rattle.std.specs.Arc.{arc_value};
 ghost use Rattle.std.specs.List.{AllByRecursion, list_any};
 ghost use Rattle.std.specs.Map.{keys_of};
@@ -7,7 +7,7 @@ ghost use Rattle.dice_model.specs.Log.{AreDistinct, pairs_of};
 ghost use Rattle.injected.specs.Inputs.{AreOf};
 ghost use Rattle.journal.specs.Law.{IsAllowed, IsLawfulJournal};
 ghost use Rattle.dice_tasks.specs.Hands.{KeepsWork};
-ghost use Rattle.dice_core.specs.Commits.{Fault, fault_of, AreSettable, IsFirstFault, differing_of, HaveRoom, SameSets, AreSet, event_of, Commits, IsAsBefore};
+ghost use Rattle.dice_core.specs.Commits.{Fault, fault_of, AreSettable, IsFirstFault, differing_of, HaveRoom, SameSets, AreSet, event_of, Commits, CommitsEntries, IsAsBefore};
 ghost use Rattle.dice_steps.specs.Cells.{CellsStand};
 
 use dice_key::{KeyRef, Kind, NoMemory, Universe, ValueRef, Version, laws_of};
@@ -157,7 +157,8 @@ fn commit_settable<U: Universe>(
     ensures version { IfOk result (λ v. v ≡ cells.new.last) }
     ensures ok { OnOk result (Commits U.Key.eq by (differing_of U.Key.eq U.Value.eq U.meaning cells.old (pairs_of changes.now)) cells.old cells.new desk.old.events desk.new.events) }
     ensures err { OnErr result (IsAsBefore U.Key.eq cells.old cells.new desk.old.events desk.new.events) }
-    ensures graph { graph.new ≡ graph.old }
+    ensures cut { OnOk result (CommitsEntries U.Key.eq U.meaning (differing_of U.Key.eq U.Value.eq U.meaning cells.old (pairs_of changes.now)) (cells.old.last + 1) graph.old graph.new) }
+    ensures graph { OnErr result (graph.new ≡ graph.old) }
     ensures hands { KeepsWork desk.old desk.new }
 {
     let differing = differing(alloc, cells, changes)?;
@@ -176,9 +177,9 @@ fn commit_settable<U: Universe>(
 }
 
 /// Commits the changes whose value is not the key's newest one: one event, and one version more; with none there is neither. The
-/// version is the newest one after it. At a refusal all is as before.
+/// version is the newest one after it, and the tails of all entries that the commit reaches are cut there. At a refusal all is as before.
 ///
-/// All room that was made stays. It costs a look-up for each change.
+/// All room that was made stays. It costs a look-up for each change, and for each recorded user of what is reached.
 pub(crate) fn commit<'a, U: Universe>(
     alloc: Global,
     universe: &U,
@@ -199,7 +200,8 @@ pub(crate) fn commit<'a, U: Universe>(
     ensures version { IfOk result (λ v. v ≡ cells.new.last) }
     ensures ok { OnOk result (Commits U.Key.eq by (differing_of U.Key.eq U.Value.eq U.meaning cells.old (pairs_of changes.now)) cells.old cells.new desk.old.events desk.new.events) }
     ensures err { OnErr result (IsAsBefore U.Key.eq cells.old cells.new desk.old.events desk.new.events) }
-    ensures graph { graph.new ≡ graph.old }
+    ensures cut { OnOk result (CommitsEntries U.Key.eq U.meaning (differing_of U.Key.eq U.Value.eq U.meaning cells.old (pairs_of changes.now)) (cells.old.last + 1) graph.old graph.new) }
+    ensures graph { OnErr result (graph.new ≡ graph.old) }
     ensures hands { KeepsWork desk.old desk.new }
 
     // What is kept.

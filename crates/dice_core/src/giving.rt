@@ -7,7 +7,7 @@ ghost use Rattle.core_laws.specs.Tasks.{IsOut};
 ghost use Rattle.core_laws.specs.Desk.{World};
 ghost use Rattle.dice_steps.specs.AtHand.{AtHand};
 ghost use Rattle.dice_core.specs.Cores.{table_at, core_of, Turned, IsAsBefore, CoreStands};
-ghost use Rattle.dice_core.specs.Givings.{stale_of, Gives};
+ghost use Rattle.dice_core.specs.Givings.{stale_of, Gives, IsTakenUp};
 ghost use Rattle.dice_tasks.specs.Helds.{held_of};
 ghost use Rattle.dice_core.specs.Joinings.{KeepsAtHand};
 ghost use Rattle.dice_core.specs.Sessions.{SessionsSeen, owed as owed_of};
@@ -45,6 +45,7 @@ pub(crate) fn give_in<U: Universe>(
     requires stands { (x : SessionsSeen U.Key) × CoreStands U.Key.eq U.meaning (core_of desk.old versions.old.entries graph.old cells.now x) × (owed ≡ owed_of x) }
     ensures stale { IfOk result (λ g. IfSome (stale_of g) (λ s. (s ≡ step) × (task_at U.Key.eq (table_at versions.old.entries step.job.name.version) step.job.name.key ≡ Some (held_of step.job IsOut) → ⊥) × (desk.new ≡ desk.old) × (versions.new.entries ≡ versions.old.entries) × (graph.new ≡ graph.old))) }
     ensures taken { IfOk result (λ g. IfNone (stale_of g) (Turned U.Key.eq U.meaning step.job.name.version versions.old.entries versions.new.entries (λ ps qs. Gives U.Key.eq step.job.name.version step ps qs desk.old desk.new))) }
+    ensures does { IfOk result (λ g. IfNone (stale_of g) (Turned U.Key.eq U.meaning step.job.name.version versions.old.entries versions.new.entries (λ ps qs. IsTakenUp U.Key.eq U.meaning U.Value.eq step.job.name.version step cells.now ps qs graph.old graph.new desk.old desk.new step.outcome))) }
     ensures step { IfErr result (λ e. e.1 ≡ step) }
     ensures err { OnErr result ((task_at U.Key.eq (table_at versions.old.entries step.job.name.version) step.job.name.key ≡ Some (held_of step.job IsOut)) × ((x : SessionsSeen U.Key) → IsAsBefore U.Key.eq (core_of desk.old versions.old.entries graph.old cells.now x) (core_of desk.new versions.new.entries graph.new cells.now x))) }
     ensures kept { OnOk result ((x : SessionsSeen U.Key) → owed ≡ owed_of x → CoreStands U.Key.eq U.meaning (core_of desk.old versions.old.entries graph.old cells.now x) → CoreStands U.Key.eq U.meaning (core_of desk.new versions.new.entries graph.new cells.now x)) }
@@ -88,6 +89,7 @@ fn take_step<U: Universe>(
     requires hand { (w : World U.Key U.Value) × AtHand U.Key.eq U.meaning step.job.name.version w owed tasks.old desk.old graph.old cells.now }
     requires out { task_at U.Key.eq tasks.old step.job.name.key ≡ Some (held_of step.job IsOut) }
     ensures taken { IfOk result (λ g. IfNone (stale_of g) (Gives U.Key.eq step.job.name.version step tasks.old tasks.new desk.old desk.new)) }
+    ensures does { IfOk result (λ g. IfNone (stale_of g) (IsTakenUp U.Key.eq U.meaning U.Value.eq step.job.name.version step cells.now tasks.old tasks.new graph.old graph.new desk.old desk.new step.outcome)) }
     ensures fresh { IfOk result (λ g. IfSome (stale_of g) (λ s. ⊥)) }
     ensures step { IfErr result (λ e. e.1 ≡ step) }
     ensures err { OnErr result (KeepsAtHand U.Key.eq tasks.old tasks.new desk.old desk.new) }
@@ -127,6 +129,7 @@ fn end_or_differ<U: Universe>(
     requires out { task_at U.Key.eq tasks.old step.now.job.name.key ≡ Some (held_of step.now.job IsOut) }
     requires ends { (ks : List U.Key) → step.now.outcome ≡ Wanting ks → ⊥ }
     ensures taken { OnOk result (Gives U.Key.eq step.now.job.name.version step.now tasks.old tasks.new desk.old desk.new) }
+    ensures does { OnOk result (IsTakenUp U.Key.eq U.meaning U.Value.eq step.now.job.name.version step.now cells.now tasks.old tasks.new graph.old graph.new desk.old desk.new step.now.outcome) }
     ensures err { OnErr result (KeepsAtHand U.Key.eq tasks.old tasks.new desk.old desk.new) }
     ensures graph { OnErr result (graph.new ≡ graph.old) }
     ensures kept { OnOk result ((w : World U.Key U.Value) → AtHand U.Key.eq U.meaning step.now.job.name.version w owed tasks.old desk.old graph.old cells.now → AtHand U.Key.eq U.meaning step.now.job.name.version w owed tasks.new desk.new graph.new cells.now) }

@@ -1,5 +1,5 @@
 //! The core.
-ghost use Rattle.std.specs.Prelude.{◌≡◌, ◌≢◌, ◌<◌, ◌+◌, ◌++◌, ◌∷◌, ◌↔◌, IsTrue, ℕ, List, [], true, false, length, map, reverse, Some, None, is_some, IfOk, IfErr, IfSome, IfNone, OnOk, OnErr, MatchResult};
+ghost use Rattle.std.specs.Prelude.{◌≡◌, ◌≢◌, ◌<◌, ◌+◌, ◌++◌, ◌∷◌, ◌↔◌, IsTrue, ℕ, nat_eq, List, [], true, false, length, map, reverse, Some, None, is_some, IfOk, IfErr, IfSome, IfNone, OnOk, OnErr, MatchResult};
 ghost use Rattle.std.specs.Map.{keys_of};
 ghost use Rattle.dice_model.specs.Log.{Has, pairs_of};
 ghost use Rattle.journal.specs.declared.event.Told.TheVariants.{Open, Close, Leave, Drop, Lost};
@@ -8,20 +8,21 @@ ghost use Rattle.dice_key.specs.declared.universe.Kind.TheVariants.{Injected};
 ghost use Rattle.dice_model.specs.Eval.{HasValue};
 ghost use Rattle.dice_model.specs.Asks.{AsksFor};
 ghost use Rattle.task_share.specs.Asked.{Tasked};
-ghost use Rattle.task_share.specs.Seen.{task_at, asks};
+ghost use Rattle.task_share.specs.Seen.{task_at, asks, asked_of};
 ghost use Rattle.journal.specs.Events.{Opened, Asking, commits_of, decided, open_at, open_count, opened_at, live_at};
 ghost use Rattle.injected.specs.Seen.{cell_at};
 ghost use Rattle.journal.specs.Law.{IsLawfulJournal};
 ghost use Rattle.version_epoch.specs.Standings.{open_count_of};
 ghost use Rattle.versioned_graph.specs.Sound.{AreTrue};
-ghost use Rattle.core_laws.specs.Stands.{CycleStands, lost_in_epoch};
-ghost use Rattle.dice_core.specs.Commits.{Fault, fault_of, AreSettable, IsFirstFault, differing_of, event_of};
+ghost use Rattle.core_laws.specs.Stands.{CycleStands, IsAtRest, lost_in_epoch};
+ghost use Rattle.dice_core.specs.Commits.{CommitsEntries, Fault, fault_of, AreSettable, IsFirstFault, differing_of, event_of};
 ghost use Rattle.dice_steps.specs.Cells.{CellsStand};
-ghost use Rattle.dice_tasks.specs.Hands.{KeepsWork};
-ghost use Rattle.dice_core.specs.Givings.{stale_of, Gives};
+ghost use Rattle.dice_tasks.specs.Endings.{GivesUpAll};
+ghost use Rattle.dice_tasks.specs.Hands.{KeepsWork, tasks_of};
+ghost use Rattle.dice_core.specs.Givings.{stale_of, Gives, IsTakenUp};
 ghost use Rattle.dice_core.specs.Joinings.{AsksForKey};
 ghost use Rattle.dice_core.specs.Sessions.{transaction_at, ask_at};
-ghost use Rattle.dice_core.specs.Cores.{CoreSeen, Came, ToValue, ToCycle, ToNothing, Pending, Absent, came_of, decision_of, events_of, past_of, table_at, held_to, injected_to, held_in, poll_of, Turned, IsAsBefore, KeepsTasksOf, DropsOnly, IsJobOut, IsNameOut, TakesOut, GivesUpOnly};
+ghost use Rattle.dice_core.specs.Cores.{CoreSeen, Came, ToValue, ToCycle, ToNothing, Pending, Absent, came_of, decision_of, events_of, past_of, table_at, held_to, injected_to, held_in, poll_of, Turned, IsAsBefore, KeepsTasksOf, DropsThese, IsJobOut, IsNameOut, TakesOut, GivesUpOnly};
 
 use crate::commit::{CommitRefusal, commit};
 use crate::giving::{Gave, give_in};
@@ -104,6 +105,10 @@ impl<U: Universe> Core<U> {
         // Each entry holds true values at the versions that it is known for, up to the newest.
         ensures entries { AreTrue U.Key.eq U.meaning (commits_of (past_of self.now)) self.now.entries }
 
+        // At every version the promises are the live asks, and each task stands where it does by what the journal tells; a task at work is
+        // asked for, what it waits for is at work, and without an open transaction there is none.
+        ensures rest { (v : ℕ) → IsAtRest U.Key.eq U.meaning (past_of self.now) v (asked_of U.Key.eq (table_at self.now.tables v)) (tasks_of U.Key.eq (table_at self.now.tables v)) }
+
         // A task waits for what its key asks.
         ensures waits { (v : ℕ) (d k : U.Key) → asks U.Key.eq (table_at self.now.tables v) d (Tasked k) ≡ true → AsksFor U.Key.eq U.meaning (commits_of (past_of self.now)) v k d }
     {
@@ -144,7 +149,8 @@ impl<U: Universe> Core<U> {
     /// none of these nothing changes. The version is the newest one after it.
     ///
     /// The changes are tested first, in order: the first pair whose key is not injected, or stands in an earlier pair, is named. At a
-    /// refusal all is as before. It costs a look-up for each change.
+    /// refusal all is as before. The tails of all entries that the commit reaches by recorded edges are cut at its version. It costs a
+    /// look-up for each change, and for each recorded user of what is reached.
     pub fn commit<'a>(
         &mut self,
         by: u64,
@@ -156,6 +162,7 @@ impl<U: Universe> Core<U> {
         ensures version { IfOk result (λ v. v ≡ length (commits_of (past_of self.new))) }
         ensures events { OnOk result (events_of self.new ≡ events_of self.old ++ event_of by (differing_of U.Key.eq U.Value.eq U.meaning self.old.cells (pairs_of changes.now))) }
         ensures tasks { (self.new.tables ≡ self.old.tables) × (self.new.sessions ≡ self.old.sessions) × KeepsWork self.old.desk self.new.desk }
+        ensures cut { OnOk result (CommitsEntries U.Key.eq U.meaning (differing_of U.Key.eq U.Value.eq U.meaning self.old.cells (pairs_of changes.now)) (length (commits_of (past_of self.old)) + 1) self.old.entries self.new.entries) }
         ensures err { OnErr result (IsAsBefore U.Key.eq self.old self.new) }
     {
         laws_of::<U>();
@@ -198,7 +205,7 @@ impl<U: Universe> Core<U> {
     pub fn ask(&mut self, by: u64, tx: u64, key: KeyRef<U>) -> Result<u64, NoMemory>
         requires { is_some (open_at (past_of self.old) tx) ≡ true }
         ensures index { IfOk result (λ i. i ≡ length (events_of self.old)) }
-        ensures asked { OnOk result ((o : Opened) × (open_at (past_of self.old) tx ≡ Some o) × Turned U.Key.eq U.meaning o.version self.old.tables self.new.tables (λ ps qs. AsksForKey U.Key.eq o.version by tx (arc_value key) ps qs self.old.desk self.new.desk)) }
+        ensures asked { OnOk result ((o : Opened) × (open_at (past_of self.old) tx ≡ Some o) × Turned U.Key.eq U.meaning o.version self.old.tables self.new.tables (λ ps qs. AsksForKey U.Key.eq U.meaning o.version by tx (arc_value key) ps qs self.old.entries self.new.entries self.old.desk self.new.desk)) }
         ensures err { OnErr result (IsAsBefore U.Key.eq self.old self.new) }
     {
         laws_of::<U>();
@@ -219,8 +226,7 @@ impl<U: Universe> Core<U> {
     /// version all its tasks go. It takes no memory.
     pub fn close(&mut self, tx: u64)
         requires { is_some (open_at (past_of self.old) tx) ≡ true }
-        ensures log { (o : Opened) × (ks : List U.Key) × (open_at (past_of self.old) tx ≡ Some o) × (events_of self.new ≡ events_of self.old ++ (Close o.by tx ∷ map (Drop o.version) ks)) }
-        ensures tasks { DropsOnly U.Key.eq self.old self.new }
+        ensures log { (o : Opened) × (ks : List U.Key) × (open_at (past_of self.old) tx ≡ Some o) × (events_of self.new ≡ events_of self.old ++ (Close o.by tx ∷ map (Drop o.version) ks)) × DropsThese U.Key.eq o.version (nat_eq (open_count (past_of self.new) o.version) 0) ks self.old.tables self.new.tables }
     {
         laws_of::<U>();
         close_in(&mut self.desk, &mut self.versions, &mut self.sessions, tx);
@@ -229,8 +235,7 @@ impl<U: Universe> Core<U> {
     /// Leaves an ask, and drops the tasks that nobody asks for any more. It takes no memory.
     pub fn leave(&mut self, ask: u64)
         requires { is_some (live_at (past_of self.old) ask) ≡ true }
-        ensures log { (a : Asking U.Key) × (o : Opened) × (ks : List U.Key) × (live_at (past_of self.old) ask ≡ Some a) × (open_at (past_of self.old) a.opened ≡ Some o) × (events_of self.new ≡ events_of self.old ++ (Leave a.by ask ∷ map (Drop o.version) ks)) }
-        ensures tasks { DropsOnly U.Key.eq self.old self.new }
+        ensures log { (a : Asking U.Key) × (o : Opened) × (ks : List U.Key) × (live_at (past_of self.old) ask ≡ Some a) × (open_at (past_of self.old) a.opened ≡ Some o) × (events_of self.new ≡ events_of self.old ++ (Leave a.by ask ∷ map (Drop o.version) ks)) × DropsThese U.Key.eq o.version false ks self.old.tables self.new.tables }
     {
         laws_of::<U>();
         leave_ask(&mut self.desk, &mut self.versions, &mut self.sessions, ask);
@@ -262,8 +267,11 @@ impl<U: Universe> Core<U> {
     pub fn fail(&mut self, name: &JobName<U>) -> bool
         ensures out { IsTrue result ↔ IsNameOut U.Key.eq self.old name.now }
         ensures log { result ≡ true → (ls ks : List U.Key) × Has ls name.now.key × (events_of self.new ≡ events_of self.old ++ (map (Lost name.now.version) ls ++ map (Drop name.now.version) ks)) }
+        ensures failed { result ≡ true → Turned U.Key.eq U.meaning name.now.version self.old.tables self.new.tables (λ ps qs. GivesUpAll U.Key.eq name.now.version None name.now.key ps qs self.old.desk self.new.desk) }
+        ensures home { result ≡ true → IsNameOut U.Key.eq self.new name.now → ⊥ }
         ensures tasks { result ≡ true → GivesUpOnly U.Key.eq self.old self.new }
         ensures other { result ≡ false → self.new ≡ self.old }
+        ensures rest { (self.new.entries ≡ self.old.entries) × (self.new.cells ≡ self.old.cells) × (self.new.sessions ≡ self.old.sessions) }
     {
         laws_of::<U>();
         fail_named(&mut self.desk, &mut self.versions, name)
@@ -278,6 +286,7 @@ impl<U: Universe> Core<U> {
     pub fn give(&mut self, step: Step<U>) -> Result<Gave<U>, (NoMemory, Step<U>)>
         ensures stale { IfOk result (λ g. IfSome (stale_of g) (λ s. (s ≡ step) × (IsJobOut U.Key.eq self.old step.job → ⊥) × (self.new ≡ self.old))) }
         ensures taken { IfOk result (λ g. IfNone (stale_of g) (Turned U.Key.eq U.meaning step.job.name.version self.old.tables self.new.tables (λ ps qs. Gives U.Key.eq step.job.name.version step ps qs self.old.desk self.new.desk))) }
+        ensures does { IfOk result (λ g. IfNone (stale_of g) (Turned U.Key.eq U.meaning step.job.name.version self.old.tables self.new.tables (λ ps qs. IsTakenUp U.Key.eq U.meaning U.Value.eq step.job.name.version step self.old.cells ps qs self.old.entries self.new.entries self.old.desk self.new.desk step.outcome))) }
         ensures step { IfErr result (λ e. e.1 ≡ step) }
         ensures err { OnErr result (IsJobOut U.Key.eq self.old step.job × IsAsBefore U.Key.eq self.old self.new) }
     {

@@ -1,12 +1,11 @@
 //! Transactions that are opened, and asks that are left, over the tasks of all versions.
-ghost use Rattle.std.specs.Prelude.{◌≡◌, ◌<◌, ◌+◌, ◌++◌, [], ◌∷◌, ◌⊎◌, ℕ, List, length, map, reverse, true, Some, None, is_some, IfOk, OnOk, OnErr};
+ghost use Rattle.std.specs.Prelude.{◌≡◌, ◌<◌, ◌+◌, ◌++◌, [], ◌∷◌, ℕ, nat_eq, List, length, map, reverse, true, Some, None, is_some, IfOk, OnOk, OnErr};
 ghost use Rattle.std.specs.Arc.{arc_value};
 ghost use Rattle.journal.specs.declared.event.Told.TheVariants.{Open, Close, Leave, Drop};
-ghost use Rattle.journal.specs.Events.{Opened, Asking as AskSeen, commits_of, open_at, live_at};
-ghost use Rattle.task_share.specs.Seen.{task_at};
+ghost use Rattle.journal.specs.Events.{Opened, Asking as AskSeen, commits_of, open_at, open_count, live_at};
 ghost use Rattle.dice_core.specs.Askings.{DropsAfter};
 ghost use Rattle.dice_core.specs.Joinings.{AsksForKey};
-ghost use Rattle.dice_core.specs.Cores.{table_at, has_table, core_of, Turned, IsAsBefore, KeepsTasksOf, CoreStands};
+ghost use Rattle.dice_core.specs.Cores.{table_at, has_table, core_of, Turned, IsAsBefore, KeepsTasksOf, DropsThese, CoreStands};
 ghost use Rattle.versioned_graph.specs.Entries.{Stored};
 ghost use Rattle.injected.specs.Seen.{Seen};
 ghost use Rattle.dice_core.specs.Sessions.{SessionsSeen};
@@ -107,7 +106,7 @@ pub(crate) fn ask_in<U: Universe>(
     requires stands { (s : Seen U.Key U.Value) × CoreStands U.Key.eq U.meaning (core_of desk.old versions.old.entries graph.old s sessions.old) }
     requires opened { is_some (open_at (reverse desk.old.events) tx) ≡ true }
     ensures index { IfOk result (λ i. i ≡ length desk.old.events) }
-    ensures asked { OnOk result ((o : Opened) × (open_at (reverse desk.old.events) tx ≡ Some o) × Turned U.Key.eq U.meaning o.version versions.old.entries versions.new.entries (λ ps qs. AsksForKey U.Key.eq o.version by tx (arc_value key) ps qs desk.old desk.new)) }
+    ensures asked { OnOk result ((o : Opened) × (open_at (reverse desk.old.events) tx ≡ Some o) × Turned U.Key.eq U.meaning o.version versions.old.entries versions.new.entries (λ ps qs. AsksForKey U.Key.eq U.meaning o.version by tx (arc_value key) ps qs graph.old graph.new desk.old desk.new)) }
     ensures err { OnErr result ((s : Seen U.Key U.Value) → IsAsBefore U.Key.eq (core_of desk.old versions.old.entries graph.old s sessions.old) (core_of desk.new versions.new.entries graph.new s sessions.new)) }
     ensures kept { OnOk result ((s : Seen U.Key U.Value) → CoreStands U.Key.eq U.meaning (core_of desk.old versions.old.entries graph.old s sessions.old) → CoreStands U.Key.eq U.meaning (core_of desk.new versions.new.entries graph.new s sessions.new)) }
 {
@@ -138,8 +137,7 @@ pub(crate) fn close_in<U: Universe>(
 )
     requires stands { (es : List (U.Key × Stored U.Key U.Value)) × (s : Seen U.Key U.Value) × CoreStands U.Key.eq U.meaning (core_of desk.old versions.old.entries es s sessions.old) }
     requires opened { is_some (open_at (reverse desk.old.events) tx) ≡ true }
-    ensures log { (o : Opened) × (ks : List U.Key) × (open_at (reverse desk.old.events) tx ≡ Some o) × (desk.new.events ≡ desk.old.events ++ (Close o.by tx ∷ map (Drop o.version) ks)) }
-    ensures tasks { (v : ℕ) (q : U.Key) → (task_at U.Key.eq (table_at versions.new.entries v) q ≡ None) ⊎ (task_at U.Key.eq (table_at versions.new.entries v) q ≡ task_at U.Key.eq (table_at versions.old.entries v) q) }
+    ensures log { (o : Opened) × (ks : List U.Key) × (open_at (reverse desk.old.events) tx ≡ Some o) × (desk.new.events ≡ desk.old.events ++ (Close o.by tx ∷ map (Drop o.version) ks)) × DropsThese U.Key.eq o.version (nat_eq (open_count (reverse desk.new.events) o.version) 0) ks versions.old.entries versions.new.entries }
     ensures kept { (es : List (U.Key × Stored U.Key U.Value)) (s : Seen U.Key U.Value) → CoreStands U.Key.eq U.meaning (core_of desk.old versions.old.entries es s sessions.old) → CoreStands U.Key.eq U.meaning (core_of desk.new versions.new.entries es s sessions.new) }
 {
     laws_of::<U>();

@@ -44,7 +44,8 @@ impl<U: Universe> Engine<U> {
         ensures { IfOk result (λ t. t.1 ≡ first_seat t.0 writers) }
     {
         let core = Core::new(alloc, Arc::try_clone(&universe)?)?;
-        match Turnstile::new(alloc, State::new(core), writers) {
+        let state = State::new(alloc, core)?;
+        match Turnstile::new(alloc, state, writers) {
             Ok((stile, seat)) => Ok((Engine { stile, universe }, seat)),
             Err(_) => Err(NoMemory),
         }
@@ -76,5 +77,11 @@ impl<U: Universe> Engine<U> {
         ensures same { seat.new ≡ record seat.old { seen = seat.new.seen; floor = seat.new.floor; ended = seat.new.ended } }
     {
         self.stile.join(seat, other)
+    }
+
+    /// Whether a seat has a turn or waits for one just now. It is a hint, by which a seat that can wait lets others go first: nothing
+    /// is promised of it.
+    pub fn is_taken(&self) -> bool {
+        self.stile.is_taken()
     }
 }

@@ -28,11 +28,11 @@ use turnstile::Tale;
 /// The state that the seats of an engine have in turns: its core, and what it tells of itself between two turns.
 #[derive(Drop)]
 pub struct State<U: Universe> {
-    core: Core<U>,
+    core: Box<Core<U>>,
     left: (u64, u64, u64),
     newest: u64,
-    ghost counted: { left ≡ left_of core },
-    ghost numbered: { newest ≡ newest_in (events_of core) },
+    ghost counted: { left ≡ left_of core.value },
+    ghost numbered: { newest ≡ newest_in (events_of core.value) },
 }
 
 impl<U: Universe> Tale for State<U> {
@@ -43,11 +43,11 @@ impl<U: Universe> Tale for State<U> {
 
     type Event = Told<U::Key, U::Value>;
 
-    ghost list = { λ s. events_of s.core };
+    ghost list = { λ s. events_of s.core.value };
 
     ghost by = { event_by };
 
-    ghost counts = { λ s. left_of s.core };
+    ghost counts = { λ s. left_of s.core.value };
 
     ghost version = { newest_in };
 
@@ -73,12 +73,13 @@ fn standing<U: Universe>(core: &Core<U>) -> ((u64, u64, u64), u64)
 }
 
 impl<U: Universe> State<U> {
-    /// A state with this core.
-    pub(crate) fn new(core: Core<U>) -> State<U>
-        ensures { result.core ≡ core }
+    /// A state with this core. The core lies on the heap, so that a turn moves no more than its address.
+    pub(crate) fn new(alloc: Global, core: Core<U>) -> Result<State<U>, NoMemory>
+        ensures { IfOk result (λ s. s.core.value ≡ core) }
     {
         let (left, newest) = standing(&core);
-        State { core, left, newest }
+        let core = Box::new(alloc, core)?;
+        Ok(State { core, left, newest })
     }
 
     /// Commits changes for a seat.
@@ -90,14 +91,15 @@ impl<U: Universe> State<U> {
         ensures settable { OnOk result (AreSettable U.meaning (keys_of updater.now)) }
         ensures fault { IfErr result (λ e. IfSome (fault_of e) (IsFirstFault U.meaning (keys_of updater.now))) }
         ensures first { (f : Fault U.Key) → IsFirstFault U.meaning (keys_of updater.now) f → MatchResult result (λ _. ⊥) (λ e. IfSome (fault_of e) (λ g. g ≡ f)) }
-        ensures version { IfOk result (λ v. v ≡ newest_in (events_of self.new.core)) }
-        ensures ok { OnOk result (Adds U.Key.eq U.meaning by (events_of self.old.core) (events_of self.new.core) (Commits U.Key.eq U.Value.eq U.meaning by (log_of (events_of self.old.core)) updater.now)) }
-        ensures err { OnErr result (Adds U.Key.eq U.meaning by (events_of self.old.core) (events_of self.new.core) AddsNothing) }
+        ensures version { IfOk result (λ v. v ≡ newest_in (events_of self.new.core.value)) }
+        ensures ok { OnOk result (Adds U.Key.eq U.meaning by (events_of self.old.core.value) (events_of self.new.core.value) (Commits U.Key.eq U.Value.eq U.meaning by (log_of (events_of self.old.core.value)) updater.now)) }
+        ensures err { OnErr result (Adds U.Key.eq U.meaning by (events_of self.old.core.value) (events_of self.new.core.value) AddsNothing) }
     {
         cells_are_the_inputs::<U>();
-        self.core.in_order();
-        let result = self.core.commit(by, updater.pairs());
-        let (left, newest) = standing(&self.core);
+        let core = &mut *self.core;
+        core.in_order();
+        let result = core.commit(by, updater.pairs());
+        let (left, newest) = standing(core);
         self.left = left;
         self.newest = newest;
         result
@@ -105,13 +107,14 @@ impl<U: Universe> State<U> {
 
     /// Opens a transaction for a seat.
     pub(crate) fn open(&mut self, by: u64) -> Result<Transaction, NoMemory>
-        ensures named { IfOk result (λ t. (t.version ≡ newest_in (events_of self.old.core)) × (t.opened ≡ length (events_of self.old.core))) }
-        ensures ok { OnOk result (Adds U.Key.eq U.meaning by (events_of self.old.core) (events_of self.new.core) (Opens by (events_of self.old.core))) }
-        ensures err { OnErr result (Adds U.Key.eq U.meaning by (events_of self.old.core) (events_of self.new.core) AddsNothing) }
+        ensures named { IfOk result (λ t. (t.version ≡ newest_in (events_of self.old.core.value)) × (t.opened ≡ length (events_of self.old.core.value))) }
+        ensures ok { OnOk result (Adds U.Key.eq U.meaning by (events_of self.old.core.value) (events_of self.new.core.value) (Opens by (events_of self.old.core.value))) }
+        ensures err { OnErr result (Adds U.Key.eq U.meaning by (events_of self.old.core.value) (events_of self.new.core.value) AddsNothing) }
     {
         let version = self.newest;
-        let opened = self.core.open(by);
-        let (left, newest) = standing(&self.core);
+        let core = &mut *self.core;
+        let opened = core.open(by);
+        let (left, newest) = standing(core);
         self.left = left;
         self.newest = newest;
         Ok(Transaction {
@@ -122,12 +125,13 @@ impl<U: Universe> State<U> {
 
     /// Closes a transaction.
     pub(crate) fn close(&mut self, transaction: Transaction)
-        requires { IsLawfulJournal U.Key.eq U.meaning (events_of self.old.core) → (o : Opened) × (open_at (reverse (events_of self.old.core)) transaction.opened ≡ Some o) }
-        ensures { (o : Opened) × (open_at (reverse (events_of self.old.core)) transaction.opened ≡ Some o) × Adds U.Key.eq U.meaning o.by (events_of self.old.core) (events_of self.new.core) (Closes o.by transaction.opened o.version) }
+        requires { IsLawfulJournal U.Key.eq U.meaning (events_of self.old.core.value) → (o : Opened) × (open_at (reverse (events_of self.old.core.value)) transaction.opened ≡ Some o) }
+        ensures { (o : Opened) × (open_at (reverse (events_of self.old.core.value)) transaction.opened ≡ Some o) × Adds U.Key.eq U.meaning o.by (events_of self.old.core.value) (events_of self.new.core.value) (Closes o.by transaction.opened o.version) }
     {
-        self.core.in_order();
-        self.core.close(transaction.opened);
-        let (left, newest) = standing(&self.core);
+        let core = &mut *self.core;
+        core.in_order();
+        core.close(transaction.opened);
+        let (left, newest) = standing(core);
         self.left = left;
         self.newest = newest;
     }
@@ -139,14 +143,15 @@ impl<U: Universe> State<U> {
         transaction: &Transaction,
         key: KeyRef<U>,
     ) -> Result<Promise<U>, NoMemory>
-        requires { IsLawfulJournal U.Key.eq U.meaning (events_of self.old.core) → (o : Opened) × (open_at (reverse (events_of self.old.core)) transaction.now.opened ≡ Some o) × (o.version ≡ transaction.now.version) }
-        ensures named { IfOk result (λ p. (p.version ≡ transaction.now.version) × (p.opened ≡ transaction.now.opened) × (p.ask ≡ length (events_of self.old.core)) × (arc_value p.key ≡ arc_value key)) }
-        ensures ok { OnOk result (Adds U.Key.eq U.meaning by (events_of self.old.core) (events_of self.new.core) (Asks by transaction.now.opened transaction.now.version (arc_value key))) }
-        ensures err { OnErr result (Adds U.Key.eq U.meaning by (events_of self.old.core) (events_of self.new.core) AddsNothing) }
+        requires { IsLawfulJournal U.Key.eq U.meaning (events_of self.old.core.value) → (o : Opened) × (open_at (reverse (events_of self.old.core.value)) transaction.now.opened ≡ Some o) × (o.version ≡ transaction.now.version) }
+        ensures named { IfOk result (λ p. (p.version ≡ transaction.now.version) × (p.opened ≡ transaction.now.opened) × (p.ask ≡ length (events_of self.old.core.value)) × (arc_value p.key ≡ arc_value key)) }
+        ensures ok { OnOk result (Adds U.Key.eq U.meaning by (events_of self.old.core.value) (events_of self.new.core.value) (Asks by transaction.now.opened transaction.now.version (arc_value key))) }
+        ensures err { OnErr result (Adds U.Key.eq U.meaning by (events_of self.old.core.value) (events_of self.new.core.value) AddsNothing) }
     {
-        self.core.in_order();
-        let ask = ask_again(&mut self.core, by, transaction.opened, &key);
-        let (left, newest) = standing(&self.core);
+        let core = &mut *self.core;
+        core.in_order();
+        let ask = ask_again(core, by, transaction.opened, &key);
+        let (left, newest) = standing(core);
         self.left = left;
         self.newest = newest;
         Ok(Promise {
@@ -159,51 +164,55 @@ impl<U: Universe> State<U> {
 
     /// Leaves an ask, where its transaction is still open.
     pub(crate) fn leave(&mut self, promise: Promise<U>)
-        requires open { IsLawfulJournal U.Key.eq U.meaning (events_of self.old.core) → (o : Opened) → open_at (reverse (events_of self.old.core)) promise.opened ≡ Some o → (a : Asking U.Key) × (live_at (reverse (events_of self.old.core)) promise.ask ≡ Some a) × (a.opened ≡ promise.opened) × (o.version ≡ promise.version) }
-        requires closed { IsLawfulJournal U.Key.eq U.meaning (events_of self.old.core) → (a : Asking U.Key) → live_at (reverse (events_of self.old.core)) promise.ask ≡ Some a → (a.opened ≡ promise.opened) × ((o : Opened) × (open_at (reverse (events_of self.old.core)) promise.opened ≡ Some o)) }
-        ensures { (n : ℕ) → (IsLawfulJournal U.Key.eq U.meaning (events_of self.old.core) → (a : Asking U.Key) → live_at (reverse (events_of self.old.core)) promise.ask ≡ Some a → a.by ≡ n) → Adds U.Key.eq U.meaning n (events_of self.old.core) (events_of self.new.core) (Leaves n promise.ask promise.opened promise.version (events_of self.old.core)) }
+        requires open { IsLawfulJournal U.Key.eq U.meaning (events_of self.old.core.value) → (o : Opened) → open_at (reverse (events_of self.old.core.value)) promise.opened ≡ Some o → (a : Asking U.Key) × (live_at (reverse (events_of self.old.core.value)) promise.ask ≡ Some a) × (a.opened ≡ promise.opened) × (o.version ≡ promise.version) }
+        requires closed { IsLawfulJournal U.Key.eq U.meaning (events_of self.old.core.value) → (a : Asking U.Key) → live_at (reverse (events_of self.old.core.value)) promise.ask ≡ Some a → (a.opened ≡ promise.opened) × ((o : Opened) × (open_at (reverse (events_of self.old.core.value)) promise.opened ≡ Some o)) }
+        ensures { (n : ℕ) → (IsLawfulJournal U.Key.eq U.meaning (events_of self.old.core.value) → (a : Asking U.Key) → live_at (reverse (events_of self.old.core.value)) promise.ask ≡ Some a → a.by ≡ n) → Adds U.Key.eq U.meaning n (events_of self.old.core.value) (events_of self.new.core.value) (Leaves n promise.ask promise.opened promise.version (events_of self.old.core.value)) }
     {
-        self.core.in_order();
-        if self.core.stands(promise.ask) {
-            self.core.leave(promise.ask);
+        let core = &mut *self.core;
+        core.in_order();
+        if core.stands(promise.ask) {
+            core.leave(promise.ask);
         }
-        let (left, newest) = standing(&self.core);
+        let (left, newest) = standing(core);
         self.left = left;
         self.newest = newest;
     }
 
     /// What a promise has come to.
     pub(crate) fn poll(&self, promise: &Promise<U>) -> Result<Answer<U>, NoMemory>
-        requires { IsLawfulJournal U.Key.eq U.meaning (events_of self.now.core) → (a : Asking U.Key) → live_at (reverse (events_of self.now.core)) promise.now.ask ≡ Some a → (a.opened ≡ promise.now.opened) × (a.key ≡ arc_value promise.now.key) × ((o : Opened) → open_at (reverse (events_of self.now.core)) a.opened ≡ Some o → o.version ≡ promise.now.version) }
-        ensures reply { IsReply U.Key.eq U.meaning (events_of self.now.core) promise.now.version (arc_value promise.now.key) promise.now.ask (left_of self.now.core) (reply_of result) }
+        requires { IsLawfulJournal U.Key.eq U.meaning (events_of self.now.core.value) → (a : Asking U.Key) → live_at (reverse (events_of self.now.core.value)) promise.now.ask ≡ Some a → (a.opened ≡ promise.now.opened) × (a.key ≡ arc_value promise.now.key) × ((o : Opened) → open_at (reverse (events_of self.now.core.value)) a.opened ≡ Some o → o.version ≡ promise.now.version) }
+        ensures reply { IsReply U.Key.eq U.meaning (events_of self.now.core.value) promise.now.version (arc_value promise.now.key) promise.now.ask (left_of self.now.core.value) (reply_of result) }
 
         // Where the ask is live, what is answered is what the core has come to.
-        ensures exact { IsLiveIn (events_of self.now.core) promise.now.ask → Tells (poll_of U.Key.eq U.meaning self.now.core promise.now.version (arc_value promise.now.key)) (reply_of result) }
-        ensures lawful { IsLawfulJournal U.Key.eq U.meaning (events_of self.now.core) }
+        ensures exact { IsLiveIn (events_of self.now.core.value) promise.now.ask → Tells (poll_of U.Key.eq U.meaning self.now.core.value promise.now.version (arc_value promise.now.key)) (reply_of result) }
+        ensures lawful { IsLawfulJournal U.Key.eq U.meaning (events_of self.now.core.value) }
     {
-        self.core.in_order();
-        if !self.core.stands(promise.ask) {
+        let core = &*self.core;
+        core.in_order();
+        if !core.stands(promise.ask) {
             return Ok(Answer::Gone);
         }
-        answer_of(self.core.poll(promise.version, &promise.key))
+        answer_of(core.poll(promise.version, &promise.key))
     }
 
     /// The lines of the journal, one an event, in order.
     pub(crate) fn lines(&self, alloc: Global, universe: &U) -> Result<Vec<Line>, NoMemory>
-        ensures lines { IfOk result (λ ls. AreLines U.meaning (events_of self.now.core) ls.items) }
-        ensures lawful { IsLawfulJournal U.Key.eq U.meaning (events_of self.now.core) }
+        ensures lines { IfOk result (λ ls. AreLines U.meaning (events_of self.now.core.value) ls.items) }
+        ensures lawful { IsLawfulJournal U.Key.eq U.meaning (events_of self.now.core.value) }
     {
-        self.core.in_order();
-        lines_of(alloc, universe, self.core.journal())
+        let core = &*self.core;
+        core.in_order();
+        lines_of(alloc, universe, core.journal())
     }
 
     /// Takes the job of a task that is ready.
     pub(crate) fn take_job(&mut self) -> Option<Job<U>>
-        ensures adds { Adds U.Key.eq U.meaning 0 (events_of self.old.core) (events_of self.new.core) AddsNothing }
-        ensures none { IfNone result (self.new.core.desk.ready ≡ []) }
+        ensures adds { Adds U.Key.eq U.meaning 0 (events_of self.old.core.value) (events_of self.new.core.value) AddsNothing }
+        ensures none { IfNone result (self.new.core.value.desk.ready ≡ []) }
     {
-        let job = self.core.take_job();
-        let (left, newest) = standing(&self.core);
+        let core = &mut *self.core;
+        let job = core.take_job();
+        let (left, newest) = standing(core);
         self.left = left;
         self.newest = newest;
         job
@@ -211,13 +220,14 @@ impl<U: Universe> State<U> {
 
     /// Takes up what came of a job: a step, or the name of the job, where there was no memory for it.
     pub(crate) fn take_up(&mut self, came: Result<Step<U>, JobName<U>>)
-        ensures { Adds U.Key.eq U.meaning 0 (events_of self.old.core) (events_of self.new.core) (λ own work. own ≡ []) }
+        ensures { Adds U.Key.eq U.meaning 0 (events_of self.old.core.value) (events_of self.new.core.value) (λ own work. own ≡ []) }
     {
+        let core = &mut *self.core;
         match came {
-            Ok(step) => give(&mut self.core, step),
-            Err(name) => fail(&mut self.core, &name),
+            Ok(step) => give(core, step),
+            Err(name) => fail(core, &name),
         }
-        let (left, newest) = standing(&self.core);
+        let (left, newest) = standing(core);
         self.left = left;
         self.newest = newest;
     }

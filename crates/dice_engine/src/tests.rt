@@ -145,6 +145,7 @@ fn a_promise_is_pending_then_settled_and_at_last_gone(rt: HostRuntime) -> Result
     let worked = engine.work(&rt, &mut seat, &Open, 0);
     let last = engine.wait(&rt, &mut seat, &promise, &Open, 0)?;
     let idle = engine.work(&rt, &mut seat, &Open, 0);
+    assert!(rt; !engine.is_taken());
     engine.close(&rt, &mut seat, transaction);
     let gone = engine.poll(&rt, &mut seat, &promise)?;
     assert_eq!(rt; answered(&first), Seen::Pending);

@@ -1,5 +1,5 @@
 //! The calls of an engine that do jobs.
-ghost use Rattle.std.specs.Prelude.{◌≡◌, [], IfSome, IfNone};
+ghost use Rattle.std.specs.Prelude.{◌≡◌, ◌+◌, [], IfSome, IfNone};
 ghost use Rattle.std.specs.Arc.{arc_value};
 ghost use Rattle.turnstile.specs.Seats.{IsSeatOf};
 ghost use Rattle.dice_engine.specs.declared.promise.Worked.TheVariants as worked;
@@ -30,6 +30,7 @@ impl<U: Universe> Engine<U> {
         ensures works { Works U.Key.eq U.meaning seat.old seat.new }
         ensures later { Later U.Key.eq U.meaning seat.old seat.new × (seat.new.mine ≡ seat.old.mine) }
         ensures idle { result ≡ worked.Idle → seat.new.left.0 ≡ 0 }
+        ensures did { result ≡ worked.Did → seat.new.turns ≡ seat.old.turns + 2 }
         ensures seat { IsSeatOf self.now seat.new }
         ensures same { (seat.new.number ≡ seat.old.number) × (seat.new.writers ≡ seat.old.writers) }
     {

@@ -31,7 +31,7 @@ const MOST: usize = 4_194_305;
 /// call; the whole rest of the output is handed to the sink in each call, and no memory is taken once it is built. The gate is
 /// told of each job before a worker does it. Of these no clause speaks but of the bytes that are read.
 ///
-/// With status 0 `kept` gets an engine, which did the work, and the driver's seat at it, whose seen journal is one of the script;
+/// With status 0 `kept` gets the engine and the driver's seat at it, whose seen journal is one of the script;
 /// else it stays empty.
 pub fn run<R: Threads + Wait + Sync, S: Source, K: Sink, G: Gate>(
     rt: &R,

@@ -1,10 +1,12 @@
 //! Runs by several workers, with traces, and of the bulk script.
 use crate::tests::{FIRST, FIRST_OUT, outcome};
-use crate::{Gate, MemorySink, MemorySource, run};
+use crate::{Gate, MemorySink, MemorySource, Open, drive, run};
+use action_digest::Buck;
+use dice_engine::Engine;
 use dice_io::NoMemory;
 use std::alloc::Global;
-use std::sync::Wait;
 use std::sync::atomic::{AtomicBool, AtomicU64, Ordering};
+use std::sync::{Arc, Wait};
 use std::test::Fail;
 use std::thread::{self, Threads};
 
@@ -29,25 +31,29 @@ fn first_other<R: Threads + Wait + Sync>(
 
 #[test]
 fn workers_change_nothing(rt: HostRuntime) -> Result<(), Fail> {
-    let rows: [Row; 6] = [
-        (&["dice", "run", "--workers", "0"], FIRST, FIRST_OUT),
-        (&["dice", "run", "--workers", "1"], FIRST, FIRST_OUT),
-        (&["dice", "run", "--workers", "2"], FIRST, FIRST_OUT),
-        (&["dice", "run", "--workers", "4"], FIRST, FIRST_OUT),
-        (&["dice", "run", "--workers", "16"], FIRST, FIRST_OUT),
-        (&["dice", "run", "--workers", "64"], FIRST, FIRST_OUT),
-    ];
-    assert_eq!(rt; first_other(&rt, rt.alloc(), &rows)?, None);
+    let numbers = ["0", "1", "2", "4", "16", "64"];
+    for number in numbers {
+        let words: [&'static str; 4] = ["dice", "run", "--workers", number];
+        for (script, wanted) in &SCRIPTS {
+            let (status, out) = outcome(&rt, rt.alloc(), &words, script, &[], &[])?;
+            assert!(rt; status == 0 && out.as_slice() == *wanted);
+        }
+    }
     Ok(())
 }
 
 #[test]
 fn traces_and_summaries(rt: HostRuntime) -> Result<(), Fail> {
-    let rows: [Row; 3] = [
+    let rows: [Row; 4] = [
         (
             &["dice", "run", "--workers", "0", "--trace"],
             b"put a/BUCK 76\nwrite_file(name = \"u\", content = \"a\")\nwrite_file(name = \"w\", content = \"b\")\n\ncommit\nopen t\nask t r //a:w\nwait r\nput a/BUCK 76\nwrite_file(name = \"u\", content = \"c\")\nwrite_file(name = \"w\", content = \"b\")\n\ncommit\nopen s\nask s q //a:w\n",
             b"commit 1\nopen t 1\nr 1 03da25344a55dde4115d94d454d37d56e1b44ab7eadead40c654e96380bb66f1\ncommit 2\nopen s 2\nq 2 03da25344a55dde4115d94d454d37d56e1b44ab7eadead40c654e96380bb66f1\ntrace 22\ncommit 0 a/BUCK\nopen 0 1\nask 0 1 digest //a:w\nstart 1 digest //a:w new\nstart 1 action //a:w new\nstart 1 rule //a:w new\nstart 1 package //a new\nend 1 package //a\nend 1 rule //a:w\nend 1 action //a:w\nend 1 digest //a:w\ncommit 0 a/BUCK\nopen 0 2\nask 0 12 digest //a:w\nstart 2 package //a differs 1 source a/BUCK\nend 2 package //a\nstart 2 rule //a:w differs 1 package //a\nend 2 rule //a:w\nkeep 2 action //a:w 1\nkeep 2 digest //a:w 1\nclose 0 1\nclose 0 12\n",
+        ),
+        (
+            &["dice", "run", "--workers", "0", "--trace"],
+            b"put a/BUCK 76\nwrite_file(name = \"u\", content = \"a\")\nwrite_file(name = \"w\", content = \"b\")\n\ncommit\nopen t\nask t r //a:w\nwait r\nput z/f 1\na\ncommit\nopen s\nask s q //a:w\n",
+            b"commit 1\nopen t 1\nr 1 03da25344a55dde4115d94d454d37d56e1b44ab7eadead40c654e96380bb66f1\ncommit 2\nopen s 2\nq 2 03da25344a55dde4115d94d454d37d56e1b44ab7eadead40c654e96380bb66f1\ntrace 17\ncommit 0 a/BUCK\nopen 0 1\nask 0 1 digest //a:w\nstart 1 digest //a:w new\nstart 1 action //a:w new\nstart 1 rule //a:w new\nstart 1 package //a new\nend 1 package //a\nend 1 rule //a:w\nend 1 action //a:w\nend 1 digest //a:w\ncommit 0 z/f\nopen 0 2\nask 0 12 digest //a:w\nkeep 2 digest //a:w 1\nclose 0 1\nclose 0 12\n",
         ),
         (
             &["dice", "run", "--trace", "--workers", "0"],
@@ -61,6 +67,19 @@ fn traces_and_summaries(rt: HostRuntime) -> Result<(), Fail> {
         ),
     ];
     assert_eq!(rt; first_other(&rt, rt.alloc(), &rows)?, None);
+    Ok(())
+}
+
+#[test]
+fn a_script_is_driven_on_an_engine(rt: HostRuntime) -> Result<(), Fail> {
+    let alloc = rt.alloc();
+    let universe = Arc::new(alloc, Buck::new(alloc)?)?;
+    let (engine, seat) = Engine::new(&rt, alloc, universe, 1)?;
+    let Ok(script) = script::read(alloc, FIRST) else {
+        return Ok(assert!(rt; false, "it is a script"));
+    };
+    let (seat, out) = drive(&rt, alloc, &engine, seat, &script, false, 2, &Open);
+    assert!(rt; out?.as_slice() == FIRST_OUT && seat.number() == 0);
     Ok(())
 }
 
@@ -139,15 +158,29 @@ const PACKAGES: &[u8] =
 const PACKAGES_OUT: &[u8] =
     b"commit 1\nopen t 1\nr 1 72801cd249fb51131b7bbb93151ac0d3277ce1ef6febdf4fdc9f980dbb59266d\nq 1 72801cd249fb51131b7bbb93151ac0d3277ce1ef6febdf4fdc9f980dbb59266d\n";
 
+const LEFT: &[u8] =
+    b"put a/BUCK 55\nwrite_file(name = \"w\", out = \"w.txt\", content = \"abc\")\n\nput b/BUCK 55\nwrite_file(name = \"w\", out = \"w.txt\", content = \"abc\")\n\ncommit\nopen t\nask t r //a:w\nask t q //b:w\ncancel r\nwait q\nclose t\n";
+
+const LEFT_OUT: &[u8] =
+    b"commit 1\nopen t 1\nr 1 cancelled\nq 1 72801cd249fb51131b7bbb93151ac0d3277ce1ef6febdf4fdc9f980dbb59266d\n";
+
+/// Scripts of one target, of two packages, of two versions, and with a request that is given up; each with its output.
+const SCRIPTS: [(&[u8], &[u8]); 4] = [
+    (FIRST, FIRST_OUT),
+    (PACKAGES, PACKAGES_OUT),
+    (VERSIONS, VERSIONS_OUT),
+    (LEFT, LEFT_OUT),
+];
+
 #[test]
-fn two_workers_work_at_once_on_two_packages(rt: HostRuntime) -> Result<(), Fail> {
+fn two_workers_at_the_gate_at_once(rt: HostRuntime) -> Result<(), Fail> {
     let (status, out, met) = run_by_two(&rt, rt.alloc(), PACKAGES)?;
     assert!(rt; status == 0 && out.as_slice() == PACKAGES_OUT && met);
     Ok(())
 }
 
 #[test]
-fn two_workers_work_at_once_at_two_versions(rt: HostRuntime) -> Result<(), Fail> {
+fn two_workers_at_the_gate_at_two_versions(rt: HostRuntime) -> Result<(), Fail> {
     let (status, out, met) = run_by_two(&rt, rt.alloc(), VERSIONS)?;
     assert!(rt; status == 0 && out.as_slice() == VERSIONS_OUT && met);
     Ok(())

@@ -6,7 +6,8 @@ use std::sync::Wait;
 use std::test::Fail;
 use std::thread::Threads;
 
-/// How a run with these words on this script ends: its status, and what the sink holds. Source and sink move 10 bytes a call.
+/// How a run with these words on this script ends: its status, and what the sink holds. Source and sink move 10 bytes a call. Where
+/// an engine is kept after another status than 0, or none after 0, the status is 100 more.
 pub(crate) fn outcome<R: Threads + Wait + Sync>(
     rt: &R,
     alloc: Global,
@@ -19,8 +20,13 @@ pub(crate) fn outcome<R: Threads + Wait + Sync>(
     let mut source = MemorySource::new(bytes, 10, Vec::from_slice(alloc, read_fails)?);
     let mut sink = MemorySink::new(alloc, 10, Vec::from_slice(alloc, write_fails)?, 4_000)?;
     let mut kept = None;
-    let status = run(rt, alloc, words, &mut source, &mut sink, &Open, &mut kept);
-    Ok((status.code(), Vec::from_slice(alloc, sink.bytes())?))
+    let status = run(rt, alloc, words, &mut source, &mut sink, &Open, &mut kept).code();
+    let told = if kept.is_some() == (status == 0) {
+        status
+    } else {
+        status.saturating_add(100)
+    };
+    Ok((told, Vec::from_slice(alloc, sink.bytes())?))
 }
 
 pub(crate) const FIRST: &[u8] =
@@ -322,8 +328,16 @@ fn hostile_scripts(rt: HostRuntime) -> Result<(), Fail> {
 #[test]
 fn words_that_name_no_command_and_scripts_that_are_too_long(rt: HostRuntime) -> Result<(), Fail> {
     let alloc = rt.alloc();
-    let (status, out) = outcome(&rt, alloc, &["dice"], FIRST, &[], &[])?;
-    assert!(rt; status == 2 && out.is_empty());
+    let refused: [&[&str]; 4] = [
+        &["dice"],
+        &["dice", "run", "--workers", "65"],
+        &["dice", "bulk", "0"],
+        &["dice", "bulk", "10001"],
+    ];
+    for words in refused {
+        let (status, out) = outcome(&rt, alloc, words, FIRST, &[], &[])?;
+        assert!(rt; status == 2 && out.is_empty());
+    }
     let long = vec![in alloc; b'\n'; 4_194_305]?;
     let (status, out) = outcome(&rt, alloc, &["dice", "run"], &long, &[], &[])?;
     assert!(rt; status == 5 && out.as_slice() == b"script too long\n".as_slice());

@@ -135,8 +135,8 @@ fn work_all<R: Threads + Wait + Sync, G: Gate>(
     .is_ok()
 }
 
-/// Does jobs until the script is done, which it answers. Behind each job it rests a little, and for longer while it finds none, so that
-/// the turns are left to the driver: most jobs are short.
+/// Does jobs until the script is done, which it answers. Behind each job it rests a little, and for longer while it finds none; and
+/// where the engine is taken it rests first. So the turns are left to the driver: most jobs are short.
 fn work<R: Wait, G: Gate>(
     rt: &R,
     engine: &Engine<Buck>,
@@ -152,9 +152,11 @@ fn work<R: Wait, G: Gate>(
         if stop.load(Ordering::Acquire) != 0 {
             return true;
         }
-        match engine.work(rt, &mut seat, gate, worker) {
-            Worked::Did => tries = 0,
-            Worked::Idle => tries = tries.saturating_add(1),
+        if !engine.is_taken() {
+            match engine.work(rt, &mut seat, gate, worker) {
+                Worked::Did => tries = 0,
+                Worked::Idle => tries = tries.saturating_add(1),
+            }
         }
         rest(rt, stop, tries);
     }

@@ -21,7 +21,7 @@ module _ {K V : Type 0} where
 module _ {K V : Type 0} (eq : K → K → Bool) (m : Meaning K V) (veq : V → V → Bool) where
   -- the value x of k at v was finished with the trace A, and no other entry changed
   abbrev pub IsFinished : Seen K V → ℕ → K → V → List (Answered K V) → List (K × Stored K V) → List (K × Stored K V) → Type 0
-  IsFinished cells v k x A es fs = (q : K) → entry_at eq fs q ≡ cond (eq k q) (Some (written m veq (entry_at eq es k) (finished m veq (cell_at eq m cells) cells.last (entry_at eq es) v x A))) (entry_at eq es q)
+  IsFinished cells v k x A es fs = (q : K) → entry_at eq fs q ≡ cond (eq k q) (Some (written m veq (entry_at eq es k) (finished m veq (cell_at eq m cells) (entry_at eq es) v x A))) (entry_at eq es q)
 
 module _ {K V : Type 0} (eq : K → K → Bool) (m : Meaning K V) where
   -- the task of k at v, of this name, has ended with x; the tasks that waited for k alone are ready with the answers to their batches, and all other

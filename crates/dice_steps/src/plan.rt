@@ -1,5 +1,5 @@
 //! What a batch comes to that a task asks, prepared before anything is seen of it.
-ghost use Rattle.std.specs.Prelude.{◌≡◌, ◌≢◌, ◌<◌, ◌≤◌, ◌⊎◌, ◌&&◌, ◌||◌, ◌++◌, ◌∷◌, [], ℕ, true, false, Some, length, MatchBool, IfOk, IfSome, IfNone, OnOk};
+ghost use Rattle.std.specs.Prelude.{◌≡◌, ◌≢◌, ◌<◌, ◌≤◌, ◌⊎◌, ◌&&◌, ◌||◌, ◌++◌, ◌∷◌, [], ℕ, true, false, Some, length, map, MatchBool, IfOk, IfSome, IfNone, OnOk};
 ghost use Rattle.std.specs.Arc.{arc_value};
 ghost use Rattle.std.specs.List.{list_any, AllZip};
 ghost use Rattle.std.specs.Option.{option_map};
@@ -122,10 +122,53 @@ fn look_over<U: Universe>(
 ) -> Result<Survey<U>, NoMemory>
     ensures { IfOk result (IsSurvey U.Key.eq U.meaning version born tasks.now graph.now (arc_value own.now) batch.now) }
 {
+    match batch.keys() {
+        [key] => look_at::<U>(alloc, universe, graph, tasks, version, own, key, born),
+        keys => look_over_all::<U>(alloc, universe, graph, tasks, version, own, keys, born),
+    }
+}
+
+/// What one key comes to that is asked alone.
+fn look_at<U: Universe>(
+    alloc: Global,
+    universe: &U,
+    graph: &Graph<U>,
+    tasks: &Tasks<U>,
+    version: u64,
+    own: &KeyRef<U>,
+    key: &KeyRef<U>,
+    born: u64,
+) -> Result<Survey<U>, NoMemory>
+    ensures { IfOk result (IsSurvey U.Key.eq U.meaning version born tasks.now graph.now (arc_value own.now) (arc_value key.now ∷ [])) }
+{
+    let mut parts = Vec::new(alloc);
+    if let Kind::Injected = universe.kind(key) {
+        return Ok(Survey::Parts(parts));
+    }
+    if let Some(path) = circle_at::<U>(alloc, tasks, own, key)? {
+        return Ok(Survey::Circle(path));
+    }
+    let part = part_of::<U>(alloc, graph, tasks, version, key, born)?;
+    parts.push(part)?;
+    Ok(Survey::Parts(parts))
+}
+
+/// What several keys come to, in their order; each is looked at where it stands first.
+fn look_over_all<U: Universe>(
+    alloc: Global,
+    universe: &U,
+    graph: &Graph<U>,
+    tasks: &Tasks<U>,
+    version: u64,
+    own: &KeyRef<U>,
+    keys: &[KeyRef<U>],
+    born: u64,
+) -> Result<Survey<U>, NoMemory>
+    ensures { IfOk result (IsSurvey U.Key.eq U.meaning version born tasks.now graph.now (arc_value own.now) (map arc_value keys.now)) }
+{
     laws_of::<U>();
     let mut seen = HashSet::new(alloc);
     let mut parts = Vec::new(alloc);
-    let keys = batch.keys();
     for key in keys {
         if !is_new::<U>(universe, &mut seen, key)? {
             continue;

@@ -13,9 +13,10 @@ use Rattle.journal.specs.declared.event.Told.{Told}
 use Rattle.journal.specs.declared.event.Told.TheVariants.{Commit, Open, Close, Ask, Leave, Start, Keep, End, Cyclic, Drop, Lost}
 use Rattle.journal.specs.declared.event.Reason.{Reason}
 use Rattle.journal.specs.Events.{names_by, commits_of, is_base}
-use Rattle.versioned_graph.specs.Entries.{Kept, Stored, entry_at, seen_at, joined, written}
+use Rattle.versioned_graph.specs.Entries.{Kept, Stored, entry_at, seen_at, cut_at, joined, written}
 use Rattle.versioned_graph.specs.Sound.{AreTrue}
-use Rattle.versioned_graph.proofs.Longer.{longer}
+use Rattle.versioned_graph.specs.Edges.{IsCut}
+use Rattle.versioned_graph.proofs.CutLemmas.{cut_from, still_there}
 use Rattle.versioned_graph.proofs.Bools.{and_both, or_either}
 use Rattle.dice_tasks.specs.Entries.{LeavesEntries, Backed, EntriesStand}
 
@@ -71,23 +72,30 @@ module _ {K V : Type 0} (eq : K → K → Bool) (m : Meaning K V) where
     pub stand_lost : (v : ℕ) (k : K) → EntriesStand eq m (Lost v k ∷ R) es
     stand_lost v k = stand_alike R (Lost v k ∷ R) es refl (λ b k. refl) h
 
-    -- a commit makes the log longer
-    pub stand_commit : (by : ℕ) (c : List (K × V)) → EntriesStand eq m (Commit by c ∷ R) es
-    stand_commit by c = record {
-      entries_true = longer eq m (commits_of R) (c ∷ []) es h.entries_true;
-      backed = λ k e p. (let from = h.backed k e p in record {
-        finished = from.finished;
-        below = from.below;
-        traced = record {
-          computed = from.traced.computed;
-          goes = goes_stable eq m (commits_of R) (c ∷ []) from.finished (let w = (h.entries_true k e p).0.within in let b = from.below in omega arith) k [] e.trace from.traced.goes;
-          ends = from.traced.ends;
-        };
-        finished_base = from.finished_base;
-        base = from.base;
-      });
-      known = h.known;
+    -- a commit makes the log longer, and cuts entries
+    pub stand_commit : (by v : ℕ) (c : List (K × V)) (changed : List K) (fs : List (K × Stored K V)) → IsCut eq es changed v fs → AreTrue eq m (commits_of R ++ c ∷ []) fs → EntriesStand eq m (Commit by c ∷ R) fs
+    stand_commit by v c changed fs cut true_ones = record {
+      entries_true = true_ones;
+      backed = λ k e p. (let o = cut_from eq es fs changed v cut k e p in
+          elim o.2 as (λ _. Backed eq m (Commit by c ∷ R) k e) [ inl i ↦ subst (Backed eq m (Commit by c ∷ R) k) (sym i) (backed_later k o.0 o.1) | inr i ↦ subst (Backed eq m (Commit by c ∷ R) k) (sym i) (backed_cut k o.0 (backed_later k o.0 o.1)) ]);
+      known = λ k b p. (let o = h.known k b p in still_there eq es fs changed v cut k o.0 o.1);
     }
+      where
+        backed_later : (k : K) (e : Kept K V) → entry_at eq es k ≡ Some e → Backed eq m (Commit by c ∷ R) k e
+        backed_later k e p = let from = h.backed k e p in record {
+          finished = from.finished;
+          below = from.below;
+          traced = record {
+            computed = from.traced.computed;
+            goes = goes_stable eq m (commits_of R) (c ∷ []) from.finished (let w = (h.entries_true k e p).0.within in let b = from.below in omega arith) k [] e.trace from.traced.goes;
+            ends = from.traced.ends;
+          };
+          finished_base = from.finished_base;
+          base = from.base;
+        }
+
+        backed_cut : (k : K) (e : Kept K V) → Backed eq m (Commit by c ∷ R) k e → Backed eq m (Commit by c ∷ R) k (cut_at v e)
+        backed_cut k e from = record { finished = from.finished; below = from.below; traced = from.traced; finished_base = from.finished_base; base = from.base }
 
 module _ {K V : Type 0} (eq : K → K → Bool) (m : Meaning K V) (es : List (K × Stored K V)) where
   -- after an event that commits nothing and decides nothing by a value

@@ -48,7 +48,7 @@ pub(crate) fn seen<U: Universe>(graph: &mut Graph<U>, key: &KeyRef<U>, version: 
 }
 
 /// Keeps the value that a key was decided by at a version, with the trace through which it came there. At an error all is as
-/// before. It costs a look-up for each key of the trace, and the ranges that are joined.
+/// before. It costs what `Graph::finish` does.
 pub fn finish<U: Universe>(
     graph: &mut Graph<U>,
     cells: &Cells<U>,
@@ -58,10 +58,9 @@ pub fn finish<U: Universe>(
     trace: Arc<Trace<U>>,
 ) -> Result<(), NoMemory>
     requires version { version < u64.MAX }
-    requires last { cells.now.last < u64.MAX }
-    ensures entries { OnOk result ((q : U.Key) → entry_at U.Key.eq graph.new q ≡ (if U.Key.eq (arc_value key) q then Some (written U.meaning U.Value.eq (entry_at U.Key.eq graph.old (arc_value key)) (finished U.meaning U.Value.eq (cell_at U.Key.eq U.meaning cells.now) cells.now.last (entry_at U.Key.eq graph.old) version (arc_value value) (arc_value trace))) else entry_at U.Key.eq graph.old q)) }
-    ensures ended { OnOk result ((R : List (Told U.Key U.Value)) → EntriesStand U.Key.eq U.meaning R graph.old → AreOf U.Key.eq (commits_of R) cells.now → cells.now.last ≡ length (commits_of R) → version ≤ length (commits_of R) → IsTrace U.Key.eq U.meaning (commits_of R) version (arc_value key) (arc_value trace) (arc_value value) → EntriesStand U.Key.eq U.meaning (End version (arc_value key) ∷ R) graph.new) }
-    ensures kept { OnOk result ((R : List (Told U.Key U.Value)) (base : ℕ) → EntriesStand U.Key.eq U.meaning R graph.old → AreOf U.Key.eq (commits_of R) cells.now → cells.now.last ≡ length (commits_of R) → version ≤ length (commits_of R) → IsTrace U.Key.eq U.meaning (commits_of R) version (arc_value key) (arc_value trace) (arc_value value) → EntriesStand U.Key.eq U.meaning (Keep version (arc_value key) base ∷ R) graph.new) }
+    ensures entries { OnOk result ((q : U.Key) → entry_at U.Key.eq graph.new q ≡ (if U.Key.eq (arc_value key) q then Some (written U.meaning U.Value.eq (entry_at U.Key.eq graph.old (arc_value key)) (finished U.meaning U.Value.eq (cell_at U.Key.eq U.meaning cells.now) (entry_at U.Key.eq graph.old) version (arc_value value) (arc_value trace))) else entry_at U.Key.eq graph.old q)) }
+    ensures ended { OnOk result ((R : List (Told U.Key U.Value)) → EntriesStand U.Key.eq U.meaning R graph.old → AreOf U.Key.eq (commits_of R) cells.now → version ≤ length (commits_of R) → IsTrace U.Key.eq U.meaning (commits_of R) version (arc_value key) (arc_value trace) (arc_value value) → EntriesStand U.Key.eq U.meaning (End version (arc_value key) ∷ R) graph.new) }
+    ensures kept { OnOk result ((R : List (Told U.Key U.Value)) (base : ℕ) → EntriesStand U.Key.eq U.meaning R graph.old → AreOf U.Key.eq (commits_of R) cells.now → version ≤ length (commits_of R) → IsTrace U.Key.eq U.meaning (commits_of R) version (arc_value key) (arc_value trace) (arc_value value) → EntriesStand U.Key.eq U.meaning (Keep version (arc_value key) base ∷ R) graph.new) }
     ensures err { OnErr result (graph.new ≡ graph.old) }
 {
     laws_of::<U>();

@@ -81,7 +81,9 @@ fn a_seat_sees_what_another_did(rt: HostRuntime) -> Result<(), Fail> {
     assert_eq!(rt; (one.left(), turnstile.newest(&mut zero)), ((1, 0, 0), 1));
     let mut turn = turnstile.enter(&rt, &mut zero);
     let seen = turn.state().entries.first().copied();
+    let taken = turnstile.is_taken();
     turnstile.leave(turn);
+    assert_eq!(rt; (taken, turnstile.is_taken()), (true, false));
     let entry = Entry {
         by: Some(1),
         turn: 7,

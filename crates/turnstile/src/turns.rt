@@ -9,6 +9,7 @@ use crate::table::{RawSeat, Turnstile};
 use crate::tale::Tale;
 use crossbeam_utils::Backoff;
 use std::sync::Wait;
+use std::time::Duration;
 
 const NEXT: usize = 0;
 
@@ -17,6 +18,12 @@ const SERVING: usize = 1;
 pub(crate) const VERSIONS: usize = 2;
 
 const STATE: usize = 0;
+
+/// How often a seat looks whether its ticket is served before it sleeps: for some tens of microseconds, the time of many turns.
+const SPINS: u32 = 16;
+
+/// How long a seat in line sleeps at most between two looks, in milliseconds.
+const NAP: u64 = 1;
 
 impl<S: Tale> Turnstile<S> {
     // Takes a ticket, and answers its word.
@@ -44,7 +51,7 @@ impl<S: Tale> Turnstile<S> {
         self.table.shared.exchange(seat, STATE, None)
     }
 
-    // Waits until the ticket is served: it spins for a short while, and then lets other threads run between two looks.
+    // Waits until the ticket is served: it spins for a short while, and then sleeps from one end of a turn to the next.
     fn wait_turn<R: Wait>(&self, rt: &R, seat: &mut RawSeat<S>, ticket: u64) -> S
         requires own { seat.old.table_id ≡ self.now }
         requires empty_handed { seat.old.me.1 ≡ [] }
@@ -53,13 +60,45 @@ impl<S: Tale> Turnstile<S> {
         ensures taken { Taken S.list S.by S.version seat.old.me seat.new.me result }
     {
         let backoff = Backoff::new();
+        let mut looks = 0u32;
         for _ in rt.forever() {
             if let Some(state) = self.look(seat, ticket) {
                 return state;
             }
-            backoff.snooze();
+            if looks < SPINS {
+                looks += 1;
+                backoff.spin();
+            } else {
+                self.sleep(rt, ticket);
+            }
         }
         unreachable!()
+    }
+
+    // Sleeps until a turn ends, where another ticket than this is served. Who ends a turn wakes those who sleep here. A wake that is
+    // missed costs no more than a nap.
+    fn sleep<R: Wait>(&self, rt: &R, ticket: u64) {
+        let seen = self.table.shared.peek(SERVING);
+        if seen == ticket {
+            return;
+        }
+        let low = (seen % 4_294_967_296) as u32;
+        let nap = Duration::from_millis(NAP);
+        self.table.shared.park_timeout(rt, SERVING, low, nap);
+    }
+
+    // Wakes those who sleep in line, once the turn of this ticket has ended. Where no ticket beyond the next one was drawn, none is
+    // in line, and no call of the system is made.
+    fn wake(&self, ticket: u64) {
+        if self.table.shared.peek(NEXT) != ticket.wrapping_add(1) {
+            self.table.shared.wake_all(SERVING);
+        }
+    }
+
+    /// Whether a seat has a turn or waits for one just now. It is a hint for those who may come later as well: nothing is promised
+    /// of it, and all may be otherwise when it returns.
+    pub fn is_taken(&self) -> bool {
+        self.table.shared.peek(NEXT) != self.table.shared.peek(SERVING)
     }
 
     // Waits for a turn, and takes the state.
@@ -85,7 +124,8 @@ impl<S: Tale> Turnstile<S> {
         let version = state.list_version();
         let none = self.table.shared.exchange(seat, STATE, Some(state));
         let None = none else { unreachable!() };
-        self.table.shared.fetch_add::<Leave>(seat, SERVING, 1);
+        let ticket = self.table.shared.fetch_add::<Leave>(seat, SERVING, 1);
+        self.wake(ticket);
         self.table
             .shared
             .fetch_max::<Raise>(seat, VERSIONS, version);

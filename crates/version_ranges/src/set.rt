@@ -7,7 +7,7 @@ ghost use Rattle.version_ranges.specs.Order.{IsSeparate};
 
 use crate::half_open::Range;
 use crate::memory::NoMemory;
-use crate::merge::{append, intersection_of, union_of};
+use crate::merge::{append, append_common, intersection_of, union_of};
 use crate::search::{cut, is_among};
 use std::alloc::Global;
 use std::marker::Model;
@@ -126,6 +126,21 @@ impl Ranges {
         ensures { IfOk result (λ r. (w : ℕ) → contains r w ≡ (contains self.now w && contains other.now w)) }
     {
         let ranges = intersection_of(*self.ranges.allocator(), &self.ranges, &other.ranges)?;
+        Ok(Ranges { ranges })
+    }
+
+    /// The versions of both sets, in place of this one. Where both are one range it takes no memory.
+    pub fn narrowed(self, other: &Ranges) -> Result<Ranges, NoMemory>
+        ensures { IfOk result (λ r. (w : ℕ) → contains r w ≡ (contains self w && contains other.now w)) }
+    {
+        let mut ranges = self.ranges;
+        if let ([a], [b]) = (ranges.as_slice(), other.ranges.as_slice()) {
+            let (a, b) = (*a, *b);
+            ranges.clear();
+            append_common(&mut ranges, a, b)?;
+        } else {
+            ranges = intersection_of(*ranges.allocator(), &ranges, &other.ranges)?;
+        }
         Ok(Ranges { ranges })
     }
 

@@ -41,6 +41,13 @@ fn ranges_join_where_they_touch_and_are_cut_below_a_version(rt: HostRuntime) -> 
     let mut tail = Ranges::new(alloc);
     tail.insert(3, None)?;
     assert!(rt; lists(&below_five.intersect(&tail)?, &[(3, Some(5))]));
+    assert!(rt; lists(&below_five.try_clone()?.narrowed(&tail)?, &[(3, Some(5))]));
+    assert!(rt;
+        lists(
+            &set.try_clone()?.narrowed(&tail)?,
+            &[(3, Some(5)), (7, None)]
+        )
+    );
     all.close_at(4);
     assert!(rt; lists(&all, &[(1, Some(4))]));
     all.close_at(1);

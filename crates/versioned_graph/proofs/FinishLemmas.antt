@@ -1,18 +1,27 @@
 -- `finish` keeps what is kept.
-use Rattle.std.proofs.Common.{◌≡◌, ◌≤◌, inl, inr, ℕ, Bool, true, false, not, ◌&&◌, ◌||◌, cond, nat_eq, nat_le, List, length, Option, Some, None, refl, sym, ◌∙◌, subst, arith, eqb-true, leb-true}
-use Rattle.std.proofs.lemmas.Bool.{le-leb, eq-eqb}
+use Rattle.std.proofs.Common.{◌≡◌, ◌≢◌, ◌≤◌, ◌<◌, inl, inr, ℕ, suc, Bool, true, false, not, ◌&&◌, ◌||◌, cond, nat_eq, nat_le, List, [], length, Option, Some, None, refl, sym, ap, ◌∙◌, subst, arith, eqb-true}
+use Rattle.std.specs.Prelude.{take}
+use Rattle.std.proofs.lemmas.Bool.{eq-eqb}
 use Rattle.std.proofs.lemmas.Option.{same_Some}
 use Rattle.version_ranges.specs.declared.half_open.Range.{Range}
 use Rattle.version_ranges.specs.Members.{contains}
-use Rattle.dice_key.specs.Meaning.{Meaning, Answered}
-use Rattle.dice_key.specs.Lawful.{IsLawful, AreSame}
+use Rattle.dice_key.specs.Meaning.{Meaning, Answered, Ends}
+use Rattle.dice_key.specs.Lawful.{IsLawful, IsEquality, AreSame}
+use Rattle.dice_key.specs.declared.universe.Kind.{Kind}
+use Rattle.dice_key.specs.declared.universe.Kind.TheVariants.{Injected, Computed, Projection}
+use Rattle.dice_model.specs.Log.{last_value_of}
 use Rattle.dice_model.specs.Eval.{HasValue}
-use Rattle.dice_model.specs.Asks.{IsTrace}
+use Rattle.dice_model.specs.Asks.{IsTrace, Goes, Reaches, here, through}
+use Rattle.dice_model.proofs.EvalLaws.{one_value}
 use Rattle.dice_model.proofs.Traces.{trace_value}
-use Rattle.versioned_graph.specs.Entries.{Kept, Stored, entry_at, all_of, known, marked, joined, finished, written}
-use Rattle.versioned_graph.specs.Sound.{IsTrue, IsClosed, AreTrue, Holds}
-use Rattle.versioned_graph.proofs.Bools.{and_both, or_either, both_and, or_left, or_right, not_true}
-use Rattle.versioned_graph.proofs.MarkLemmas.{marked_true}
+use Rattle.dice_model.proofs.Alike.{same_answers}
+use Rattle.versioned_graph.specs.Entries.{Kept, Stored, entry_at, if_injected, all_of, known_by, known, marked, joined, finished, goes_in, written}
+use Rattle.versioned_graph.specs.Edges.{is_edge, is_asked, Records}
+use Rattle.versioned_graph.specs.Sound.{IsOpenAt, IsTrue, IsRecorded, IsTailed, Edges, AreTrue, Holds}
+use Rattle.versioned_graph.proofs.Asked.{asked_in_trace, is_asked_of}
+use Rattle.versioned_graph.proofs.Bools.{and_both, or_either, both_and, or_left, or_right, not_true, take_beyond, all_map, HasKey, all_at}
+use Rattle.versioned_graph.proofs.MarkLemmas.{marked_true, trace_true}
+use Rattle.versioned_graph.proofs.Tails.{more_edges, written_tailed}
 
 module _ {K V : Type 0} (eq : K → K → Bool) (m : Meaning K V) (law : IsLawful m) (veq : V → V → Bool) (same : AreSame veq) (C : List (List (K × V))) where
   -- the entry that is written is true, where the new one and the one that was there are
@@ -65,39 +74,128 @@ module _ {K V : Type 0} (eq : K → K → Bool) (m : Meaning K V) (law : IsLawfu
       holds = λ w i l. marked_true eq m law veq same C at holds es true_ones v k x A t w (f w i) l;
     }
 
-module _ {K V : Type 0} (eq : K → K → Bool) (m : Meaning K V) (law : IsLawful m) (veq : V → V → Bool) (same : AreSame veq) (C : List (List (K × V))) (at : ℕ → K → V) (holds : Holds eq m C at) (es : List (K × Stored K V)) (true_ones : AreTrue eq m C es)
-    (k : K) (v : ℕ) (x : V) (A : List (Answered K V)) (last : ℕ) (newest : last ≡ length C) (within : v ≤ length C) (trace : IsTrace eq m C v k A x) where
+module _ {K V : Type 0} (eq : K → K → Bool) (m : Meaning K V) (law : IsLawful m) (veq : V → V → Bool) (same : AreSame veq) (C : List (List (K × V))) (at : ℕ → K → V) (holds : Holds eq m C at) (es : K → Option (Kept K V))
+    (true_ones : (k : K) (e : Kept K V) → es k ≡ Some e → IsTrue eq m C k e) (Edge : K → K → Type 0) (tailed_ones : (k : K) (e : Kept K V) → es k ≡ Some e → IsTailed eq m C (length C) Edge k e) where
+  -- what is known above the newest version is known from the newest on
+  known_tail : (v w u : ℕ) → v ≤ length C → length C < w → length C ≤ u → (d : K) (a : V) → known m veq at es v w d a ≡ true → known m veq at es v u d a ≡ true
+  known_tail v w u hv hw hu d a e = by_kinds (m.kind d) e
+    where
+      by_entry : (o : Option (Kept K V)) → es d ≡ o → known_by m veq o v a w ≡ true → known_by m veq o v a u ≡ true
+      by_entry None p q = absurd (let z = eqb-true w v q in omega arith)
+      by_entry (Some f) p q = by_eq (veq f.value a) q
+        where
+          by_eq : (b : Bool) → cond b (f.ranges w) (nat_eq w v) ≡ true → cond b (f.ranges u) (nat_eq u v) ≡ true
+          by_eq true r = (tailed_ones d f p).tail w r hw u hu
+          by_eq false r = absurd (let z = eqb-true w v r in omega arith)
+
+      by_kinds : (kd : Kind) → if_injected kd (veq (at w d) (at v d)) (known_by m veq (es d) v a w) ≡ true → if_injected kd (veq (at u d) (at v d)) (known_by m veq (es d) v a u) ≡ true
+      by_kinds Injected q =
+          let s : take u C ≡ take w C = take_beyond u C hu ∙ sym (take_beyond w C (omega arith)) in
+          let t : at u d ≡ at w d = holds u d ∙ (ap (last_value_of (eq d) (m.absent d)) s ∙ sym (holds w d)) in
+          rw t q
+      by_kinds Computed q = by_entry (es d) refl q
+      by_kinds Projection q = by_entry (es d) refl q
+
+  -- a dependency that is not injected and is known above the newest version has an open entry
+  known_entry : (v w : ℕ) → v ≤ length C → length C < w → (d : K) (a : V) → m.kind d ≢ Injected → known m veq at es v w d a ≡ true → (f : Kept K V) × (es d ≡ Some f) × IsOpenAt (length C) f.ranges
+  known_entry v w hv hw d a c e = by_kinds (m.kind d) refl e
+    where
+      by_entry : (o : Option (Kept K V)) → es d ≡ o → known_by m veq o v a w ≡ true → (f : Kept K V) × (es d ≡ Some f) × IsOpenAt (length C) f.ranges
+      by_entry None p q = absurd (let z = eqb-true w v q in omega arith)
+      by_entry (Some f) p q = by_eq (veq f.value a) q
+        where
+          by_eq : (b : Bool) → cond b (f.ranges w) (nat_eq w v) ≡ true → (f : Kept K V) × (es d ≡ Some f) × IsOpenAt (length C) f.ranges
+          by_eq true r = (f, p, (tailed_ones d f p).tail w r hw)
+          by_eq false r = absurd (let z = eqb-true w v r in omega arith)
+
+      by_kinds : (kd : Kind) → m.kind d ≡ kd → if_injected kd (veq (at w d) (at v d)) (known_by m veq (es d) v a w) ≡ true → (f : Kept K V) × (es d ≡ Some f) × IsOpenAt (length C) f.ranges
+      by_kinds Injected p q = absurd (c p)
+      by_kinds Computed p q = by_entry (es d) refl q
+      by_kinds Projection p q = by_entry (es d) refl q
+
+  above : (v w : ℕ) (x : V) (A : List (Answered K V)) → v ≤ length C → length C < w → marked m veq at es v x A w ≡ true → (m.is_transient x ≡ false) × (all_of (known m veq at es v w) A ≡ true)
+  above v w x A hv hw e = elim (or_either (nat_eq w v) _ e) as (λ _. (m.is_transient x ≡ false) × (all_of (known m veq at es v w) A ≡ true)) [
+    | inl p ↦ absurd (let z = eqb-true w v p in omega arith)
+    | inr q ↦ (let b = and_both (not (m.is_transient x)) (all_of (known m veq at es v w) A) q in (not_true (m.is_transient x) b.0, b.1))
+  ]
+
+  -- the new entry's tail, with its edges recorded
+  new_tailed : (k : K) (v : ℕ) (x : V) (A : List (Answered K V)) → v ≤ length C → IsTrace eq m C v k A x
+      → (More : K → K → Type 0) → ((i j : K) → Edge i j → More i j) → (IsOpenAt (length C) (marked m veq at es v x A) → (j : K) → HasKey A j → More j k)
+      → IsTailed eq m C (length C) More k (finished m veq at es v x A)
+  new_tailed k v x A hv t More more adds = record {
+    tail = λ w h l u i. (let b = above v w x A hv l h in
+        or_right (nat_eq u v) _ (let s : not (m.is_transient x) ≡ true = rw b.0 refl in rw s (all_map (known m veq at es v w) (known m veq at es v u) A (λ d a e. known_tail v w u hv l i d a e) b.1)));
+    recorded = λ o. at_newest o (above v (suc (length C)) x A hv (omega arith) (o (suc (length C)) (omega arith)));
+  }
+    where
+      N : ℕ
+      N = length C
+
+      at_newest : IsOpenAt N (marked m veq at es v x A) → (m.is_transient x ≡ false) × (all_of (known m veq at es v (suc N)) A ≡ true) → (d : K) → Reaches eq m C N k d → m.kind d ≢ Injected → IsRecorded eq m C (length C) More d
+      at_newest o b d r c =
+          let known_now = all_map (known m veq at es v (suc N)) (known m veq at es v N) A (λ d a e. known_tail v (suc N) N hv (omega arith) (omega arith) d a e) b.1 in
+          let now = same_answers eq m law C C v N k A x t.computed t.goes t.ends b.0 (trace_true eq m law veq same C at holds es true_ones v N (omega arith) k [] A t.goes known_now) in
+          by_chain now r c
+        where
+          by_chain : Goes eq m C N k [] A × (m.next k A N ≡ Ends x) × HasValue eq m C N k x → {d : K} → Reaches eq m C N k d → m.kind d ≢ Injected → IsRecorded eq m C (length C) More d
+          by_chain now here c = record {
+            lasts = λ y i. subst (λ z. m.is_transient z ≡ false) (one_value eq m C N k x y now.2 i) b.0;
+            edges = λ j a. adds o j (asked_in_trace eq m C N k j x A now.0 now.1 a);
+          }
+          by_chain now (through {i = i} a q) c = by_kinds (m.kind i) refl q c
+            where
+              of_entry : m.kind i ≢ Injected → {d : K} → Reaches eq m C N i d → m.kind d ≢ Injected → IsRecorded eq m C (length C) More d
+              of_entry ci q c =
+                  let y = all_at (known m veq at es v (suc N)) A i b.1 (asked_in_trace eq m C N k i x A now.0 now.1 a) in
+                  let f = known_entry v (suc N) hv (omega arith) i y.0 ci y.1 in
+                  let g = (tailed_ones i f.0 f.1).recorded f.2 _ q c in
+                  record { lasts = g.lasts; edges = λ j s. more j _ (g.edges j s) }
+
+              of_injected : m.kind i ≡ Injected → {d : K} → Reaches eq m C N i d → m.kind d ≢ Injected → IsRecorded eq m C (length C) More d
+              of_injected p here c = absurd (c p)
+              of_injected p (through a q) c = absurd (a.computed p)
+
+              by_kinds : (kd : Kind) → m.kind i ≡ kd → {d : K} → Reaches eq m C N i d → m.kind d ≢ Injected → IsRecorded eq m C (length C) More d
+              by_kinds Injected p q c = of_injected p q c
+              by_kinds Computed p q c = of_entry (λ h. let z : Computed ≡ Injected = sym p ∙ h in cc) q c
+              by_kinds Projection p q c = of_entry (λ h. let z : Projection ≡ Injected = sym p ∙ h in cc) q c
+
+module _ {K V : Type 0} (eq : K → K → Bool) (equality : IsEquality eq) (m : Meaning K V) (law : IsLawful m) (veq : V → V → Bool) (same : AreSame veq) (C : List (List (K × V))) (at : ℕ → K → V) (holds : Holds eq m C at)
+    (es fs : List (K × Stored K V)) (true_ones : AreTrue eq m C es) (k : K) (v : ℕ) (x : V) (A : List (Answered K V)) (within : v ≤ length C) (trace : IsTrace eq m C v k A x) where
   abbrev pub n : Kept K V
-  n = finished m veq at last (entry_at eq es) v x A
+  n = finished m veq at (entry_at eq es) v x A
 
   finished_true : IsTrue eq m C k n
-  finished_true = new_true eq m law veq same C at holds (entry_at eq es) (λ j e h. (true_ones j e h).0) k v x A (λ w. marked m veq at (entry_at eq es) v x A w && nat_le w last) within trace
-      (λ w h. (and_both (marked m veq at (entry_at eq es) v x A w) (nat_le w last) h).0)
-      (both_and (marked m veq at (entry_at eq es) v x A v) (nat_le v last) (or_left (nat_eq v v) (not (m.is_transient x) && all_of (known m veq at (entry_at eq es) v v) A) (eq-eqb v v refl)) (le-leb v last (omega arith)))
+  finished_true = new_true eq m law veq same C at holds (entry_at eq es) (λ j e h. (true_ones j e h).0) k v x A (marked m veq at (entry_at eq es) v x A) within trace
+      (λ w h. h) (or_left (nat_eq v v) (not (m.is_transient x) && all_of (known m veq at (entry_at eq es) v v) A) (eq-eqb v v refl))
 
-  finished_closed : IsClosed eq m C n
-  finished_closed w h = let l = leb-true w last (and_both (marked m veq at (entry_at eq es) v x A w) (nat_le w last) h).1 in omega arith
+  module _ (records : Records eq m veq k n es fs) where
+    -- no edge is taken away
+    edges_on : (i j : K) → Edges eq m es i j → Edges eq m fs i j
+    edges_on i j h = records.edges i j ∙ or_left (is_edge eq es i j) (eq k j && (goes_in m veq (entry_at eq es k) n && (records.opened && is_asked eq A i))) h
 
-  written_closed : (o : Option (Kept K V)) → ((e : Kept K V) → o ≡ Some e → IsClosed eq m C e) → IsClosed eq m C (written m veq o n)
-  written_closed None p = finished_closed
-  written_closed (Some e) p = by_first (veq e.value x && not (m.is_transient e.value))
-    where
-      by_version : (b : Bool) → IsClosed eq m C (cond b n e)
-      by_version true = finished_closed
-      by_version false = p e refl
+    -- where the new entry goes in and is open, there is an edge from each key of its trace
+    edges_new : goes_in m veq (entry_at eq es k) n ≡ true → IsOpenAt (length C) n.ranges → (j : K) → HasKey A j → Edges eq m fs j k
+    edges_new g o j h =
+        let i : records.opened ≡ true = records.is_open.1 (length C, o) in
+        records.edges j k ∙ or_right (is_edge eq es j k) (eq k k && (goes_in m veq (entry_at eq es k) n && (records.opened && is_asked eq A j)))
+        (both_and (eq k k) _ (equality.itself k) (both_and (goes_in m veq (entry_at eq es k) n) _ g (both_and records.opened (is_asked eq A j) i (is_asked_of eq equality A j h))))
 
-      by_first : (b : Bool) → IsClosed eq m C (cond b (joined m veq e n) (cond (nat_le e.version v) n e))
-      by_first true = λ w h. elim (or_either (e.ranges w) (n.ranges w) h) as (λ _. w ≤ length C) [ inl i ↦ p e refl w i | inr i ↦ finished_closed w i ]
-      by_first false = by_version (nat_le e.version v)
+    finished_tailed : goes_in m veq (entry_at eq es k) n ≡ true → IsTailed eq m C (length C) (Edges eq m fs) k n
+    finished_tailed g = new_tailed eq m law veq same C at holds (entry_at eq es) (λ j e h. (true_ones j e h).0) (Edges eq m es) (λ j e h. (true_ones j e h).1) k v x A within trace (Edges eq m fs) edges_on (edges_new g)
 
-  -- what stands after a finish is true
-  pub finish_true : (e : Kept K V) → Some (written m veq (entry_at eq es k) n) ≡ Some e → IsTrue eq m C k e × IsClosed eq m C e
-  finish_true e h = subst (λ z. IsTrue eq m C k z × IsClosed eq m C z) (same_Some _ _ h) (
-    written_true eq m law veq same C k (entry_at eq es k) n (λ f p. (true_ones k f p).0) finished_true,
-    written_closed (entry_at eq es k) (λ f p. (true_ones k f p).1),
-  )
+    pub others_tailed : (q : K) (e : Kept K V) → entry_at eq es q ≡ Some e → IsTrue eq m C q e × IsTailed eq m C (length C) (Edges eq m fs) q e
+    others_tailed q e h = (let t = true_ones q e h in (t.0, more_edges eq m C (length C) e (Edges eq m es) (Edges eq m fs) q edges_on t.1))
+
+    -- what stands after a finish is true
+    pub finish_true : (e : Kept K V) → Some (written m veq (entry_at eq es k) n) ≡ Some e → IsTrue eq m C k e × IsTailed eq m C (length C) (Edges eq m fs) k e
+    finish_true e h = subst (λ z. IsTrue eq m C k z × IsTailed eq m C (length C) (Edges eq m fs) k z) (same_Some _ _ h) (
+      written_true eq m law veq same C k (entry_at eq es k) n (λ f p. (true_ones k f p).0) finished_true,
+      written_tailed eq m C (length C) veq k (entry_at eq es k) n (Edges eq m fs) (λ f p. (others_tailed k f p).1) finished_tailed,
+    )
 
 -- the entry that is made, as it is stored
-pub made : {K V : Type 0} (m : Meaning K V) (veq : V → V → Bool) (at : ℕ → K → V) (last : ℕ) (es : K → Option (Kept K V)) (v : ℕ) (r : List Range) (x y : V) (A B : List (Answered K V)) → y ≡ x → B ≡ A
-    → ((w : ℕ) → contains r w ≡ (marked m veq at es v y B w && nat_le w last)) → ◌≡◌ {A = Kept K V} (record { value = x; trace = A; ranges = contains r; version = v }) (finished m veq at last es v x A)
-made {K} {V} m veq at last es v r x y A B p q h = λ i. record { value = x; trace = A; ranges = λ w. (h w ∙ (λ j. marked m veq at es v (p j) (q j) w && nat_le w last)) i; version = v }
+pub made : {K V : Type 0} (m : Meaning K V) (veq : V → V → Bool) (at : ℕ → K → V) (es : K → Option (Kept K V)) (v : ℕ) (r : List Range) (x y : V) (A B : List (Answered K V)) → y ≡ x → B ≡ A
+    → ((w : ℕ) → contains r w ≡ marked m veq at es v y B w) → ◌≡◌ {A = Kept K V} (record { value = x; trace = A; ranges = contains r; version = v }) (finished m veq at es v x A)
+made {K} {V} m veq at es v r x y A B p q h = λ i. record { value = x; trace = A; ranges = λ w. (h w ∙ (λ j. marked m veq at es v (p j) (q j) w)) i; version = v }

@@ -1,12 +1,17 @@
 -- The entries, read through the map that holds them.
-use Rattle.std.proofs.Common.{◌≡◌, Bool, true, false, cond, List, [], ◌∷◌, map, Option, Some, None, refl, ap, sym, ◌∙◌}
+use Rattle.std.proofs.Common.{◌≡◌, ◌<◌, ◌||◌, ◌&&◌, ℕ, nat_le, leb-true, arith, Bool, true, false, cond, List, [], ◌∷◌, map, Option, Some, None, refl, ap, sym, ◌∙◌}
 use Rattle.std.specs.Map.{lookup}
 use Rattle.std.specs.Arc.{arc_value, arc_with_value}
 use Rattle.std.specs.Borrow.{Bor}
 use Rattle.std.specs.Option.{option_map, option_copied}
 use Rattle.std.specs.declared.sync.Arc.{Arc}
 use Rattle.dice_key.specs.Lawful.{AreSame}
-use Rattle.versioned_graph.specs.Entries.{Stored, kept_of, named, entry_at}
+use Rattle.std.specs.List.{list_any}
+use Rattle.dice_key.specs.Meaning.{Meaning, Answered}
+use Rattle.version_ranges.specs.declared.half_open.Range.{Range}
+use Rattle.version_ranges.specs.Members.{contains}
+use Rattle.versioned_graph.specs.Entries.{Stored, Kept, kept_of, named, joined, entry_at}
+use Rattle.versioned_graph.specs.Edges.{deps_of, is_edge}
 
 pub cond_map : {A B : Type 0} (f : A → B) (b : Bool) (x : A) (o : Option A) → cond b (Some (f x)) (option_map f o) ≡ option_map f (cond b (Some x) o)
 cond_map f true x o = refl
@@ -35,10 +40,59 @@ module _ {K V A : Type 0} (eq : K → K → Bool) where
       ∙ (sym (cond_map kept_of (eq k q) f (lookup (λ y. eq q (arc_value y)) es))
       ∙ ap (cond (eq k q) (Some (kept_of f))) (sym (entry-named q es))))
 
+  -- the edges that are recorded with the entry of a key
+  pub edge-named : (j k : K) (es : List (Arc K A × Stored K V)) → is_edge eq (map named es) j k ≡ deps_of eq (lookup (λ a. eq k (arc_value a)) es) j
+  edge-named j k es = ap (λ o. deps_of eq o j) (lookup-named k es)
+
+  -- one entry is written
+  pub edge-put : (k : K) (a : Arc K A) (es fs : List (Arc K A × Stored K V)) (f : Stored K V)
+      → ((q : Arc K A) → lookup (λ y. eq (arc_value q) (arc_value y)) fs ≡ cond (eq k (arc_value q)) (Some f) (lookup (λ y. eq (arc_value q) (arc_value y)) es))
+      → (j q : K) → is_edge eq (map named fs) j q ≡ cond (eq k q) (list_any (eq j) f.deps) (is_edge eq (map named es) j q)
+  edge-put k a es fs f up j q =
+      edge-named j q fs
+      ∙ (ap (λ o. deps_of eq o j) (up (arc_with_value a q))
+      ∙ (by_test (eq k q) (lookup (λ y. eq q (arc_value y)) es)
+      ∙ ap (cond (eq k q) (list_any (eq j) f.deps)) (sym (edge-named j q es))))
+    where
+      by_test : (b : Bool) (o : Option (Stored K V)) → deps_of eq (cond b (Some f) o) j ≡ cond b (list_any (eq j) f.deps) (deps_of eq o j)
+      by_test true o = refl
+      by_test false o = refl
+
 -- what is at a key is at each key that equals it
-pub at_same : {K X : Type 0} (eq : K → K → Bool) (same : AreSame eq) (f : K → Option X) (k q : K) (o : Option X) → f k ≡ o → f q ≡ cond (eq k q) o (f q)
+pub at_same : {K X : Type 0} (eq : K → K → Bool) (same : AreSame eq) (f : K → X) (k q : K) (o : X) → f k ≡ o → f q ≡ cond (eq k q) o (f q)
 at_same eq same f k q o h = by_test (eq k q) refl
   where
     by_test : (b : Bool) → eq k q ≡ b → f q ≡ cond b o (f q)
     by_test true e = ap f (sym (same k q e)) ∙ h
     by_test false e = refl
+
+-- what is read at k is read at q, where one entry is written that has what was there and more
+pub put-edge : {K : Type 0} (eq : K → K → Bool) (same : AreSame eq) (f : K → Bool) (k q : K) (g u x : Bool) → g ≡ true → x ≡ (f k || u) → cond (eq k q) x (f q) ≡ (f q || (eq k q && (g && u)))
+put-edge eq same f k q g u x e h = by_test (eq k q) refl
+  where
+    none : (a : Bool) → a ≡ (a || false)
+    none true = refl
+    none false = refl
+
+    by_test : (b : Bool) → eq k q ≡ b → cond b x (f q) ≡ (f q || (b && (g && u)))
+    by_test true p = h ∙ (ap (λ j. f j || u) (same k q p) ∙ ap (λ a. f q || (a && u)) (sym e))
+    by_test false p = none (f q)
+
+-- nothing goes in
+pub put-none : (a b g u : Bool) → g ≡ false → a ≡ (a || (b && (g && u)))
+put-none true b g u e = refl
+put-none false true g u e = sym (ap (λ a. a && u) e)
+put-none false false g u e = refl
+
+-- the entry that is joined from two, as it is stored
+pub joined_made : {K V : Type 0} (m : Meaning K V) (veq : V → V → Bool) (e n : Stored K V) (x : V) (t : List (Answered K V)) (r : List Range) (w : ℕ) (b : Bool) → nat_le e.version n.version ≡ b → x ≡ e.value → t ≡ cond b n.trace e.trace
+    → ((u : ℕ) → contains r u ≡ (contains e.ranges u || contains n.ranges u)) → w ≡ cond b n.version e.version
+    → ◌≡◌ {A = Kept K V} (record { value = x; trace = t; ranges = contains r; version = w }) (joined m veq (kept_of e) (kept_of n))
+joined_made m veq e n x t r w b h p q u s = λ i. record { value = p i; trace = (q ∙ (λ j. cond (sym h j) n.trace e.trace)) i; ranges = λ z. u z i; version = (s ∙ (λ j. cond (sym h j) n.version e.version)) i }
+
+pub not_le : (a b : ℕ) → b < a → nat_le a b ≡ false
+not_le a b h = by_test (nat_le a b) refl
+  where
+    by_test : (r : Bool) → nat_le a b ≡ r → nat_le a b ≡ false
+    by_test true e = absurd (let l = leb-true a b e in omega arith)
+    by_test false e = e

@@ -1,5 +1,5 @@
 -- What the graph keeps of a key, and what a finish makes of it.
-use Rattle.std.specs.Prelude.{ℕ, Bool, true, false, cond, not, ◌&&◌, ◌||◌, nat_eq, nat_le, max, List, [], ◌∷◌, Option, Some, None}
+use Rattle.std.specs.Prelude.{ℕ, Bool, true, false, cond, not, ◌&&◌, ◌||◌, nat_eq, nat_le, nat_lt, max, List, [], ◌∷◌, Option, Some, None}
 use Rattle.std.specs.Map.{lookup}
 use Rattle.std.specs.Arc.{arc_value}
 use Rattle.std.specs.declared.sync.Arc.{Arc}
@@ -10,12 +10,13 @@ use Rattle.dice_key.specs.declared.universe.Kind.TheVariants.{Injected, Computed
 use Rattle.version_ranges.specs.declared.half_open.Range.{Range}
 use Rattle.version_ranges.specs.Members.{contains}
 
--- an entry as it is stored
+-- an entry as it is stored; with the keys from which an edge to its key is recorded
 pub record Stored (K V : Type 0) : Type 0 where
   pub value : V
   pub trace : List (Answered K V)
   pub ranges : List Range
   pub version : ℕ
+  pub deps : List K
 
 -- an entry as it is spoken of: its ranges are the test whether a version is in them
 pub record Kept (K V : Type 0) : Type 0 where
@@ -38,6 +39,10 @@ entry_at eq es k = option_map kept_of (lookup (eq k) es)
 -- an entry that was seen at a version
 abbrev pub seen_at : {K V : Type 0} → ℕ → Kept K V → Kept K V
 seen_at v e = record { value = e.value; trace = e.trace; ranges = e.ranges; version = max e.version v }
+
+-- an entry whose tail was cut: of its ranges the versions below v are left
+abbrev pub cut_at : {K V : Type 0} → ℕ → Kept K V → Kept K V
+cut_at v e = record { value = e.value; trace = e.trace; ranges = λ w. e.ranges w && nat_lt w v; version = e.version }
 
 abbrev pub if_injected : {X : Type 0} → Kind → X → X → X
 if_injected Injected a b = a
@@ -72,9 +77,9 @@ module _ {K V : Type 0} (m : Meaning K V) (veq : V → V → Bool) where
   abbrev pub marked : (ℕ → K → V) → (K → Option (Kept K V)) → ℕ → V → List (Answered K V) → ℕ → Bool
   marked at es v x A w = nat_eq w v || (not (m.is_transient x) && all_of (known at es v w) A)
 
-  -- the entry that a finish at v with value x and trace A makes, where `last` is the newest version
-  abbrev pub finished : (ℕ → K → V) → ℕ → (K → Option (Kept K V)) → ℕ → V → List (Answered K V) → Kept K V
-  finished at last es v x A = record { value = x; trace = A; ranges = λ w. marked at es v x A w && nat_le w last; version = v }
+  -- the entry that a finish at v with value x and trace A makes
+  abbrev pub finished : (ℕ → K → V) → (K → Option (Kept K V)) → ℕ → V → List (Answered K V) → Kept K V
+  finished at es v x A = record { value = x; trace = A; ranges = marked at es v x A; version = v }
 
   -- an entry with the ranges of a new one of the same value, and with its trace and version where they are not older
   abbrev pub joined : Kept K V → Kept K V → Kept K V
@@ -90,3 +95,8 @@ module _ {K V : Type 0} (m : Meaning K V) (veq : V → V → Bool) where
   abbrev pub written : Option (Kept K V) → Kept K V → Kept K V
   written None n = n
   written (Some e) n = cond (veq e.value n.value && not (m.is_transient e.value)) (joined e n) (cond (nat_le e.version n.version) n e)
+
+  -- whether what a finish made goes into the entry: over none, joined with it, or in its place
+  abbrev pub goes_in : Option (Kept K V) → Kept K V → Bool
+  goes_in None n = true
+  goes_in (Some e) n = (veq e.value n.value && not (m.is_transient e.value)) || nat_le e.version n.version

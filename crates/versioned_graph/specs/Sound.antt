@@ -1,10 +1,16 @@
 -- What is kept true of the entries, over the log whose inputs the cells hold.
-use Rattle.std.specs.Prelude.{◌≡◌, ◌≤◌, ℕ, Bool, true, List, length, Some}
+use Rattle.std.specs.Prelude.{◌≡◌, ◌≢◌, ◌≤◌, ◌<◌, ℕ, Bool, true, false, List, length, Some}
 use Rattle.dice_key.specs.Meaning.{Meaning}
+use Rattle.dice_key.specs.declared.universe.Kind.TheVariants.{Injected}
 use Rattle.dice_model.specs.Log.{input}
 use Rattle.dice_model.specs.Eval.{HasValue}
-use Rattle.dice_model.specs.Asks.{IsTrace}
+use Rattle.dice_model.specs.Asks.{IsTrace, AsksFor, Reaches}
 use Rattle.versioned_graph.specs.Entries.{Kept, Stored, entry_at}
+use Rattle.versioned_graph.specs.Edges.{is_edge}
+
+-- the test holds at v and at all versions above
+abbrev pub IsOpenAt : ℕ → (ℕ → Bool) → Type 0
+IsOpenAt v r = (w : ℕ) → v ≤ w → r w ≡ true
 
 module _ {K V : Type 0} (eq : K → K → Bool) (m : Meaning K V) where
   -- of an entry of k: its value is that of k at each version of its ranges up to the newest; its trace is that of the version
@@ -20,13 +26,24 @@ module _ {K V : Type 0} (eq : K → K → Bool) (m : Meaning K V) where
     pub single : m.is_transient e.value ≡ true → (w : ℕ) → e.ranges w ≡ true → w ≡ e.version
     pub holds : (w : ℕ) → e.ranges w ≡ true → w ≤ length C → HasValue eq m C w k e.value
 
-  -- its ranges have no version above the newest
-  abbrev pub IsClosed : List (List (K × V)) → Kept K V → Type 0
-  IsClosed C e = (w : ℕ) → e.ranges w ≡ true → w ≤ length C
+  -- the edges to d from what it asks at v are there, and its value there lasts
+  pub record IsRecorded (C : List (List (K × V))) (v : ℕ) (Edge : K → K → Type 0) (d : K) : Type 0 where
+    pub lasts : (x : V) → HasValue eq m C v d x → m.is_transient x ≡ false
+    pub edges : (j : K) → AsksFor eq m C v d j → Edge j d
+
+  -- of an entry of k, where v is the newest version: its ranges have a version above the newest only where they have the newest and
+  -- all above it; and then all that k reaches at the newest is recorded
+  pub record IsTailed (C : List (List (K × V))) (v : ℕ) (Edge : K → K → Type 0) (k : K) (e : Kept K V) : Type 0 where
+    pub tail : (w : ℕ) → e.ranges w ≡ true → v < w → IsOpenAt v e.ranges
+    pub recorded : IsOpenAt v e.ranges → (d : K) → Reaches eq m C v k d → m.kind d ≢ Injected → IsRecorded C v Edge d
+
+  -- an edge is recorded with these entries
+  abbrev pub Edges : List (K × Stored K V) → K → K → Type 0
+  Edges es j k = is_edge eq es j k ≡ true
 
   -- so is each entry
   abbrev pub AreTrue : List (List (K × V)) → List (K × Stored K V) → Type 0
-  AreTrue C es = (k : K) (e : Kept K V) → entry_at eq es k ≡ Some e → IsTrue C k e × IsClosed C e
+  AreTrue C es = (k : K) (e : Kept K V) → entry_at eq es k ≡ Some e → IsTrue C k e × IsTailed C (length C) (Edges es) k e
 
   -- at each version the inputs are those of the log; above the newest, those of the newest
   abbrev pub Holds : List (List (K × V)) → (ℕ → K → V) → Type 0

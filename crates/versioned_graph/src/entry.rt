@@ -1,33 +1,39 @@
 //! What is kept of a key.
-ghost use Rattle.std.specs.Prelude.{◌≡◌, ℕ, Bool, true, false, ◌&&◌, not, IfOk, Some, unwrap_or};
+ghost use Rattle.std.specs.Prelude.{◌≡◌, ℕ, Bool, true, false, ◌&&◌, ◌||◌, [], map, not, IfOk, MatchOption, Some, unwrap_or};
+ghost use Rattle.std.specs.Arc.{arc_value};
+ghost use Rattle.std.specs.List.{list_any};
 ghost use Rattle.std.specs.Option.{option_map};
-ghost use Rattle.versioned_graph.specs.Entries.{Stored, Kept, kept_of, joined, seen_at, written};
+ghost use Rattle.version_ranges.specs.Members.{contains};
+ghost use Rattle.versioned_graph.specs.Entries.{Stored, Kept, kept_of, joined, seen_at, cut_at, goes_in, written};
 ghost use Rattle.versioned_graph.specs.Looks.{look_of, look};
 
 use crate::found::{Found, Why};
 use dep_recorder::Trace;
 use dice_key::{NoMemory, Universe, laws_of};
+use std::collections::HashSet;
 use std::marker::Model;
 use std::sync::Arc;
 use version_ranges::Ranges;
 
 /// A value that was finished, the trace of its finish, the versions at which it is known to hold, and the greatest version at
-/// which it was finished or seen.
+/// which it was finished or seen; and the keys from which an edge to its key is recorded.
 #[derive(Drop)]
 pub(crate) struct Entry<U: Universe> {
     pub(crate) value: Arc<U::Value>,
     pub(crate) trace: Arc<Trace<U>>,
     pub(crate) ranges: Ranges,
     pub(crate) version: u64,
+    pub(crate) deps: HashSet<Arc<U::Key>>,
 }
 
 impl<U: Universe> Model for Entry<U> {
+    ghost use Rattle.std.specs.Prelude.{map};
     ghost use Rattle.std.specs.Arc.{arc_value};
     ghost use Rattle.versioned_graph.specs.Entries.{Stored};
 
     ghost Value = { Stored U.Key U.Value };
 
-    ghost view = { λ e. record { value = arc_value e.value; trace = arc_value e.trace; ranges = e.ranges; version = e.version } };
+    ghost view = { λ e. record { value = arc_value e.value; trace = arc_value e.trace; ranges = e.ranges; version = e.version; deps = map arc_value e.deps.keys } };
 }
 
 impl<U: Universe> Entry<U> {
@@ -46,16 +52,42 @@ impl<U: Universe> Entry<U> {
 
     /// Notes that the entry was seen at a version.
     pub(crate) fn see(&mut self, version: u64)
-        ensures { kept_of self.new ≡ seen_at version (kept_of self.old) }
+        ensures kept { kept_of self.new ≡ seen_at version (kept_of self.old) }
+        ensures deps { self.new.deps ≡ self.old.deps }
     {
         self.version = self.version.max(version);
     }
 
+    /// Cuts the tail at a version, and takes away the edges to the key. It takes no memory.
+    pub(crate) fn cut(&mut self, version: u64)
+        ensures kept { kept_of self.new ≡ cut_at version (kept_of self.old) }
+        ensures deps { self.new.deps ≡ [] }
+    {
+        self.ranges.close_at(version);
+        self.deps.clear();
+    }
+
+    /// The same, with the edges of an earlier entry too.
+    fn with_edges_of(self, earlier: &Entry<U>) -> Result<Entry<U>, NoMemory>
+        ensures kept { IfOk result (λ e. kept_of e ≡ kept_of self) }
+        ensures deps { IfOk result (λ e. (j : U.Key) → list_any (U.Key.eq j) e.deps ≡ (list_any (U.Key.eq j) earlier.now.deps || list_any (U.Key.eq j) self.deps)) }
+    {
+        let deps = united::<U>(self.deps, &earlier.deps)?;
+        Ok(Entry {
+            value: self.value,
+            trace: self.trace,
+            ranges: self.ranges,
+            version: self.version,
+            deps,
+        })
+    }
+
     /// The entry that stands for this one and one of the same value: with the ranges of both, and the trace of the later one.
     pub(crate) fn joined(&self, next: Entry<U>) -> Result<Entry<U>, NoMemory>
-        ensures { IfOk result (λ e. kept_of e ≡ joined U.meaning U.Value.eq (kept_of self.now) (kept_of next)) }
+        ensures kept { IfOk result (λ e. kept_of e ≡ joined U.meaning U.Value.eq (kept_of self.now) (kept_of next)) }
+        ensures deps { IfOk result (λ e. e.deps ≡ next.deps) }
     {
-        let ranges = self.ranges.union(&next.ranges).map_err(|_| NoMemory)?;
+        let ranges = either(&self.ranges, &next.ranges)?;
         let value = Arc::try_clone(&self.value)?;
         if self.version <= next.version {
             return Ok(Entry {
@@ -63,6 +95,7 @@ impl<U: Universe> Entry<U> {
                 trace: next.trace,
                 ranges,
                 version: next.version,
+                deps: next.deps,
             });
         }
         Ok(Entry {
@@ -70,19 +103,44 @@ impl<U: Universe> Entry<U> {
             trace: Arc::try_clone(&self.trace)?,
             ranges,
             version: self.version,
+            deps: next.deps,
         })
     }
 
     /// The entry that stands after a finish has made `next`; `None` where this one stays as it is.
     pub(crate) fn after(&self, universe: &U, next: Entry<U>) -> Result<Option<Entry<U>>, NoMemory>
-        ensures { IfOk result (λ o. unwrap_or (option_map kept_of o) (kept_of self.now) ≡ written U.meaning U.Value.eq (Some (kept_of self.now)) (kept_of next)) }
+        ensures kept { IfOk result (λ o. unwrap_or (option_map kept_of o) (kept_of self.now) ≡ written U.meaning U.Value.eq (Some (kept_of self.now)) (kept_of next)) }
+        ensures deps { IfOk result (λ o. MatchOption o (goes_in U.meaning U.Value.eq (Some (kept_of self.now)) (kept_of next) ≡ false) (λ e. (goes_in U.meaning U.Value.eq (Some (kept_of self.now)) (kept_of next) ≡ true) × ((j : U.Key) → list_any (U.Key.eq j) e.deps ≡ (list_any (U.Key.eq j) self.now.deps || list_any (U.Key.eq j) next.deps)))) }
     {
         if *self.value == *next.value && !universe.is_transient(&self.value) {
+            let next = next.with_edges_of(self)?;
             return Ok(Some(self.joined(next)?));
         }
         if self.version <= next.version {
-            return Ok(Some(next));
+            return Ok(Some(next.with_edges_of(self)?));
         }
         Ok(None)
     }
+}
+
+/// The keys of both sets.
+fn united<U: Universe>(
+    keys: HashSet<Arc<U::Key>>,
+    others: &HashSet<Arc<U::Key>>,
+) -> Result<HashSet<Arc<U::Key>>, NoMemory>
+    ensures { IfOk result (λ s. (q : U.Key) → list_any (λ a. U.Key.eq q (arc_value a)) s.keys ≡ (list_any (λ a. U.Key.eq q (arc_value a)) others.now.keys || list_any (λ a. U.Key.eq q (arc_value a)) keys.keys)) }
+{
+    laws_of::<U>();
+    let mut united = keys;
+    for key in others.iter() {
+        united.insert(Arc::try_clone(key)?)?;
+    }
+    Ok(united)
+}
+
+/// The versions of either set.
+fn either(a: &Ranges, b: &Ranges) -> Result<Ranges, NoMemory>
+    ensures { IfOk result (λ r. (w : ℕ) → contains r w ≡ (contains a.now w || contains b.now w)) }
+{
+    a.union(b).map_err(|_| NoMemory)
 }

@@ -1,46 +1,57 @@
-//! Finishing a key.
-ghost use Rattle.std.specs.Prelude.{◌≡◌, ◌<◌, ◌≤◌, ℕ, List, length, OnOk, OnErr, if◌then◌else◌, Some};
+//! Recording the edges of a finish.
+ghost use Rattle.std.specs.Prelude.{◌≡◌, ◌&&◌, true, IfOk};
 ghost use Rattle.std.specs.Arc.{arc_value};
-ghost use Rattle.injected.specs.Seen.{cell_at};
-ghost use Rattle.dice_model.specs.Asks.{IsTrace};
-ghost use Rattle.versioned_graph.specs.Entries.{entry_at, finished, written};
-ghost use Rattle.versioned_graph.specs.Sound.{AreTrue, Holds};
+ghost use Rattle.std.specs.List.{list_any};
+ghost use Rattle.dice_model.specs.Log.{Has};
+ghost use Rattle.version_ranges.specs.Members.{is_open};
+ghost use Rattle.versioned_graph.specs.Edges.{is_asked};
+ghost use Rattle.versioned_graph.specs.Users.{users_of};
 
-use crate::entry::Entry;
-use crate::graph::Graph;
+use crate::users::Users;
 use dep_recorder::Trace;
 use dice_key::{NoMemory, Universe, laws_of};
-use injected::Cells;
+use std::alloc::Global;
+use std::collections::HashSet;
 use std::sync::Arc;
+use version_ranges::Ranges;
 
-impl<U: Universe> Graph<U> {
-    /// Keeps the value of a key at a version, by the trace through which it came there, with the other versions at which the
-    /// value is then known. At an error all is as before.
-    ///
-    /// It costs a look-up for each key of the trace, and the ranges that are joined.
-    pub fn finish(
-        &mut self,
-        cells: &Cells<U>,
-        key: Arc<U::Key>,
-        version: u64,
-        value: Arc<U::Value>,
-        trace: Arc<Trace<U>>,
-    ) -> Result<(), NoMemory>
-        requires version { version < u64.MAX }
-        requires last { cells.now.last < u64.MAX }
-        ensures ok { OnOk result ((q : U.Key) → entry_at U.Key.eq self.new q ≡ (if U.Key.eq (arc_value key) q then Some (written U.meaning U.Value.eq (entry_at U.Key.eq self.old (arc_value key)) (finished U.meaning U.Value.eq (cell_at U.Key.eq U.meaning cells.now) cells.now.last (entry_at U.Key.eq self.old) version (arc_value value) (arc_value trace))) else entry_at U.Key.eq self.old q)) }
-        ensures kept { OnOk result ((C : List (List (U.Key × U.Value))) → Holds U.Key.eq U.meaning C (cell_at U.Key.eq U.meaning cells.now) → cells.now.last ≡ length C → version ≤ length C → IsTrace U.Key.eq U.meaning C version (arc_value key) (arc_value trace) (arc_value value) → AreTrue U.Key.eq U.meaning C self.old → AreTrue U.Key.eq U.meaning C self.new) }
-        ensures err { OnErr result (self.new ≡ self.old) }
-    {
-        laws_of::<U>();
-        let ranges = self.marked(cells, version, &value, &trace)?;
-        let entry = Entry {
-            value,
-            trace,
-            ranges,
-            version,
-        };
-        self.put(key, entry)?;
-        Ok(())
+/// Where these ranges have no end, the keys of a trace, of each of which the key is a user then; else none.
+pub(crate) fn link_open<U: Universe>(
+    alloc: Global,
+    ranges: &Ranges,
+    users: &mut Users<U>,
+    key: &Arc<U::Key>,
+    trace: &Trace<U>,
+) -> Result<HashSet<Arc<U::Key>>, NoMemory>
+    ensures keys { IfOk result (λ s. (q : U.Key) → list_any (λ a. U.Key.eq q (arc_value a)) s.keys ≡ (is_open ranges.now && is_asked U.Key.eq trace.now q)) }
+    ensures there { IfOk result (λ s. (j : U.Key) → list_any (λ a. U.Key.eq j (arc_value a)) s.keys ≡ true → Has (users_of U.Key.eq users.new j) (arc_value key.now)) }
+    ensures stay { (j : U.Key) (q : U.Key) → Has (users_of U.Key.eq users.old j) q → Has (users_of U.Key.eq users.new j) q }
+{
+    if ranges.is_open() {
+        link(alloc, users, key, trace)
+    } else {
+        Ok(HashSet::new(alloc))
     }
+}
+
+/// The keys of a trace, of each of which the key is a user then.
+fn link<U: Universe>(
+    alloc: Global,
+    users: &mut Users<U>,
+    key: &Arc<U::Key>,
+    trace: &Trace<U>,
+) -> Result<HashSet<Arc<U::Key>>, NoMemory>
+    ensures keys { IfOk result (λ s. (q : U.Key) → list_any (λ a. U.Key.eq q (arc_value a)) s.keys ≡ is_asked U.Key.eq trace.now q) }
+    ensures there { IfOk result (λ s. (j : U.Key) → list_any (λ a. U.Key.eq j (arc_value a)) s.keys ≡ true → Has (users_of U.Key.eq users.new j) (arc_value key.now)) }
+    ensures stay { (j : U.Key) (q : U.Key) → Has (users_of U.Key.eq users.old j) q → Has (users_of U.Key.eq users.new j) q }
+{
+    laws_of::<U>();
+    let mut deps = HashSet::new(alloc);
+    for i in 0..trace.len() {
+        for (dep, _) in trace.batch(i) {
+            deps.insert(Arc::try_clone(dep)?)?;
+            users.add(dep, key)?;
+        }
+    }
+    Ok(deps)
 }

@@ -1,37 +1,55 @@
 //! The graph.
-ghost use Rattle.std.specs.Prelude.{◌≡◌, ◌≤◌, ◌++◌, ◌∷◌, ℕ, List, [], length, map, OnOk, OnErr, if◌then◌else◌, Some, true, IfOk, MatchOption};
+ghost use Rattle.std.specs.Prelude.{◌≡◌, ◌<◌, ◌≤◌, ◌++◌, ◌∷◌, ℕ, List, [], length, map, suc, OnOk, OnErr, if◌then◌else◌, Some, true};
 ghost use Rattle.std.specs.Arc.{arc_value};
+ghost use Rattle.std.specs.Map.{keys_of};
 ghost use Rattle.std.specs.Option.{option_map};
+ghost use Rattle.injected.specs.Seen.{cell_at};
+ghost use Rattle.dice_model.specs.Asks.{IsTrace};
 ghost use Rattle.dice_model.specs.Eval.{HasValue};
-ghost use Rattle.versioned_graph.specs.Entries.{Kept, entry_at, kept_of, seen_at, written};
+ghost use Rattle.dice_model.specs.Log.{Has};
+ghost use Rattle.versioned_graph.specs.Edges.{Records, IsCut, is_edge};
+ghost use Rattle.versioned_graph.specs.Entries.{Kept, entry_at, finished, seen_at, written};
 ghost use Rattle.versioned_graph.specs.Looks.{look_of, look, Matches};
-ghost use Rattle.versioned_graph.specs.Sound.{AreTrue};
+ghost use Rattle.versioned_graph.specs.Sound.{AreTrue, Holds};
 
+use crate::cut::{cut_all, forget_all};
 use crate::entry::Entry;
-use crate::found::{Found, Why};
+use crate::finish::link_open;
+use crate::found::Found;
+use crate::reach::reached;
+use crate::store::Store;
+use crate::users::Users;
+use dep_recorder::Trace;
 use dice_key::{NoMemory, Universe, laws_of};
+use injected::Cells;
 use std::alloc::Global;
-use std::collections::HashMap;
 use std::marker::Model;
 use std::sync::Arc;
+use version_ranges::open_has_a_tail;
 
-/// The values that were finished, at most one a key, each with the versions at which it is known to hold.
+/// The values that were finished, at most one a key, each with the versions at which it is known to hold; and the edges that were
+/// recorded, from keys to those whose values were computed from them.
 ///
-/// Contracts see the entries as a list, in an order that means nothing; `entry_at` is the entry of a key.
+/// Ranges without an end say that the value holds at the newest version, and at each later one until a commit cuts them.
+///
+/// Contracts see the entries as a list, in an order that means nothing; `entry_at` is the entry of a key, `is_edge` tells the edges.
 #[derive(Drop)]
 pub struct Graph<U: Universe> {
-    pub(crate) alloc: Global,
-    pub(crate) universe: Arc<U>,
-    entries: HashMap<Arc<U::Key>, Entry<U>>,
+    alloc: Global,
+    store: Store<U>,
+    users: Users<U>,
 }
 
 impl<U: Universe> Model for Graph<U> {
-    ghost use Rattle.std.specs.Prelude.{List, map};
-    ghost use Rattle.versioned_graph.specs.Entries.{Stored, named};
+    ghost use Rattle.std.specs.Prelude.{List};
+    ghost use Rattle.versioned_graph.specs.Entries.{Stored};
+    ghost use Rattle.versioned_graph.specs.Users.{IsIndexed};
 
     ghost Value = { List (U.Key × Stored U.Key U.Value) };
 
-    ghost view = { λ g. map named g.entries.entries };
+    ghost view = { λ g. g.store };
+
+    ghost invariant = { λ g. IsIndexed U.Key.eq g.store g.users };
 }
 
 impl<U: Universe> Graph<U> {
@@ -41,16 +59,9 @@ impl<U: Universe> Graph<U> {
     {
         Graph {
             alloc,
-            universe,
-            entries: HashMap::new(alloc),
+            store: Store::new(alloc, universe),
+            users: Users::new(alloc),
         }
-    }
-
-    /// The entry of a key.
-    pub(crate) fn entry(&self, key: &Arc<U::Key>) -> Option<&Entry<U>>
-        ensures { option_map (λ e. kept_of e.now) result ≡ entry_at U.Key.eq self.now (arc_value key.now) }
-    {
-        self.entries.get(key)
     }
 
     /// What is known of a key at a version. It takes no memory, and costs one look-up and one binary search.
@@ -58,54 +69,67 @@ impl<U: Universe> Graph<U> {
         ensures exact { look_of result ≡ look U.meaning.is_transient (entry_at U.Key.eq self.now (arc_value key.now)) version }
         ensures value { (C : List (List (U.Key × U.Value))) (x : U.Value) (base : ℕ) → AreTrue U.Key.eq U.meaning C self.now → version ≤ length C → look_of result ≡ Matches x base → HasValue U.Key.eq U.meaning C version (arc_value key.now) x }
     {
-        match self.entry(key) {
-            None => Found::Compute(Why::New),
-            Some(entry) => entry.look(&*self.universe, version),
-        }
+        self.store.lookup(key, version)
     }
 
     /// After a match notes that the key's value was seen at the version. It takes no memory.
     pub fn seen(&mut self, key: &Arc<U::Key>, version: u64)
         ensures entries { (q : U.Key) → entry_at U.Key.eq self.new q ≡ (if U.Key.eq (arc_value key.now) q then option_map (seen_at version) (entry_at U.Key.eq self.old (arc_value key.now)) else entry_at U.Key.eq self.old q) }
+        ensures edges { (j : U.Key) (q : U.Key) → is_edge U.Key.eq self.new j q ≡ is_edge U.Key.eq self.old j q }
         ensures kept { (C : List (List (U.Key × U.Value))) (e : Kept U.Key U.Value) → AreTrue U.Key.eq U.meaning C self.old → version ≤ length C → entry_at U.Key.eq self.old (arc_value key.now) ≡ Some e → e.ranges version ≡ true → AreTrue U.Key.eq U.meaning C self.new }
     {
-        laws_of::<U>();
-        if let Some(entry) = self.entries.get_mut(key) {
-            entry.see(version);
-        }
+        self.store.seen(key, version);
     }
 
-    /// Writes an entry: over none, joined with one of the same value, or in place of one that is not later. At an error all is
-    /// as before.
-    pub(crate) fn put(&mut self, key: Arc<U::Key>, next: Entry<U>) -> Result<(), NoMemory>
-        ensures ok { OnOk result ((q : U.Key) → entry_at U.Key.eq self.new q ≡ (if U.Key.eq (arc_value key) q then Some (written U.meaning U.Value.eq (entry_at U.Key.eq self.old (arc_value key)) (kept_of next)) else entry_at U.Key.eq self.old q)) }
+    /// Keeps the value of a key at a version, by the trace through which it came there, with the other versions at which the
+    /// value is then known; where these have no end and go into the entry, an edge to the key is recorded from each key of the trace.
+    /// At an error all is as before.
+    ///
+    /// It costs a look-up for each key of the trace, the ranges that are joined, a walk over the sets of each source among those keys,
+    /// and the edges to the key that are there already.
+    pub fn finish(
+        &mut self,
+        cells: &Cells<U>,
+        key: Arc<U::Key>,
+        version: u64,
+        value: Arc<U::Value>,
+        trace: Arc<Trace<U>>,
+    ) -> Result<(), NoMemory>
+        requires { version < u64.MAX }
+        ensures ok { OnOk result ((q : U.Key) → entry_at U.Key.eq self.new q ≡ (if U.Key.eq (arc_value key) q then Some (written U.meaning U.Value.eq (entry_at U.Key.eq self.old (arc_value key)) (finished U.meaning U.Value.eq (cell_at U.Key.eq U.meaning cells.now) (entry_at U.Key.eq self.old) version (arc_value value) (arc_value trace))) else entry_at U.Key.eq self.old q)) }
+        ensures edges { OnOk result (Records U.Key.eq U.meaning U.Value.eq (arc_value key) (finished U.meaning U.Value.eq (cell_at U.Key.eq U.meaning cells.now) (entry_at U.Key.eq self.old) version (arc_value value) (arc_value trace)) self.old self.new) }
+        ensures kept { OnOk result ((C : List (List (U.Key × U.Value))) → Holds U.Key.eq U.meaning C (cell_at U.Key.eq U.meaning cells.now) → version ≤ length C → IsTrace U.Key.eq U.meaning C version (arc_value key) (arc_value trace) (arc_value value) → AreTrue U.Key.eq U.meaning C self.old → AreTrue U.Key.eq U.meaning C self.new) }
         ensures err { OnErr result (self.new ≡ self.old) }
     {
         laws_of::<U>();
-        let Some(entry) = self.standing(&key, next)? else {
-            return Ok(());
+        let ranges = self.store.marked(cells, version, &value, &trace)?;
+        open_has_a_tail(&ranges);
+        let deps = link_open(self.alloc, &ranges, &mut self.users, &key, &trace)?;
+        let entry = Entry {
+            value,
+            trace,
+            ranges,
+            version,
+            deps,
         };
-        self.entries.insert(key, entry)?;
+        self.store.put(key, entry)?;
         Ok(())
     }
 
-    /// The entry that stands for a key after a finish has made `next`; `None` where the one that is there stays as it is.
-    fn standing(&self, key: &Arc<U::Key>, next: Entry<U>) -> Result<Option<Entry<U>>, NoMemory>
-        ensures { IfOk result (λ o. MatchOption o (entry_at U.Key.eq self.now (arc_value key.now) ≡ Some (written U.meaning U.Value.eq (entry_at U.Key.eq self.now (arc_value key.now)) (kept_of next))) (λ e. kept_of e ≡ written U.meaning U.Value.eq (entry_at U.Key.eq self.now (arc_value key.now)) (kept_of next))) }
-    {
-        match self.entry(key) {
-            None => Ok(Some(next)),
-            Some(entry) => entry.after(&*self.universe, next),
-        }
-    }
-
-    /// A commit changes the inputs of these keys, from the version on. Nothing that is kept speaks of versions above the newest,
-    /// so nothing changes.
+    /// A commit changes the inputs of these keys, from the version on: the tails of all that it reaches by recorded edges are cut
+    /// there, and all edges to what it reaches are taken away. At an error all is as before.
+    ///
+    /// The entries stay true where these are all the keys that the commit sets, and its version is the one after the newest. It costs a
+    /// look-up for each key that has used one that is reached since that was last reached.
     pub fn commit(&mut self, changed: &[Arc<U::Key>], version: u64) -> Result<(), NoMemory>
-        ensures same { self.new ≡ self.old }
-        ensures kept { (C : List (List (U.Key × U.Value))) (c : List (U.Key × U.Value)) → AreTrue U.Key.eq U.meaning C self.old → AreTrue U.Key.eq U.meaning (C ++ c ∷ []) self.new }
+        ensures cut { OnOk result (IsCut U.Key.eq self.old (map arc_value changed.now) version self.new) }
+        ensures kept { OnOk result ((C : List (List (U.Key × U.Value))) (c : List (U.Key × U.Value)) → version ≡ suc (length C) → ((k : U.Key) → Has (keys_of c) k → Has (map arc_value changed.now) k) → AreTrue U.Key.eq U.meaning C self.old → AreTrue U.Key.eq U.meaning (C ++ c ∷ []) self.new) }
+        ensures err { OnErr result (self.new ≡ self.old) }
     {
         laws_of::<U>();
+        let reached = reached(self.alloc, &self.store, &self.users, changed)?;
+        cut_all(&mut self.store, &reached, version);
+        forget_all(&mut self.users, &reached);
         Ok(())
     }
 }

@@ -1,13 +1,17 @@
 //! Values that were computed, each with the versions at which it is known to hold.
 #![tactic(auto)]
 
+mod cut;
 mod entry;
 mod finish;
 mod found;
 mod graph;
 mod marks;
+mod reach;
+mod store;
 #[cfg(test)]
 mod tests;
+mod users;
 
 pub use found::{Found, Why};
 pub use graph::Graph;

@@ -1,5 +1,5 @@
 //! The versions that a finish marks.
-ghost use Rattle.std.specs.Prelude.{◌≡◌, ◌<◌, ℕ, ◌&&◌, nat_le, IfOk, Some, None};
+ghost use Rattle.std.specs.Prelude.{◌≡◌, ◌<◌, ℕ, ◌&&◌, IfOk, Some, None};
 ghost use Rattle.std.specs.Arc.{arc_value};
 ghost use Rattle.std.specs.Option.{option_map};
 ghost use Rattle.version_ranges.specs.Members.{contains};
@@ -8,7 +8,7 @@ ghost use Rattle.dep_recorder.specs.Recordings.{keys_in, values_in};
 ghost use Rattle.versioned_graph.specs.Entries.{kept_of, entry_at, known_by, known, all_of_batch, all_of, marked};
 
 use crate::entry::Entry;
-use crate::graph::Graph;
+use crate::store::Store;
 use dep_recorder::Trace;
 use dice_key::{Kind, NoMemory, Universe};
 use injected::Cells;
@@ -16,8 +16,8 @@ use std::alloc::Global;
 use std::sync::Arc;
 use version_ranges::Ranges;
 
-impl<U: Universe> Graph<U> {
-    /// The versions that a finish marks: its own, and those that are known for every dependency of its trace, up to the newest.
+impl<U: Universe> Store<U> {
+    /// The versions that a finish marks: its own, and those that are known for every dependency of its trace.
     pub(crate) fn marked(
         &self,
         cells: &Cells<U>,
@@ -25,9 +25,8 @@ impl<U: Universe> Graph<U> {
         value: &U::Value,
         trace: &Trace<U>,
     ) -> Result<Ranges, NoMemory>
-        requires version { version < u64.MAX }
-        requires last { cells.now.last < u64.MAX }
-        ensures { IfOk result (λ r. (w : ℕ) → contains r w ≡ (marked U.meaning U.Value.eq (cell_at U.Key.eq U.meaning cells.now) (entry_at U.Key.eq self.now) version value.now trace.now w && nat_le w cells.now.last)) }
+        requires { version < u64.MAX }
+        ensures { IfOk result (λ r. (w : ℕ) → contains r w ≡ marked U.meaning U.Value.eq (cell_at U.Key.eq U.meaning cells.now) (entry_at U.Key.eq self.now) version value.now trace.now w) }
     {
         let mut ranges = if self.universe.is_transient(value) {
             Ranges::new(self.alloc)
@@ -36,7 +35,6 @@ impl<U: Universe> Graph<U> {
         };
         let next = Some(version + 1);
         ranges.insert(version, next).map_err(|_| NoMemory)?;
-        ranges.close_at(cells.last() + 1);
         Ok(ranges)
     }
 
@@ -70,7 +68,7 @@ impl<U: Universe> Graph<U> {
     {
         let mut left = ranges;
         for (dep, answer) in batch {
-            left = self.known_of(cells, version, dep, answer, &left)?;
+            left = self.known_of(cells, version, dep, answer, left)?;
         }
         Ok(left)
     }
@@ -82,10 +80,10 @@ impl<U: Universe> Graph<U> {
         version: u64,
         dep: &Arc<U::Key>,
         answer: &Arc<U::Value>,
-        ranges: &Ranges,
+        ranges: Ranges,
     ) -> Result<Ranges, NoMemory>
         requires { version < u64.MAX }
-        ensures { IfOk result (λ r. (w : ℕ) → contains r w ≡ (contains ranges.now w && known U.meaning U.Value.eq (cell_at U.Key.eq U.meaning cells.now) (entry_at U.Key.eq self.now) version w (arc_value dep.now) (arc_value answer.now))) }
+        ensures { IfOk result (λ r. (w : ℕ) → contains r w ≡ (contains ranges w && known U.meaning U.Value.eq (cell_at U.Key.eq U.meaning cells.now) (entry_at U.Key.eq self.now) version w (arc_value dep.now) (arc_value answer.now))) }
     {
         match self.universe.kind(dep) {
             Kind::Injected => both(ranges, &cells.ranges_of(version, dep)?),
@@ -102,10 +100,10 @@ fn known_by_entry<U: Universe>(
     known: Option<&Entry<U>>,
     version: u64,
     answer: &Arc<U::Value>,
-    ranges: &Ranges,
+    ranges: Ranges,
 ) -> Result<Ranges, NoMemory>
     requires { version < u64.MAX }
-    ensures { IfOk result (λ r. (w : ℕ) → contains r w ≡ (contains ranges.now w && known_by U.meaning U.Value.eq (option_map (λ e. kept_of e.now) known.entry) version (arc_value answer.now) w)) }
+    ensures { IfOk result (λ r. (w : ℕ) → contains r w ≡ (contains ranges w && known_by U.meaning U.Value.eq (option_map (λ e. kept_of e.now) known.entry) version (arc_value answer.now) w)) }
 {
     match known {
         Some(entry) if *entry.value == **answer => both(ranges, &entry.ranges),
@@ -117,8 +115,8 @@ fn known_by_entry<U: Universe>(
 }
 
 /// The versions of both sets.
-fn both(a: &Ranges, b: &Ranges) -> Result<Ranges, NoMemory>
-    ensures { IfOk result (λ r. (w : ℕ) → contains r w ≡ (contains a.now w && contains b.now w)) }
+fn both(a: Ranges, b: &Ranges) -> Result<Ranges, NoMemory>
+    ensures { IfOk result (λ r. (w : ℕ) → contains r w ≡ (contains a w && contains b.now w)) }
 {
-    a.intersect(b).map_err(|_| NoMemory)
+    a.narrowed(b).map_err(|_| NoMemory)
 }

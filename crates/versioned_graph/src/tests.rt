@@ -79,7 +79,7 @@ impl World {
         Ok(true)
     }
 
-    /// Finishes a key that asked another one, which was answered with this number; whether the versions are below the greatest.
+    /// Finishes a key that asked another one, which was answered with this number; whether the version is below the greatest.
     fn finish(
         &mut self,
         key: Place,
@@ -88,7 +88,7 @@ impl World {
         dep: Place,
         answer: u64,
     ) -> Result<bool, NoMemory> {
-        if version == u64::MAX || self.cells.last() == u64::MAX {
+        if version == u64::MAX {
             return Ok(false);
         }
         let trace = asked_twice(self.alloc, dep, answer)?;
@@ -140,10 +140,31 @@ fn a_changed_dependency_is_checked_and_an_older_version_still_matches(
 }
 
 #[test]
-fn a_set_of_a_key_that_is_not_asked_is_checked_too(rt: HostRuntime) -> Result<(), Fail> {
+fn a_commit_cuts_what_it_reaches_by_recorded_edges(rt: HostRuntime) -> Result<(), Fail> {
     let mut world = finished_at_one(rt.alloc(), TEN)?;
+    world.finish(Place::Parity(1), 1, TWELVE, KEY, 10)?;
     world.commit(2, 3, 5)?;
-    assert_eq!(rt; world.look(KEY, 2)?, Seen::Check(TEN, 1, 1));
+    assert_eq!(rt; world.look(KEY, 2)?, Seen::Match(TEN, 1));
+    assert_eq!(rt; world.look(Place::Parity(1), 2)?, Seen::Match(TWELVE, 1));
+    world.commit(3, 1, 6)?;
+    assert_eq!(rt; world.look(KEY, 3)?, Seen::Check(TEN, 1, 1));
+    assert_eq!(rt; world.look(Place::Parity(1), 3)?, Seen::Check(TWELVE, 1, 1));
+    assert_eq!(rt; world.look(Place::Parity(1), 2)?, Seen::Match(TWELVE, 1));
+    Ok(())
+}
+
+#[test]
+fn edges_outlive_a_replaced_entry_and_go_with_a_cut(rt: HostRuntime) -> Result<(), Fail> {
+    let mut world = finished_at_one(rt.alloc(), TEN)?;
+    world.finish(Place::Parity(1), 1, TWELVE, KEY, 10)?;
+    world.finish(KEY, 1, TWELVE, Place::Cell(3), 0)?;
+    world.commit(2, 1, 6)?;
+    assert_eq!(rt; world.look(KEY, 2)?, Seen::Check(TWELVE, 1, 1));
+    assert_eq!(rt; world.look(Place::Parity(1), 2)?, Seen::Check(TWELVE, 1, 1));
+    // the edge from cell 1 has gone
+    world.finish(KEY, 2, TEN, Place::Cell(3), 0)?;
+    world.commit(3, 1, 7)?;
+    assert_eq!(rt; world.look(KEY, 3)?, Seen::Match(TEN, 2));
     Ok(())
 }
 

@@ -4,10 +4,10 @@ use Rattle.std.specs.Map.{lookup}
 use Rattle.std.specs.Option.{option_copied_mut}
 use Rattle.core_laws.specs.Tasks.{IsOut}
 use Rattle.dice_steps.specs.AtHand.{AtHand}
-use Rattle.dice_core.specs.Givings.{stale_of}
+use Rattle.dice_core.specs.Givings.{stale_of, IsTakenUp}
 use Rattle.dice_tasks.specs.Helds.{held_of}
 use Rattle.dice_core.specs.Cores.{PutsTable, world_of, table_at}
-use Rattle.dice_core.proofs.ClosedLemmas.{given_ok, gives_works}
+use Rattle.dice_core.proofs.ClosedLemmas.{given_taken, given_ok, gives_works}
 use Rattle.dice_core.proofs.JobsLemmas.{table_found, none_held, hand_there}
 use Rattle.dice_core.proofs.ResultLemmas.{both_ok, on_ok}
 use Rattle.dice_core.proofs.TurnLemmas.{worked_stands}
@@ -58,3 +58,17 @@ returns-clause-kept g c =
     worked_stands eq c.laws_of.ensures.keys m c.laws_of.ensures.lawful d ts c.args.graph.now c.args.cells.now x st v _ qs c.take_step.new.desk c.take_step.new.graph put (gives_works eq v c.args.step ps qs d c.take_step.new.desk h.0)
     (subst (λ (n : ℕ). AtHand eq m v (world_of eq ts) n qs c.take_step.new.desk c.take_step.new.graph c.args.cells.now) owes
     (h.1 (world_of eq ts) (subst (λ (n : ℕ). AtHand eq m v (world_of eq ts) n ps d c.args.graph.now c.args.cells.now) (sym owes) hand))))
+
+pub returns-clause-does : goal.returns-clause-does
+returns-clause-does g c =
+    let eq = g.U.Key.PartialEq.eq in
+    let ts = c.args.versions.now.entries in
+    let v = c.args.step.job.name.version in
+    let ps = c.in-Some.tasks.now in
+    let qs = c.take_step.new.tasks in
+    let at : c.version-version.result ≡ v = c.version-version.ensures ∙ ap (λ n. n.version) (c.name.ensures ∙ ap (λ a. a.name) c.assignment.ensures) in
+    let mine : lookup (nat_eq c.version-version.result) ts ≡ Some ps = sym c.get_mut.ensures.value ∙ ap option_copied_mut c.in-Some.is in
+    let found : table_at ts v ≡ ps = table_found ts v ps (subst (λ n. lookup (nat_eq n) ts ≡ Some ps) at mine) in
+    let put = subst (λ n. PutsTable n qs ts (c.get_mut.follows.lender qs).entries) at ((c.get_mut.follows.holds qs).3 (subst IsSome (sym mine) refl)).0 in
+    given_taken c.take_step.result (λ x. stale_of x) _ _ c.take_step.ensures.does
+    (λ h. record { tasks = qs; put = put; turned = subst (λ a. IsTakenUp eq g.U.Universe.meaning g.U.Value.PartialEq.eq v c.args.step c.args.cells.now a qs c.args.graph.now c.take_step.new.graph c.args.desk.now c.take_step.new.desk c.args.step.outcome) (sym found) h })

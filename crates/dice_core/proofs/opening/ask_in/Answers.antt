@@ -37,7 +37,7 @@ returns-clause-asked g c =
     let z : session_at c.args.sessions.now c.args.tx ≡ Some c.in-Some.session.now = sym c.session.ensures ∙ ap option_copied c.in-Some.is in
     let w = session_open (reverse c.args.desk.now.events) c.args.sessions.now c.args.tx c.in-Some.session.now v c.requires.stands.1.sessions z c.version-version.ensures in
     let table : lookup (nat_eq v) ts ≡ Some c.in-Some-get_mut.tasks.now = sym c.get_mut.ensures.value ∙ ap option_copied_mut c.in-Some-get_mut.is in
-    asked_turned g.U.Key.PartialEq.eq g.U.Universe.meaning (reverse c.args.desk.now.events) c.args.desk.now c.ask_key.new.desk ts _ v c.args.by c.args.tx (arc_value c.args.key) (opened_of c.in-Some.session.now) c.in-Some-get_mut.tasks.now c.ask_key.new.tasks w.0 w.1 (table_found ts v c.in-Some-get_mut.tasks.now table)
+    asked_turned g.U.Key.PartialEq.eq g.U.Universe.meaning (reverse c.args.desk.now.events) c.args.desk.now c.ask_key.new.desk ts _ v c.args.by c.args.tx (arc_value c.args.key) (opened_of c.in-Some.session.now) c.in-Some-get_mut.tasks.now c.ask_key.new.tasks c.args.graph.now c.ask_key.new.graph w.0 w.1 (table_found ts v c.in-Some-get_mut.tasks.now table)
     ((c.get_mut.follows.holds c.ask_key.new.tasks).3 (subst IsSome (sym table) refl)).0 c.in_ok-index.ensures.asked
 
 pub returns-clause-kept : goal.returns-clause-kept

@@ -109,8 +109,8 @@ returns-clause-kept g c w at0 =
     let may = may_wake_now eq keys m law v k x t c.args.tasks.now c.end_value.new.tasks d c.end_value.new.desk e.0 tells step.job c.requires.out is w c.args.owed c.args.graph.now c.args.cells.now at o.1 c.in_ok-ending.ending.woken.items n.woken in
     let b = within eq keys m law v k R [] c.args.tasks.now (stands_at eq keys m law v k w c.args.owed c.args.tasks.now d c.args.graph.now c.args.cells.now at) step.job c.requires.out in
     let entries : EntriesStand eq m (t ∷ R) fs = elim is as (λ _. EntriesStand eq m (t ∷ R) fs) [
-      | inl i ↦ entries_ended eq m v R fs k (arc_value c.in_ok-ending.ending.key) x (arc_value c.in_ok-ending.ending.value) step.job.answered (arc_value c.in_ok-ending.ending.trace) n.key n.value n.trace t i (f.ended R at.entries at.cells.are at.cells.newest b) o.1
-      | inr i ↦ entries_kept eq m v R fs k (arc_value c.in_ok-ending.ending.key) x (arc_value c.in_ok-ending.ending.value) step.job.answered (arc_value c.in_ok-ending.ending.trace) n.key n.value n.trace t i.0 i.1 (f.kept R i.0 at.entries at.cells.are at.cells.newest b) o.1
+      | inl i ↦ entries_ended eq m v R fs k (arc_value c.in_ok-ending.ending.key) x (arc_value c.in_ok-ending.ending.value) step.job.answered (arc_value c.in_ok-ending.ending.trace) n.key n.value n.trace t i (f.ended R at.entries at.cells.are b) o.1
+      | inr i ↦ entries_kept eq m v R fs k (arc_value c.in_ok-ending.ending.key) x (arc_value c.in_ok-ending.ending.value) step.job.answered (arc_value c.in_ok-ending.ending.trace) n.key n.value n.trace t i.0 i.1 (f.kept R i.0 at.entries at.cells.are b) o.1
     ] in
     at_ended eq keys m law v k x t c.args.tasks.now c.end_value.new.tasks d c.end_value.new.desk e.0 tells step.job c.requires.out is
     c.wake.new.tasks c.wake.new.desk c.in_ok-ending.ending.woken.items c.wake.ensures.woken c.wake.ensures.told w c.args.owed c.args.graph.now c.args.cells.now at

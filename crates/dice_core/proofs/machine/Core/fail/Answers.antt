@@ -1,10 +1,10 @@
-use Rattle.std.proofs.Common.{◌≡◌, ◌↔◌, ◌++◌, IsTrue, List, map, subst}
+use Rattle.std.proofs.Common.{◌≡◌, ◌↔◌, ◌++◌, IsTrue, List, None, map, subst}
 use Rattle.dice_model.specs.Log.{Has}
 use Rattle.journal.specs.declared.event.Told.TheVariants.{Lost, Drop}
-use Rattle.dice_core.specs.Cores.{CoreSeen, IsNameOut, GivesUpOnly, core_of, events_of}
-use Rattle.dice_tasks.specs.Endings.{IsJobNamed}
+use Rattle.dice_core.specs.Cores.{CoreSeen, Turned, IsNameOut, GivesUpOnly, core_of, events_of}
+use Rattle.dice_tasks.specs.Endings.{IsJobNamed, GivesUpAll}
 use Rattle.dice_core.specs.Cores.{table_at}
-use Rattle.dice_core.proofs.PublicLemmas.{named_iff, lost_log, gives_up_only}
+use Rattle.dice_core.proofs.PublicLemmas.{named_iff, lost_log, gives_up_only, home_now}
 use Rattle.dice_core.proofs.machine.Core.fail.Goals as goal
 
 pub invariant_of-self : goal.invariant_of-self
@@ -32,3 +32,17 @@ returns-clause-tasks g c = λ t.
     let n = c.args.name.now in
     subst (λ (v : CoreSeen g.row.U-Key.Denot g.row.U-Value.Denot). GivesUpOnly g.U.Key.PartialEq.eq v (core_of c.fail_named.new.desk c.fail_named.new.versions.entries s.graph s.cells s.sessions)) c.self.view_is
     (gives_up_only g.U.Key.PartialEq.eq c.laws_of.ensures.keys g.U.Universe.meaning c.laws_of.ensures.lawful s.desk c.fail_named.new.desk s.versions.entries c.fail_named.new.versions.entries s.graph s.graph s.cells s.sessions s.sessions n.version n.key f.tasks f.put f.turned)
+
+pub returns-clause-failed : goal.returns-clause-failed
+returns-clause-failed g c = λ t.
+    let eq = g.U.Key.PartialEq.eq in
+    let n = c.args.name.now in
+    subst (λ (v : CoreSeen g.row.U-Key.Denot g.row.U-Value.Denot). Turned eq g.U.Universe.meaning n.version v.tables c.fail_named.new.versions.entries (λ ps qs. GivesUpAll eq n.version None n.key ps qs v.desk c.fail_named.new.desk)) c.self.view_is
+    (c.fail_named.ensures.failed t).1
+
+pub returns-clause-home : goal.returns-clause-home
+returns-clause-home g c = λ t out.
+    let s = c.self.inside in
+    let f = (c.fail_named.ensures.failed t).1 in
+    let n = c.args.name.now in
+    home_now g.U.Key.PartialEq.eq c.laws_of.ensures.keys g.U.Universe.meaning c.laws_of.ensures.lawful s.desk c.fail_named.new.desk s.versions.entries c.fail_named.new.versions.entries s.graph s.graph s.cells s.sessions s.sessions n.version n.key f.tasks f.put f.turned out.0 out.1

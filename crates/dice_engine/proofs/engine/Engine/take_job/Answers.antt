@@ -12,9 +12,9 @@ returns-clause-turn g c =
     let m = g.U.Universe.meaning in
     let old = c.args.seat.now in
     let mid = seat_in c.enter-turn.result in
-    let J = events_of c.state.result.now.core in
-    let e = entered eq m old mid (events_of c.enter-turn.result.state.core) J (ap (λ s. events_of s.core) c.state.ensures.value) c.enter-turn.ensures.turn c.enter-turn.ensures.seen c.enter-turn.ensures.mine c.enter-turn.ensures.floor in
-    let I = events_of c.take_job-job.new.self.core in
+    let J = events_of c.state.result.now.core.value in
+    let e = entered eq m old mid (events_of c.enter-turn.result.state.core.value) J (ap (λ s. events_of s.core.value) c.state.ensures.value) c.enter-turn.ensures.turn c.enter-turn.ensures.seen c.enter-turn.ensures.mine c.enter-turn.ensures.floor in
+    let I = events_of c.take_job-job.new.self.core.value in
     let a = c.take_job-job.ensures.adds in
     subst (λ s. Turn eq m old s (λ found. AddsNothing)) (search rules)
     (turned_any eq m old mid J I c.leave.new.turn.0 (λ found. AddsNothing) 0 e (record { seen = c.leave.ensures.seen; mine = c.leave.ensures.mine; turns = c.leave.ensures.turns; floor = c.leave.ensures.floor; below = c.leave.ensures.below; noted = c.leave.ensures.noted; same = c.leave.ensures.same }) a a.did.0)

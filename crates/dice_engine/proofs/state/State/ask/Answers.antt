@@ -1,19 +1,36 @@
-use Rattle.std.proofs.Common.{◌≡◌, sym, ap, ◌∙◌, subst}
+use Rattle.std.proofs.Common.{◌≡◌, Some, sym, ap, ◌∙◌, subst}
+use Rattle.std.specs.Prelude.{OnErr, reverse}
 use Rattle.std.specs.Arc.{arc_value}
 use Rattle.std.proofs.lemmas.Option.{same_Some}
-use Rattle.journal.specs.Events.{Opened}
+use Rattle.journal.specs.Events.{Opened, open_at}
+use Rattle.journal.specs.Law.{IsLawfulJournal}
 use Rattle.dice_core.specs.Joinings.{IsToldOfMake}
+use Rattle.dice_core.specs.Cores.{CoreSeen, events_of}
+use Rattle.dice_engine.specs.Turns.{Adds}
+use Rattle.dice_engine.specs.Calls.{AddsNothing, Asks}
 use Rattle.dice_engine.proofs.Adding.{nothing, asks, always_err}
 use Rattle.dice_engine.proofs.state.State.ask.Goals as goal
 
 pub returns-in_err-ask-clause-err : goal.returns-in_err-ask-clause-err
 returns-in_err-ask-clause-err g c =
-    always_err c.from_residual.result _ (nothing g.U.Key.PartialEq.eq g.U.Universe.meaning _ _ c.standing-newest.ensures.lawful c.args.by c.in_err-ask.ensures.err)
+    let eq = g.U.Key.PartialEq.eq in
+    let m = g.U.Universe.meaning in
+    subst (λ (s : CoreSeen g.row.U-Key.Denot g.row.U-Value.Denot). OnErr c.from_residual.result (Adds eq m c.args.by (events_of s) (events_of c.ask_again-ask.new.core) AddsNothing)) c.deref_mut-core.ensures.value
+    (always_err c.from_residual.result _ (nothing eq m _ _ c.standing-newest.ensures.lawful c.args.by c.in_err-ask.ensures.err))
 
 pub returns-clause-ok : goal.returns-clause-ok
 returns-clause-ok g c =
+    let eq = g.U.Key.PartialEq.eq in
+    let m = g.U.Universe.meaning in
+    let t = c.args.transaction.now in
+    subst
+    (λ (s : CoreSeen g.row.U-Key.Denot g.row.U-Value.Denot). (IsLawfulJournal eq m (events_of s) → (o : Opened) × (open_at (reverse (events_of s)) t.opened ≡ Some o) × (o.version ≡ t.version)) → Adds eq m c.args.by (events_of s) (events_of c.ask_again-ask.new.core) (Asks c.args.by t.opened t.version (arc_value c.args.key)))
+    c.deref_mut-core.ensures.value
+    (λ given.
     let l = c.in_ok-ask.ensures.ok in
-    let o : l.0 ≡ (c.requires c.in_order.ensures.lawful).0 = same_Some _ _ (sym l.2 ∙ (c.requires c.in_order.ensures.lawful).1) in
-    let at : l.0.version ≡ c.args.transaction.now.version = ap (λ (x : Opened). x.version) o ∙ (c.requires c.in_order.ensures.lawful).2 in
-    asks g.U.Key.PartialEq.eq g.U.Universe.meaning _ _ c.standing-newest.ensures.lawful c.args.by c.args.transaction.now.opened c.args.transaction.now.version (arc_value c.args.key) l.1
-    (subst (λ v. IsToldOfMake v (arc_value c.args.key) l.1) at l.3) l.4
+    let r = given c.in_order.ensures.lawful in
+    let o : l.0 ≡ r.0 = same_Some _ _ (sym l.2 ∙ r.1) in
+    let at : l.0.version ≡ t.version = ap (λ (x : Opened). x.version) o ∙ r.2 in
+    asks eq m _ _ c.standing-newest.ensures.lawful c.args.by t.opened t.version (arc_value c.args.key) l.1
+    (subst (λ v. IsToldOfMake v (arc_value c.args.key) l.1) at l.3) l.4)
+    c.requires

@@ -1,8 +1,11 @@
 use Rattle.std.proofs.Common.{◌++◌, sym, ap, ◌∙◌, subst}
+use Rattle.std.specs.Prelude.{OnOk, OnErr}
 use Rattle.std.specs.Map.{keys_of}
 use Rattle.dice_core.specs.Commits.{IsFirstFault, differing_of, event_of}
-use Rattle.dice_core.specs.Cores.{events_of, past_of}
+use Rattle.dice_core.specs.Cores.{CoreSeen, events_of, past_of}
 use Rattle.journal.specs.Events.{commits_of}
+use Rattle.dice_engine.specs.Turns.{Adds, log_of}
+use Rattle.dice_engine.specs.Calls.{AddsNothing, Commits}
 use Rattle.dice_engine.proofs.Adding.{nothing, commits, map_ok, map_err}
 use Rattle.dice_engine.proofs.state.State.commit.Goals as goal
 
@@ -14,12 +17,20 @@ returns-clause-ok g c =
     let eq = g.U.Key.PartialEq.eq in
     let veq = g.U.Value.PartialEq.eq in
     let m = g.U.Universe.meaning in
-    let core = c.args.self.now.core in
-    map_ok c.commit-result.result _ _ c.commit-result.ensures.events
+    let core = c.deref_mut-core.result.now in
+    subst
+    (λ (s : CoreSeen g.row.U-Key.Denot g.row.U-Value.Denot). OnOk c.commit-result.result (Adds eq m c.args.by (events_of s) (events_of c.commit-result.new.self) (Commits eq veq m c.args.by (log_of (events_of s)) c.args.updater.now)))
+    c.deref_mut-core.ensures.value
+    (map_ok c.commit-result.result _ _ c.commit-result.ensures.events
     (λ e. commits eq m (events_of core) (events_of c.commit-result.new.self) c.standing-newest.ensures.lawful veq c.args.by core.cells c.args.updater.now
     (c.cells_are_the_inputs.ensures.newest (commits_of (past_of core)) core.cells c.in_order.ensures.cells.are)
-    (e ∙ ap (λ ps. events_of core ++ event_of c.args.by (differing_of eq veq m core.cells ps)) c.pairs.ensures))
+    (e ∙ ap (λ ps. events_of core ++ event_of c.args.by (differing_of eq veq m core.cells ps)) c.pairs.ensures)))
 
 pub returns-clause-err : goal.returns-clause-err
 returns-clause-err g c =
-    map_err c.commit-result.result _ _ c.commit-result.ensures.err (λ b. nothing g.U.Key.PartialEq.eq g.U.Universe.meaning _ _ c.standing-newest.ensures.lawful c.args.by b.hands.events)
+    let eq = g.U.Key.PartialEq.eq in
+    let m = g.U.Universe.meaning in
+    subst
+    (λ (s : CoreSeen g.row.U-Key.Denot g.row.U-Value.Denot). OnErr c.commit-result.result (Adds eq m c.args.by (events_of s) (events_of c.commit-result.new.self) AddsNothing))
+    c.deref_mut-core.ensures.value
+    (map_err c.commit-result.result _ _ c.commit-result.ensures.err (λ b. nothing eq m _ _ c.standing-newest.ensures.lawful c.args.by b.hands.events))

@@ -1,6 +1,33 @@
-use Rattle.std.proofs.Common.{[], ◌∷◌}
-use Rattle.versioned_graph.proofs.Longer.{longer}
+-- What a commit reaches is cut.
+use Rattle.std.proofs.Common.{[], cond, map, sym, ap, ◌∙◌, subst, List}
+use Rattle.std.specs.Arc.{arc_value}
+use Rattle.dice_model.specs.Log.{Has}
+use Rattle.versioned_graph.specs.Users.{users_of}
+use Rattle.versioned_graph.specs.Entries.{Stored}
+use Rattle.versioned_graph.specs.Edges.{IsCut}
+use Rattle.versioned_graph.specs.Sound.{AreTrue}
+use Rattle.versioned_graph.proofs.CutLemmas.{is_cut, cut_stands, still_indexed}
 use Rattle.versioned_graph.proofs.graph.Graph.commit.Goals as goal
 
+pub returns-clause-cut : goal.returns-clause-cut
+returns-clause-cut g c =
+    let eq = g.U.Key.PartialEq.eq in
+    let ks = map arc_value c.args.changed.now in
+    subst (λ (s : List (g.row.U-Key.Denot × Stored g.row.U-Key.Denot g.row.U-Value.Denot)). IsCut eq s ks c.args.version c.cut_all.new.store) c.self.view_is
+    (is_cut eq c.laws_of.ensures.keys c.self.inside.store ks (map arc_value c.in_ok-reached.reached.items) c.in_ok-reached.ensures.all c.in_ok-reached.ensures.only c.args.version c.cut_all.new.store
+    (rw (ap (map arc_value) c.deref.ensures.value) at c.cut_all.ensures))
+
 pub returns-clause-kept : goal.returns-clause-kept
-returns-clause-kept g c C d t = longer g.U.Key.PartialEq.eq g.U.Universe.meaning C (d ∷ []) c.args.self.now t
+returns-clause-kept g c = λ C d v covers t.
+    let eq = g.U.Key.PartialEq.eq in
+    let m = g.U.Universe.meaning in
+    cut_stands eq c.laws_of.ensures.keys c.self.inside.store (map arc_value c.args.changed.now) (map arc_value c.in_ok-reached.reached.items) c.in_ok-reached.ensures.all c.in_ok-reached.ensures.only
+    m c.laws_of.ensures.lawful C d covers c.args.version c.cut_all.new.store v (rw (ap (map arc_value) c.deref.ensures.value) at c.cut_all.ensures)
+    (subst (AreTrue eq m C) (sym c.self.view_is) t)
+
+pub invariant_of-self : goal.invariant_of-self
+invariant_of-self g c =
+    let eq = g.U.Key.PartialEq.eq in
+    still_indexed eq c.laws_of.ensures.keys c.self.inside.store (map arc_value c.args.changed.now) (map arc_value c.in_ok-reached.reached.items) c.in_ok-reached.ensures.all c.in_ok-reached.ensures.only
+    c.args.version c.cut_all.new.store c.self.inside.users c.forget_all.new.users (rw (ap (map arc_value) c.deref.ensures.value) at c.cut_all.ensures) c.self.invariant
+    (λ j q f h. subst (λ l. Has l q) (sym ((rw (ap (map arc_value) c.deref-2.ensures.value) at c.forget_all.ensures) j ∙ ap (λ b. cond b [] (users_of g.U.Key.PartialEq.eq c.self.inside.users j)) f)) h)

@@ -1,38 +1,10 @@
-use Rattle.std.proofs.Common.{◌≡◌, ap, sym, ◌∙◌, cond, Some, None, map, subst, refl, IsSome}
+use Rattle.std.proofs.Common.{ap, sym, ◌∙◌, subst}
 use Rattle.std.specs.Arc.{arc_value}
-use Rattle.std.specs.Map.{lookup}
-use Rattle.std.specs.Option.{option_map, option_copied_mut}
-use Rattle.versioned_graph.specs.Entries.{kept_of, entry_at, seen_at, named}
-use Rattle.versioned_graph.proofs.Maps.{entry-named, entry-put, at_same}
-use Rattle.versioned_graph.proofs.Holding.{one_seen}
+use Rattle.versioned_graph.specs.Entries.{entry_at}
+use Rattle.versioned_graph.specs.Sound.{AreTrue}
 use Rattle.versioned_graph.proofs.graph.Graph.seen.Goals as goal
-use Rattle.versioned_graph.proofs.graph.Graph.seen.Goals.{in-Some, in_default}
-
-pub returns-clause-entries : goal.returns-clause-entries
-returns-clause-entries g c = λ q.
-    let eq = g.U.Key.PartialEq.eq in
-    let k = arc_value c.args.key.now in
-    let v = c.args.version in
-    let es = c.self.inside.entries.entries in
-    elim c.match-get_mut.branch [
-      | in-Some w ↦ (
-          let e = w.in-Some.entry.now in
-          let f = w.see.new.self in
-          let known : lookup (λ y. eq k (arc_value y)) es ≡ Some e = sym c.get_mut.ensures.value ∙ ap option_copied_mut w.in-Some.is in
-          let some : IsSome (lookup (λ y. eq k (arc_value y)) es) = subst IsSome (sym known) refl in
-          let old : Some (kept_of f) ≡ option_map (seen_at v) (entry_at eq (map named es) k) = ap Some w.see.ensures ∙ ap (option_map (seen_at v)) (sym (entry-named eq k es ∙ ap (option_map kept_of) known)) in
-          ap (λ a. entry_at eq (map named a.entries.entries) q) w.self-inside-is
-          ∙ (entry-put eq k c.args.key.now es (c.get_mut.follows.lender f).entries f (((c.get_mut.follows.holds f).3 some).0) q
-          ∙ ((λ i. cond (eq k q) (old i) (entry_at eq (map named es) q))
-          ∙ (λ i. cond (eq k q) (option_map (seen_at v) (entry_at eq (c.self.view_is i) k)) (entry_at eq (c.self.view_is i) q)))))
-      | in_default w ↦ (
-          let none : lookup (λ y. eq k (arc_value y)) es ≡ None = sym c.get_mut.ensures.value ∙ ap option_copied_mut w.in_default.is in
-          let here : entry_at eq (map named es) k ≡ None = entry-named eq k es ∙ ap (option_map kept_of) none in
-          ap (λ a. entry_at eq (map named a.entries.entries) q) w.self-inside-is
-          ∙ (ap (λ m. entry_at eq (map named m.entries) q) c.get_mut.follows.holds-at-none
-          ∙ (at_same eq c.laws_of.ensures.keys.same (entry_at eq (map named es)) k q (option_map (seen_at v) (entry_at eq (map named es) k)) (here ∙ sym (ap (option_map (seen_at v)) here))
-          ∙ (λ i. cond (eq k q) (option_map (seen_at v) (entry_at eq (c.self.view_is i) k)) (entry_at eq (c.self.view_is i) q)))))
-    ]
 
 pub returns-clause-kept : goal.returns-clause-kept
-returns-clause-kept g c C e t l h r = one_seen g.U.Key.PartialEq.eq g.U.Universe.meaning C c.laws_of.ensures.keys.same (arc_value c.args.key.now) e c.args.version c.args.self.now _ (returns-clause-entries g c) t l h r
+returns-clause-kept g c = λ C e t l h r.
+    let eq = g.U.Key.PartialEq.eq in
+    c.seen.ensures.kept C e (subst (AreTrue eq g.U.Universe.meaning C) (sym c.self.view_is) t) l (ap (λ es. entry_at eq es (arc_value c.args.key.now)) c.self.view_is ∙ h) r

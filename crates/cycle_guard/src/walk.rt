@@ -1,0 +1,48 @@
+//! Whether one task leads to another.
+ghost use Rattle.std.specs.Prelude.{◌≡◌, ◌++◌, ◌↔◌, map, true, IfOk, OnOk};
+ghost use Rattle.std.specs.Arc.{arc_value};
+ghost use Rattle.task_share.specs.Asked.{Leads};
+ghost use Rattle.task_share.specs.Seen.{asked_of, waits_at};
+
+use dice_key::NoMemory;
+use std::alloc::Global;
+use std::collections::HashSet;
+use std::hash::Hash;
+use std::sync::Arc;
+use task_share::{Table, table_in_order};
+
+/// Whether a chain of waits leads from the task of one key to that of another. Each task is looked up at most once.
+pub(crate) fn leads_to<K: Eq + Hash + Drop, T: Drop>(
+    alloc: Global,
+    table: &Table<K, T>,
+    start: &Arc<K>,
+    end: &Arc<K>,
+) -> Result<bool, NoMemory>
+    ensures { IfOk result (λ b. (b ≡ true) ↔ Leads (asked_of K.eq table.now) (arc_value start.now) (arc_value end.now)) }
+{
+    table_in_order(table);
+    let mut seen = HashSet::new(alloc);
+    let mut todo = Vec::new(alloc);
+    todo.push(Arc::try_clone(start)?)?;
+    while let Some(key) = todo.pop() {
+        if !seen.insert(Arc::try_clone(&key)?)? {
+            continue;
+        }
+        push_waits(table, &key, &mut todo)?;
+    }
+    Ok(seen.contains(end))
+}
+
+/// Adds the keys that the task of this key waits for.
+fn push_waits<K: Eq + Hash + Drop, T: Drop>(
+    table: &Table<K, T>,
+    key: &Arc<K>,
+    todo: &mut Vec<Arc<K>>,
+) -> Result<(), NoMemory>
+    ensures { OnOk result (map arc_value todo.new.items ≡ map arc_value todo.old.items ++ waits_at K.eq table.now (arc_value key.now)) }
+{
+    for wait in table.waits(key) {
+        todo.push(Arc::try_clone(wait)?)?;
+    }
+    Ok(())
+}

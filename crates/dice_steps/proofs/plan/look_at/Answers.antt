@@ -1,0 +1,32 @@
+use Rattle.std.proofs.Common.{◌≡◌, inl, [], ◌∷◌, ◌++◌, sym, ◌∙◌, subst}
+use Rattle.std.specs.Arc.{arc_value}
+use Rattle.dice_key.specs.declared.universe.Kind.TheVariants.{Injected}
+use Rattle.task_share.specs.Asked.{Leads}
+use Rattle.task_share.specs.Seen.{asked_of}
+use Rattle.dice_steps.specs.Plans.{AreParts}
+use Rattle.dice_steps.proofs.PartLemmas.{parts_none, parts_skip, parts_more}
+use Rattle.dice_steps.proofs.plan.look_at.Goals as goal
+
+pub returns-in-Injected : goal.returns-in-Injected
+returns-in-Injected g c =
+    let eq = g.U.Key.PartialEq.eq in
+    let m = g.U.Universe.meaning in
+    let own = arc_value c.args.own.now in
+    let k = arc_value c.args.key.now in
+    let injected : m.kind k ≡ Injected = subst (λ z. m.kind z ≡ Injected) c.deref.ensures (sym c.kind.ensures ∙ c.in-Injected.is) in
+    subst (λ zs. AreParts eq m c.args.version c.args.born c.args.tasks.now c.args.graph.now own (k ∷ []) zs) (sym c.new-parts.ensures.items)
+    (parts_skip eq m c.args.version c.args.born c.args.tasks.now c.args.graph.now own [] k [] (parts_none eq m c.args.version c.args.born c.args.tasks.now c.args.graph.now own) (inl injected))
+
+pub returns : goal.returns
+returns g c =
+    let eq = g.U.Key.PartialEq.eq in
+    let m = g.U.Universe.meaning in
+    let own = arc_value c.args.own.now in
+    let k = arc_value c.args.key.now in
+    let p = c.in_ok-part.part in
+    let is = c.in_ok-part.ensures.key in
+    let apart = rw c.in_default-2.is at c.in_ok-path.ensures.apart in
+    subst (λ zs. AreParts eq m c.args.version c.args.born c.args.tasks.now c.args.graph.now own (k ∷ []) zs) (sym c.in_ok-push.ensures.items)
+    (subst (λ zs. AreParts eq m c.args.version c.args.born c.args.tasks.now c.args.graph.now own (k ∷ []) (zs ++ p ∷ [])) (sym c.new-parts.ensures.items)
+    (subst (λ z. AreParts eq m c.args.version c.args.born c.args.tasks.now c.args.graph.now own (z ∷ []) (p ∷ [])) is
+    (parts_more eq m c.args.version c.args.born c.args.tasks.now c.args.graph.now own [] [] p (parts_none eq m c.args.version c.args.born c.args.tasks.now c.args.graph.now own) c.in_ok-part.ensures.part (subst (λ z. Leads (asked_of eq c.args.tasks.now) z own → ⊥) (sym is) apart) (λ h. h))))

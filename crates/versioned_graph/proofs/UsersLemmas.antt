@@ -1,0 +1,78 @@
+-- Sets of users, read through the map that holds them.
+use Rattle.std.proofs.Common.{MatchOption, None, ◌≡◌, subst, Bool, true, false, cond, List, [], ◌∷◌, map, Option, Some, refl, ap, sym, ◌∙◌}
+use Rattle.std.specs.Map.{lookup}
+use Rattle.std.specs.Arc.{arc_value, arc_with_value}
+use Rattle.std.specs.Option.{option_map, option_copied}
+use Rattle.std.specs.Borrow.{Bor}
+use Rattle.std.specs.List.{list_any}
+use Rattle.versioned_graph.proofs.Asked.{any_of}
+use Rattle.versioned_graph.proofs.Sets.{any_map, any_has}
+use Rattle.std.specs.declared.sync.Arc.{Arc}
+use Rattle.std.specs.HashSet.{HashSet}
+use Rattle.dice_key.specs.Lawful.{IsEquality, AreSame}
+use Rattle.dice_model.specs.Log.{Has}
+use Rattle.versioned_graph.specs.Users.{set_of, or_none, users_of}
+
+abbrev pub keys_in : {K B S : Type 0} → HashSet (Arc K B) S → List K
+keys_in s = map arc_value s.keys
+
+module _ {K A B S : Type 0} (eq : K → K → Bool) where
+  -- the list of a key is what the map has there
+  pub set-named : (k : K) (es : List (Arc K A × HashSet (Arc K B) S)) → users_of eq (map set_of es) k ≡ or_none (option_map keys_in (lookup (λ a. eq k (arc_value a)) es))
+  set-named k [] = refl
+  set-named k (e ∷ es) = by_test (eq k (arc_value e.0)) (set-named k es)
+    where
+      by_test : (b : Bool) → users_of eq (map set_of es) k ≡ or_none (option_map keys_in (lookup (λ a. eq k (arc_value a)) es))
+          → or_none (cond b (Some (keys_in e.1)) (lookup (eq k) (map set_of es))) ≡ or_none (option_map keys_in (cond b (Some e.1) (lookup (λ a. eq k (arc_value a)) es)))
+      by_test true h = refl
+      by_test false h = h
+
+  -- one list is written, or taken out
+  pub set-put : (k : K) (a : Arc K A) (es fs : List (Arc K A × HashSet (Arc K B) S)) (o : Option (HashSet (Arc K B) S))
+      → ((q : Arc K A) → lookup (λ y. eq (arc_value q) (arc_value y)) fs ≡ cond (eq k (arc_value q)) o (lookup (λ y. eq (arc_value q) (arc_value y)) es))
+      → (q : K) → users_of eq (map set_of fs) q ≡ cond (eq k q) (or_none (option_map keys_in o)) (users_of eq (map set_of es) q)
+  set-put k a es fs o up q =
+      set-named q fs
+      ∙ (ap (λ p. or_none (option_map keys_in p)) (up (arc_with_value a q))
+      ∙ (by_test (eq k q) (lookup (λ y. eq q (arc_value y)) es)
+      ∙ ap (cond (eq k q) (or_none (option_map keys_in o))) (sym (set-named q es))))
+    where
+      by_test : (b : Bool) (p : Option (HashSet (Arc K B) S)) → or_none (option_map keys_in (cond b o p)) ≡ cond b (or_none (option_map keys_in o)) (or_none (option_map keys_in p))
+      by_test true p = refl
+      by_test false p = refl
+
+  -- what stands in the lists still does, where it does in the one that is written
+  pub set-more : (same : AreSame eq) (k : K) (a : Arc K A) (es fs : List (Arc K A × HashSet (Arc K B) S)) (p o : Option (HashSet (Arc K B) S)) → lookup (λ y. eq k (arc_value y)) es ≡ p
+      → ((q : Arc K A) → lookup (λ y. eq (arc_value q) (arc_value y)) fs ≡ cond (eq k (arc_value q)) o (lookup (λ y. eq (arc_value q) (arc_value y)) es))
+      → ((q : K) → Has (or_none (option_map keys_in p)) q → Has (or_none (option_map keys_in o)) q)
+      → (j q : K) → Has (users_of eq (map set_of es) j) q → Has (users_of eq (map set_of fs) j) q
+  set-more same k a es fs p o known up more j q h = subst (λ l. Has l q) (sym (set-put k a es fs o up j)) (by_test (eq k j) refl)
+    where
+      by_test : (b : Bool) → eq k j ≡ b → Has (cond b (or_none (option_map keys_in o)) (users_of eq (map set_of es) j)) q
+      by_test true e = more q (subst (λ l. Has l q) (set-named k es ∙ ap (λ x. or_none (option_map keys_in x)) known) (subst (λ n. Has (users_of eq (map set_of es) n) q) (sym (same k j e)) h))
+      by_test false e = h
+
+  -- what stands in the list that is written
+  pub set-has : (law : IsEquality eq) (k : K) (a : Arc K A) (es fs : List (Arc K A × HashSet (Arc K B) S)) (o : Option (HashSet (Arc K B) S))
+      → ((q : Arc K A) → lookup (λ y. eq (arc_value q) (arc_value y)) fs ≡ cond (eq k (arc_value q)) o (lookup (λ y. eq (arc_value q) (arc_value y)) es))
+      → (q : K) → Has (or_none (option_map keys_in o)) q → Has (users_of eq (map set_of fs) k) q
+  set-has law k a es fs o up q h = subst (λ l. Has l q) (sym (set-put k a es fs o up k ∙ ap (λ b. cond b (or_none (option_map keys_in o)) (users_of eq (map set_of es) k)) (law.itself k))) h
+
+module _ {K B : Type 0} (eq : K → K → Bool) (law : IsEquality eq) where
+  -- what is in a set stays there when one key is added
+  pub still_in : (old new : List (Arc K B)) (k : K) → ((q : K) → list_any (λ y. eq q (arc_value y)) new ≡ cond (eq k q) true (list_any (λ y. eq q (arc_value y)) old)) → (q : K) → Has (map arc_value old) q → Has (map arc_value new) q
+  still_in old new k marks q h =
+      any_has eq law (map arc_value new) q (any_map eq q new ∙ (marks q ∙ by_test (eq k q) (sym (any_map eq q old) ∙ any_of eq law (map arc_value old) q h)))
+    where
+      by_test : (b : Bool) → list_any (λ y. eq q (arc_value y)) old ≡ true → cond b true (list_any (λ y. eq q (arc_value y)) old) ≡ true
+      by_test true e = refl
+      by_test false e = e
+
+  -- and the key is there
+  pub now_in : (old new : List (Arc K B)) (k : K) → ((q : K) → list_any (λ y. eq q (arc_value y)) new ≡ cond (eq k q) true (list_any (λ y. eq q (arc_value y)) old)) → Has (map arc_value new) k
+  now_in old new k marks = any_has eq law (map arc_value new) k (any_map eq k new ∙ (marks k ∙ ap (λ b. cond b true (list_any (λ y. eq k (arc_value y)) old)) (law.itself k)))
+
+-- what was found, or that there is none
+pub of_found : {K B S : Type 0} (r : Option (Bor (HashSet (Arc K B) S))) (ks : List K) → or_none (option_map keys_in (option_copied r)) ≡ ks → MatchOption r (ks ≡ []) (λ s. map arc_value s.now.keys ≡ ks)
+of_found None ks e = sym e
+of_found (Some s) ks e = e

@@ -1,0 +1,212 @@
+-- Steps of the walk along recorded edges.
+use Rattle.std.proofs.Common.{◌≡◌, ◌≤◌, ◌+◌, ◌⊎◌, inl, inr, suc, Bool, true, false, not, cond, List, [], ◌∷◌, ◌++◌, length, filter, Some, refl, sym, ap, ◌∙◌, subst, arith, ℕ}
+use Rattle.std.specs.Map.{lookup}
+use Rattle.std.specs.List.{list_any}
+use Rattle.dice_key.specs.Lawful.{IsEquality}
+use Rattle.dice_model.specs.Log.{Has}
+use Rattle.versioned_graph.proofs.Sets.{any_end, any_has}
+use Rattle.versioned_graph.specs.Entries.{Stored}
+use Rattle.versioned_graph.specs.Edges.{is_edge, CommitReaches, changes, leads}
+use Rattle.versioned_graph.specs.Users.{or_none, users_of, IsIndexed, recorded_of}
+
+has_append : {X : Type 0} (xs ys : List X) (q : X) → Has (xs ++ ys) q → Has xs q ⊎ Has ys q
+has_append [] ys q h = inr h
+has_append (x ∷ xs) ys q (inl e) = inl (inl e)
+has_append (x ∷ xs) ys q (inr h) = elim (has_append xs ys q h) as (λ _. Has (x ∷ xs) q ⊎ Has ys q) [ inl i ↦ inl (inr i) | inr j ↦ inr j ]
+
+has_front : {X : Type 0} (xs ys : List X) (q : X) → Has xs q → Has (xs ++ ys) q
+has_front [] ys q h = absurd h
+has_front (x ∷ xs) ys q (inl e) = inl e
+has_front (x ∷ xs) ys q (inr h) = inr (has_front xs ys q h)
+
+has_back : {X : Type 0} (xs ys : List X) (q : X) → Has ys q → Has (xs ++ ys) q
+has_back [] ys q h = h
+has_back (x ∷ xs) ys q h = inr (has_back xs ys q h)
+
+-- what is left by a test is what passes it
+filter_has : {X : Type 0} (f : X → Bool) (xs : List X) (q : X) → Has (filter f xs) q → f q ≡ true
+filter_has f [] q h = absurd h
+filter_has f (x ∷ xs) q h = by_test (f x) refl (λ i. filter_has f xs q i) h
+  where
+    by_test : (b : Bool) → f x ≡ b → (Has (filter f xs) q → f q ≡ true) → Has (cond b (x ∷ filter f xs) (filter f xs)) q → f q ≡ true
+    by_test true e g (inl p) = subst (λ y. f y ≡ true) p e
+    by_test true e g (inr i) = g i
+    by_test false e g i = g i
+
+has_filter : {X : Type 0} (f : X → Bool) (xs : List X) (q : X) → Has xs q → f q ≡ true → Has (filter f xs) q
+has_filter f [] q h t = absurd h
+has_filter f (x ∷ xs) q (inl e) t = by_test (f x) (ap f e ∙ t)
+  where
+    by_test : (b : Bool) → b ≡ true → Has (cond b (x ∷ filter f xs) (filter f xs)) q
+    by_test true p = inl e
+    by_test false p = cc
+has_filter f (x ∷ xs) q (inr h) t = by_test (f x) (has_filter f xs q h t)
+  where
+    by_test : (b : Bool) → Has (filter f xs) q → Has (cond b (x ∷ filter f xs) (filter f xs)) q
+    by_test true i = inr i
+    by_test false i = i
+
+filter_length : {X : Type 0} (f : X → Bool) (xs : List X) → length (filter f xs) ≤ length xs
+filter_length f [] = omega arith
+filter_length f (x ∷ xs) = by_test (f x) (filter_length f xs)
+  where
+    by_test : (b : Bool) → length (filter f xs) ≤ length xs → length (cond b (x ∷ filter f xs) (filter f xs)) ≤ suc (length xs)
+    by_test true h = omega arith
+    by_test false h = omega arith
+
+module _ {K V : Type 0} (eq : K → K → Bool) (es : List (K × Stored K V)) (start : List K) where
+  -- what was reached leads to what was reached or is to do; and to all that was reached or is to do a chain leads
+  pub record IsWalk (reached todo : List K) : Type 0 where
+    pub begun : (q : K) → Has start q → Has reached q ⊎ Has todo q
+    pub closed : (a b : K) → Has reached a → is_edge eq es a b ≡ true → Has reached b ⊎ Has todo b
+    pub reached_led : (a : K) → Has reached a → CommitReaches eq es start a
+    pub todo_led : (a : K) → Has todo a → CommitReaches eq es start a
+
+  -- the same, with a set that has the reached keys
+  pub record IsReach (seen : K → Bool) (reached todo : List K) : Type 0 where
+    pub walk : IsWalk reached todo
+    pub same : (q : K) → seen q ≡ list_any (eq q) reached
+
+  pub walk_begins : (reached todo : List K) → reached ≡ [] → todo ≡ start → IsWalk reached todo
+  walk_begins reached todo n e = record {
+    begun = λ q h. inr (subst (λ t. Has t q) (sym e) h);
+    closed = λ a b h. absurd (subst (λ t. Has t a) n h);
+    reached_led = λ a h. absurd (subst (λ t. Has t a) n h);
+    todo_led = λ a h. changes (subst (λ t. Has t a) e h);
+  }
+
+  pub walk_ends : (reached todo : List K) → IsWalk reached todo → todo ≡ [] → (q : K) → CommitReaches eq es start q → Has reached q
+  walk_ends reached todo w e q (changes h) = of q (w.begun q h)
+    where
+      of : (x : K) → Has reached x ⊎ Has todo x → Has reached x
+      of x (inl s) = s
+      of x (inr i) = absurd (subst (λ t. Has t x) e i)
+  walk_ends reached todo w e q (leads {j = j} p h) = of q (w.closed j q (walk_ends reached todo w e j p) h)
+    where
+      of : (x : K) → Has reached x ⊎ Has todo x → Has reached x
+      of x (inl s) = s
+      of x (inr i) = absurd (subst (λ t. Has t x) e i)
+
+  module _ (us : List (K × List K)) (indexed : IsIndexed eq es us) (reached todo rest : List K) (key : K) (w : IsWalk reached todo) (split : todo ≡ rest ++ key ∷ []) where
+    key_led : CommitReaches eq es start key
+    key_led = w.todo_led key (subst (λ t. Has t key) (sym split) (has_back rest (key ∷ []) key (inl refl)))
+
+    -- a key that was not reached yet
+    pub walk_more : IsWalk (reached ++ key ∷ []) (rest ++ recorded_of eq es us key)
+    walk_more = record {
+      begun = λ q h. on q (w.begun q h);
+      closed = λ a b h e. elim (has_append reached (key ∷ []) a h) as (λ _. Has (reached ++ key ∷ []) b ⊎ Has (rest ++ recorded_of eq es us key) b) [
+        | inl i ↦ on b (w.closed a b i e)
+        | inr j ↦ elim j as (λ _. Has (reached ++ key ∷ []) b ⊎ Has (rest ++ recorded_of eq es us key) b) [
+          | inl p ↦ (let f = subst (λ x. is_edge eq es x b ≡ true) (sym p) e in inr (has_back rest (recorded_of eq es us key) b (has_filter (is_edge eq es key) (users_of eq us key) b (indexed key b f) f)))
+          | inr n ↦ absurd n
+        ]
+      ];
+      reached_led = λ a h. elim (has_append reached (key ∷ []) a h) as (λ _. CommitReaches eq es start a) [
+        | inl i ↦ w.reached_led a i
+        | inr j ↦ elim j as (λ _. CommitReaches eq es start a) [ inl p ↦ subst (CommitReaches eq es start) p key_led | inr n ↦ absurd n ]
+      ];
+      todo_led = λ a h. elim (has_append rest (recorded_of eq es us key) a h) as (λ _. CommitReaches eq es start a) [
+        | inl i ↦ w.todo_led a (subst (λ t. Has t a) (sym split) (has_front rest (key ∷ []) a i))
+        | inr j ↦ leads key_led (filter_has (is_edge eq es key) (users_of eq us key) a j)
+      ];
+    }
+      where
+        on : (q : K) → Has reached q ⊎ Has todo q → Has (reached ++ key ∷ []) q ⊎ Has (rest ++ recorded_of eq es us key) q
+        on q (inl s) = inl (has_front reached (key ∷ []) q s)
+        on q (inr h) = elim (has_append rest (key ∷ []) q (subst (λ t. Has t q) split h)) as (λ _. Has (reached ++ key ∷ []) q ⊎ Has (rest ++ recorded_of eq es us key) q) [
+          | inl i ↦ inr (has_front rest (recorded_of eq es us key) q i)
+          | inr j ↦ elim j as (λ _. Has (reached ++ key ∷ []) q ⊎ Has (rest ++ recorded_of eq es us key) q) [ inl e ↦ inl (has_back reached (key ∷ []) q (inl e)) | inr n ↦ absurd n ]
+        ]
+
+  module _ (reached todo rest : List K) (key : K) (w : IsWalk reached todo) (split : todo ≡ rest ++ key ∷ []) where
+    -- a key that was reached before
+    pub walk_same : Has reached key → IsWalk reached rest
+    walk_same k = record {
+      begun = λ q h. same q (w.begun q h);
+      closed = λ a b h e. same b (w.closed a b h e);
+      reached_led = w.reached_led;
+      todo_led = λ a h. w.todo_led a (subst (λ t. Has t a) (sym split) (has_front rest (key ∷ []) a h));
+    }
+      where
+        same : (q : K) → Has reached q ⊎ Has todo q → Has reached q ⊎ Has rest q
+        same q (inl s) = inl s
+        same q (inr h) = elim (has_append rest (key ∷ []) q (subst (λ t. Has t q) split h)) as (λ _. Has reached q ⊎ Has rest q) [
+          | inl i ↦ inr i
+          | inr j ↦ elim j as (λ _. Has reached q ⊎ Has rest q) [ inl e ↦ inl (subst (Has reached) e k) | inr n ↦ absurd n ]
+        ]
+
+-- how many users are those of keys that were not seen
+abbrev pub unseen : {K : Type 0} → (K → Bool) → List (K × List K) → ℕ
+unseen seen [] = 0
+unseen seen (p ∷ ps) = cond (seen p.0) 0 (length p.1) + unseen seen ps
+
+module _ {K : Type 0} (eq : K → K → Bool) (law : IsEquality eq) (seen later : K → Bool) (key : K) (marks : (q : K) → later q ≡ cond (eq key q) true (seen q)) where
+  unseen_falls : (us : List (K × List K)) → unseen later us ≤ unseen seen us
+  unseen_falls [] = omega arith
+  unseen_falls (p ∷ ps) = by_seen (eq key p.0) (seen p.0) (marks p.0) (unseen_falls ps)
+    where
+      by_seen : (b s : Bool) → later p.0 ≡ cond b true s → unseen later ps ≤ unseen seen ps → cond (later p.0) 0 (length p.1) + unseen later ps ≤ cond s 0 (length p.1) + unseen seen ps
+      by_seen true s m h = rw m (by_zero s)
+        where
+          by_zero : (s : Bool) → 0 + unseen later ps ≤ cond s 0 (length p.1) + unseen seen ps
+          by_zero true = omega arith
+          by_zero false = omega arith
+      by_seen false s m h = rw m (by_same s)
+        where
+          by_same : (s : Bool) → cond s 0 (length p.1) + unseen later ps ≤ cond s 0 (length p.1) + unseen seen ps
+          by_same true = omega arith
+          by_same false = omega arith
+
+  -- the list of a key that is seen now counts no more
+  pub unseen_less : (us : List (K × List K)) → seen key ≡ false → unseen later us + length (users_of eq us key) ≤ unseen seen us
+  unseen_less [] n = omega arith
+  unseen_less (p ∷ ps) n = by_test (eq key p.0) refl (unseen_less ps n) (unseen_falls ps)
+    where
+      by_test : (b : Bool) → eq key p.0 ≡ b → unseen later ps + length (users_of eq ps key) ≤ unseen seen ps → unseen later ps ≤ unseen seen ps
+          → cond (later p.0) 0 (length p.1) + unseen later ps + length (or_none (cond b (Some p.1) (lookup (eq key) ps))) ≤ cond (seen p.0) 0 (length p.1) + unseen seen ps
+      by_test true t a f =
+          let l : later p.0 ≡ true = marks p.0 ∙ ap (λ b. cond b true (seen p.0)) t in
+          let s : seen p.0 ≡ false = subst (λ x. seen x ≡ false) (law.same key p.0 t) n in
+          rw (l, s) (omega arith)
+      by_test false t a f =
+          let l : later p.0 ≡ seen p.0 = marks p.0 ∙ ap (λ b. cond b true (seen p.0)) t in
+          rw l (omega arith)
+
+module _ {K V : Type 0} (eq : K → K → Bool) (es : List (K × Stored K V)) (us : List (K × List K)) where
+  pub recorded_length : (k : K) → length (recorded_of eq es us k) ≤ length (users_of eq us k)
+  recorded_length k = filter_length (is_edge eq es k) (users_of eq us k)
+
+module _ {K V : Type 0} (eq : K → K → Bool) (es : List (K × Stored K V)) (start : List K) where
+  pub reach_begins : (seen : K → Bool) (reached todo : List K) → reached ≡ [] → todo ≡ start → ((q : K) → seen q ≡ false) → IsReach eq es start seen reached todo
+  reach_begins seen reached todo n e f = record { walk = walk_begins eq es start reached todo n e; same = λ q. f q ∙ ap (list_any (eq q)) (sym n) }
+
+module _ {K V : Type 0} (eq : K → K → Bool) (law : IsEquality eq) (es : List (K × Stored K V)) (start : List K) where
+  pub reach_more : (us : List (K × List K)) (indexed : IsIndexed eq es us) (seen later : K → Bool) (reached todo rest : List K) (key : K) → IsReach eq es start seen reached todo → todo ≡ rest ++ key ∷ [] → ((q : K) → later q ≡ cond (eq key q) true (seen q))
+      → (reached' todo' : List K) → reached' ≡ reached ++ key ∷ [] → todo' ≡ rest ++ recorded_of eq es us key → IsReach eq es start later reached' todo'
+  reach_more us indexed seen later reached todo rest key w split marks reached' todo' p q = record {
+    walk = subst (λ t. IsWalk eq es start reached' t) (sym q) (subst (λ r. IsWalk eq es start r (rest ++ recorded_of eq es us key)) (sym p) (walk_more eq es start us indexed reached todo rest key w.walk split));
+    same = λ x. marks x ∙ (ap (cond (eq key x) true) (w.same x) ∙ (sym (any_end eq law x key reached) ∙ ap (list_any (eq x)) (sym p)));
+  }
+
+  pub reach_same : (seen later : K → Bool) (reached todo rest : List K) (key : K) → IsReach eq es start seen reached todo → todo ≡ rest ++ key ∷ [] → ((q : K) → later q ≡ cond (eq key q) true (seen q)) → seen key ≡ true → IsReach eq es start later reached rest
+  reach_same seen later reached todo rest key w split marks old = record {
+    walk = walk_same eq es start reached todo rest key w.walk split (any_has eq law reached key (sym (w.same key) ∙ old));
+    same = λ x. marks x ∙ (by_test x (eq key x) refl ∙ w.same x);
+  }
+    where
+      by_test : (x : K) (b : Bool) → eq key x ≡ b → cond b true (seen x) ≡ seen x
+      by_test x true e = sym (subst (λ n. seen n ≡ true) (law.same key x e) old)
+      by_test x false e = refl
+
+pub was_new : (b x : Bool) → x ≡ not b → x ≡ true → b ≡ false
+was_new true x e t = let z : true ≡ not true = sym t ∙ e in cc
+was_new false x e t = refl
+
+pub was_seen : (b x : Bool) → x ≡ not b → x ≡ false → b ≡ true
+was_seen false x e t = let z : false ≡ not false = sym t ∙ e in cc
+was_seen true x e t = refl
+
+pub is_empty_list : {X : Type 0} (xs : List X) → length xs ≡ 0 → xs ≡ []
+is_empty_list [] e = refl
+is_empty_list (x ∷ xs) e = absurd (let l : length (x ∷ xs) ≡ suc (length xs) = refl in omega arith)

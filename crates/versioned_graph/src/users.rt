@@ -1,0 +1,70 @@
+//! Which keys may use a key.
+ghost use Rattle.std.specs.Prelude.{◌≡◌, List, [], map, if◌then◌else◌, OnOk, MatchOption};
+ghost use Rattle.std.specs.Arc.{arc_value};
+ghost use Rattle.dice_model.specs.Log.{Has};
+ghost use Rattle.versioned_graph.specs.Users.{users_of};
+
+use dice_key::{NoMemory, Universe, laws_of};
+use std::alloc::Global;
+use std::collections::{HashMap, HashSet};
+use std::marker::Model;
+use std::sync::Arc;
+
+/// For each key those that were recorded to use it, each once. One stays there after its edge was taken away, until those of the key
+/// are forgotten together.
+#[derive(Drop)]
+pub(crate) struct Users<U: Universe> {
+    alloc: Global,
+    sets: HashMap<Arc<U::Key>, HashSet<Arc<U::Key>>>,
+}
+
+impl<U: Universe> Model for Users<U> {
+    ghost use Rattle.std.specs.Prelude.{List, map};
+    ghost use Rattle.versioned_graph.specs.Users.{set_of};
+
+    ghost Value = { List (U.Key × List U.Key) };
+
+    ghost view = { λ u. map set_of u.sets.entries };
+}
+
+impl<U: Universe> Users<U> {
+    /// None yet. It takes no memory.
+    pub(crate) fn new(alloc: Global) -> Users<U>
+        ensures { result ≡ [] }
+    {
+        Users {
+            alloc,
+            sets: HashMap::new(alloc),
+        }
+    }
+
+    /// The users of a key, if any were recorded.
+    pub(crate) fn of(&self, key: &Arc<U::Key>) -> Option<&HashSet<Arc<U::Key>>>
+        ensures { MatchOption result (users_of U.Key.eq self.now (arc_value key.now) ≡ []) (λ s. map arc_value s.now.keys ≡ users_of U.Key.eq self.now (arc_value key.now)) }
+    {
+        self.sets.get(key)
+    }
+
+    /// Adds a user of a key.
+    pub(crate) fn add(&mut self, key: &Arc<U::Key>, user: &Arc<U::Key>) -> Result<(), NoMemory>
+        ensures ok { OnOk result (Has (users_of U.Key.eq self.new (arc_value key.now)) (arc_value user.now)) }
+        ensures stay { (j : U.Key) (q : U.Key) → Has (users_of U.Key.eq self.old j) q → Has (users_of U.Key.eq self.new j) q }
+    {
+        laws_of::<U>();
+        if let Some(set) = self.sets.get_mut(key) {
+            set.insert(Arc::try_clone(user)?)?;
+            return Ok(());
+        }
+        let mut set = HashSet::new(self.alloc);
+        set.insert(Arc::try_clone(user)?)?;
+        self.sets.insert(Arc::try_clone(key)?, set)?;
+        Ok(())
+    }
+
+    /// Forgets the users of a key. It takes no memory.
+    pub(crate) fn forget(&mut self, key: &Arc<U::Key>)
+        ensures { (j : U.Key) → users_of U.Key.eq self.new j ≡ (if U.Key.eq (arc_value key.now) j then [] else users_of U.Key.eq self.old j) }
+    {
+        self.sets.remove(key);
+    }
+}
