@@ -4,6 +4,7 @@ use crate::fault::Fault;
 use crate::package_file::PackageFile;
 use crate::rule::Rule;
 use buck_label::Text;
+use std::hash::{Hash, Hasher};
 
 /// The text of an action.
 #[derive(PartialEq, Eq, Drop)]
@@ -27,4 +28,21 @@ pub enum Value {
     Action(Result<ActionText, Fault>),
     /// The SHA-256 of an action's text.
     Digest(Result<[u8; 32], Fault>),
+}
+
+/// Only the value of a source is ever set, and so only such values are hashed apart: by the hash that their text keeps.
+impl Hash for Value {
+    ghost use Rattle.std.proofs.Common.{ap};
+    ghost use Rattle.action_digest.specs.Same.{values_equal};
+    ghost use Rattle.action_digest.specs.Hashed.{hashed};
+
+    ghost hash_input = { hashed };
+
+    ghost respects_eq = { λ x y e. ap hashed (values_equal x y e) };
+
+    fn hash<H: Hasher>(&self, state: &mut H) {
+        if let Value::Source(text) = self {
+            text.hash(state);
+        }
+    }
 }

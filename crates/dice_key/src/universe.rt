@@ -55,8 +55,9 @@ pub trait Universe: Send + Sync + Drop {
     /// What is asked for.
     type Key: Ord + Eq + Hash + Send + Sync + Drop;
 
-    /// What a key comes to.
-    type Value: Eq + Send + Sync + Drop;
+    /// What a key comes to. It is hashed since the values that an injected key was set to are numbered by what they are: so only
+    /// those values need to be hashed apart.
+    type Value: Eq + Hash + Send + Sync + Drop;
 
     /// A key on its way to its value.
     type Run: Send + Drop;

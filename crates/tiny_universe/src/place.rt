@@ -18,7 +18,7 @@ pub enum Place {
 }
 
 /// A value.
-#[derive(Clone, Copy, Debug, PartialEq, Eq)]
+#[derive(Clone, Copy, Debug, PartialEq, Eq, Hash)]
 pub enum Value {
     /// A number, which may be used again at later versions.
     Number(u64),
