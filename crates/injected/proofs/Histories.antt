@@ -1,19 +1,13 @@
 -- The sets of a key, at places and in parts.
-use Rattle.std.proofs.Common.{◌≡◌, ◌≤◌, ◌<◌, ◌+◌, ◌-◌, ℕ, zero, suc, false, cond, leb, List, [], ◌∷◌, ◌++◌, length, get_or, take, drop, refl, ap, sym, ◌∙◌, subst, inl, inr, arith}
-use Rattle.std.specs.declared.sync.Arc.{Arc}
+use Rattle.std.proofs.Common.{◌≡◌, ◌≤◌, ◌<◌, ◌+◌, ◌-◌, ℕ, zero, suc, cond, leb, List, [], ◌∷◌, ◌++◌, length, get_or, take, drop, refl, ap, sym, ◌∙◌, subst, inl, inr, arith}
 use Rattle.std.specs.List.{AllAdjacentBelow}
 use Rattle.std.specs.List.Sorted.{IsNonDecreasingBy}
-use Rattle.std.proofs.lemmas.Bool.{le-leb, lt-leb, leb-false, cases_lt}
-use Rattle.std.proofs.lemmas.List.{drop_more, drop_all, take_more, take-append-drop, append_assoc, drop-map}
+use Rattle.std.proofs.lemmas.Bool.{le-leb, lt-leb, cases_lt}
+use Rattle.std.proofs.lemmas.List.{drop_more, drop_all, take_more, take-append-drop, append_assoc}
 use Rattle.std.proofs.lemmas.List.Sorted.{IsNonDecreasingBy-from_all_adjacent}
-use Rattle.injected.specs.History.{set_of, sets_of, value_at, newest_of, AllBelow, FirstAbove, IsRising}
+use Rattle.injected.specs.History.{value_at, newest_of, AllBelow, FirstAbove, IsRising}
 
 module _ {V : Type 0} where
-  pub rising-drop : (n : ℕ) (h : List (ℕ × V)) → IsRising h → IsRising (drop n h)
-  rising-drop zero h r = r
-  rising-drop (suc n) [] r = r
-  rising-drop (suc n) (s ∷ ss) r = rising-drop n ss r.1
-
   above_more : (v w : ℕ) (h : List (ℕ × V)) → v < w → FirstAbove w h → FirstAbove v h
   above_more v w [] l f = tt
   above_more v w (s ∷ ss) l f = omega arith
@@ -88,23 +82,17 @@ module _ {V : Type 0} where
   below_push [] s w b l = (l, tt)
   below_push (t ∷ ts) s w b l = (b.0, below_push ts s w b.1 l)
 
-module _ {V B : Type 0} where
-  pub place : (ss : List (ℕ × Arc V B)) (i : ℕ) (d : ℕ × Arc V B) → i < length ss → get_or (sets_of ss) i (set_of d) ≡ set_of (get_or ss i d)
-  place [] i d l = absurd (omega arith)
-  place (s ∷ ss) zero d l = refl
-  place (s ∷ ss) (suc i) d l = place ss i d (omega arith)
+  rising_rest : (n : ℕ) (h : List (ℕ × V)) → IsRising h → IsRising (drop n h)
+  rising_rest zero h r = r
+  rising_rest (suc n) [] r = r
+  rising_rest (suc n) (s ∷ ss) r = rising_rest n ss r.1
 
-  pub versions_rise : (ss : List (ℕ × Arc V B)) → IsRising (sets_of ss) → IsNonDecreasingBy (λ (s : ℕ × Arc V B). s.0) ss
-  versions_rise ss r = IsNonDecreasingBy-from_all_adjacent (λ (s : ℕ × Arc V B). s.0) ss adjacent
+  pub versions_rise : (h : List (ℕ × V)) → IsRising h → IsNonDecreasingBy (λ (s : ℕ × V). s.0) h
+  versions_rise h r = IsNonDecreasingBy-from_all_adjacent (λ (s : ℕ × V). s.0) h adjacent
     where
-      adjacent : AllAdjacentBelow (λ (x : ℕ × Arc V B) (y : ℕ × Arc V B). x.0 ≤ y.0) ss (length ss)
-      adjacent k d h =
-          let here : drop k ss ≡ get_or ss k d ∷ drop (k + 1) ss = drop_more ss k d (omega arith) in
-          let next : drop (k + 1) ss ≡ get_or ss (k + 1) d ∷ drop ((k + 1) + 1) ss = drop_more ss (k + 1) d (omega arith) in
-          let rest : IsRising (sets_of (drop k ss)) = subst IsRising (drop-map set_of k ss) (rising-drop k (sets_of ss) r) in
-          let two : IsRising (sets_of (get_or ss k d ∷ get_or ss (k + 1) d ∷ drop ((k + 1) + 1) ss)) = subst (λ xs. IsRising (sets_of (get_or ss k d ∷ xs))) next (subst (λ xs. IsRising (sets_of xs)) here rest) in
+      adjacent : AllAdjacentBelow (λ (x : ℕ × V) (y : ℕ × V). x.0 ≤ y.0) h (length h)
+      adjacent k d l =
+          let here : drop k h ≡ get_or h k d ∷ drop (k + 1) h = drop_more h k d (omega arith) in
+          let next : drop (k + 1) h ≡ get_or h (k + 1) d ∷ drop ((k + 1) + 1) h = drop_more h (k + 1) d (omega arith) in
+          let two : IsRising (get_or h k d ∷ get_or h (k + 1) d ∷ drop ((k + 1) + 1) h) = subst (λ xs. IsRising (get_or h k d ∷ xs)) next (subst IsRising here (rising_rest k h r)) in
           omega (arith, two.0)
-
-  pub value_of_none : (x : V) (ss : List (ℕ × Arc V B)) (v : ℕ) → IsRising (sets_of ss) → ((k : ℕ) (d : ℕ × Arc V B) → k < length ss → leb (get_or ss k d).0 v ≡ false) → x ≡ value_at x (sets_of ss) v
-  value_of_none x [] v r f = refl
-  value_of_none x (s ∷ ss) v r f = sym (unmoved x (sets_of (s ∷ ss)) v (leb-false s.0 v (f 0 s (omega arith))) r)

@@ -1,14 +1,5 @@
 -- The sets of one key in order, each a version and a value, and what they make of a version.
-use Rattle.std.specs.Prelude.{ℕ, ◌<◌, nat_le, if◌then◌else◌, List, [], ◌∷◌, map}
-use Rattle.std.specs.Arc.{arc_value}
-use Rattle.std.specs.declared.sync.Arc.{Arc}
-
--- a set, without where its value lies in memory
-abbrev pub set_of : {V B : Type 0} → ℕ × Arc V B → ℕ × V
-set_of s = (s.0, arc_value s.1)
-
-abbrev pub sets_of : {V B : Type 0} → List (ℕ × Arc V B) → List (ℕ × V)
-sets_of ss = map set_of ss
+use Rattle.std.specs.Prelude.{ℕ, ◌<◌, nat_le, if◌then◌else◌, List, [], ◌∷◌}
 
 module _ {V : Type 0} where
   -- the value of the last set at or below version v, else x

@@ -1,11 +1,10 @@
 -- What contracts see of cells.
-use Rattle.std.specs.Prelude.{◌≡◌, ℕ, ◌+◌, ◌-◌, Bool, if◌then◌else◌, List, [], Option, Some, None, vec_len, vec_capacity}
+use Rattle.std.specs.Prelude.{◌≡◌, ℕ, ◌+◌, Bool, if◌then◌else◌, List, [], Option, Some, None}
 use Rattle.std.specs.Arc.{arc_value}
 use Rattle.std.specs.declared.sync.Arc.{Arc}
-use Rattle.std.specs.declared.vec.Vec.{Vec}
 use Rattle.std.specs.Map.{lookup}
 use Rattle.dice_key.specs.Meaning.{Meaning}
-use Rattle.injected.specs.History.{sets_of, value_at, newest_of, AllBelow, IsRising}
+use Rattle.injected.specs.History.{value_at, newest_of, AllBelow, IsRising}
 
 -- what is kept of a key: for how many sets there is room, and the sets so far
 pub record Cell (V : Type 0) : Type 0 where
@@ -17,11 +16,9 @@ pub record Seen (K V : Type 0) : Type 0 where
   pub cells : List (K × Cell V)
   pub last : ℕ
 
-abbrev pub cell_of : {V B C : Type 0} → Vec (ℕ × Arc V B) C → Cell V
-cell_of h = record { room = vec_capacity h - vec_len h; sets = sets_of h.items }
-
-abbrev pub named : {K V A B C : Type 0} → Arc K A × Vec (ℕ × Arc V B) C → K × Cell V
-named e = (arc_value e.0, cell_of e.1)
+-- a key and its cell, without where the key lies in memory
+abbrev pub named : {K V A : Type 0} → Arc K A × Cell V → K × Cell V
+named e = (arc_value e.0, e.1)
 
 -- the sets of a cell, and its room, where there is one
 abbrev pub sets_in : {V : Type 0} → Option (Cell V) → List (ℕ × V)

@@ -2,11 +2,13 @@
 ghost use Rattle.std.specs.Prelude.{◌≡◌, ℕ, ◌<◌, ◌≤◌, nat_lt, max, false, [], ◌∷◌, ◌++◌, if◌then◌else◌, map, IfOk, OnOk, OnErr, IsOk, IsSome};
 ghost use Rattle.std.specs.Arc.{arc_value};
 ghost use Rattle.std.specs.Map.{lookup};
+ghost use Rattle.std.specs.Option.{option_copied};
+ghost use Rattle.dice_key.specs.Lawful.{IsEquality};
 ghost use Rattle.version_ranges.specs.Members.{contains, is_open};
-ghost use Rattle.injected.specs.History.{sets_of, AllBelow, IsRising};
+ghost use Rattle.injected.specs.History.{AllBelow, IsRising};
 ghost use Rattle.injected.specs.Seen.{named, sets_in, room_in, sets_at, room_at, cell_at, newest_at, Writes};
 
-use crate::history::{newest, ranges_with, value_at};
+use crate::history::{History, always};
 use dice_key::{NoMemory, Universe, laws_of};
 use std::alloc::Global;
 use std::collections::HashMap;
@@ -23,7 +25,7 @@ use version_ranges::Ranges;
 pub struct Cells<U: Universe> {
     alloc: Global,
     universe: Arc<U>,
-    histories: HashMap<Arc<U::Key>, Vec<(u64, Arc<U::Value>)>>,
+    histories: HashMap<Arc<U::Key>, History<U::Value>>,
     pub(crate) last: u64,
 }
 
@@ -94,26 +96,38 @@ impl<U: Universe> Cells<U> {
     pub fn at(&self, version: u64, key: &Arc<U::Key>) -> &Arc<U::Value>
         ensures { arc_value result.now ≡ cell_at U.Key.eq U.meaning self.now version (arc_value key.now) }
     {
-        value_at(self.universe.absent(key), self.sets(key), version)
+        let absent = self.universe.absent(key);
+        match self.history(key) {
+            Some(history) => history.at(absent, version),
+            None => absent,
+        }
     }
 
     /// The key's newest value.
     pub fn newest(&self, key: &Arc<U::Key>) -> &Arc<U::Value>
         ensures { arc_value result.now ≡ newest_at U.Key.eq U.meaning self.now (arc_value key.now) }
     {
-        newest(self.universe.absent(key), self.sets(key))
+        let absent = self.universe.absent(key);
+        match self.history(key) {
+            Some(history) => history.newest(absent),
+            None => absent,
+        }
     }
 
     /// The versions at which the key's value equals that at the version; open where the newest does.
-    /// The cost is linear in the number of the key's sets.
+    /// The cost is linear in the number of the key's sets, and of values only the wanted one is hashed and looked up, and
+    /// compared with the absent one.
     pub fn ranges_of(&self, version: u64, key: &Arc<U::Key>) -> Result<Ranges, NoMemory>
         ensures members { IfOk result (λ r. (w : ℕ) → contains r w ≡ U.Value.eq (cell_at U.Key.eq U.meaning self.now w (arc_value key.now)) (cell_at U.Key.eq U.meaning self.now version (arc_value key.now))) }
         ensures tail { IfOk result (λ r. is_open r ≡ U.Value.eq (newest_at U.Key.eq U.meaning self.now (arc_value key.now)) (cell_at U.Key.eq U.meaning self.now version (arc_value key.now))) }
     {
+        laws_of::<U>();
+        let Some(history) = self.history(key) else {
+            return always(self.alloc);
+        };
         let absent = self.universe.absent(key);
-        let sets = self.sets(key);
-        let wanted = value_at(absent, sets, version);
-        ranges_with(self.alloc, absent, sets, wanted)
+        let wanted = history.at(absent, version);
+        history.ranges_with(self.alloc, absent, wanted)
     }
 
     /// The greatest version at which anything was set; 0 if nothing was.
@@ -123,23 +137,20 @@ impl<U: Universe> Cells<U> {
         self.last
     }
 
-    /// The key's sets, in order.
-    fn sets(&self, key: &Arc<U::Key>) -> &[(u64, Arc<U::Value>)]
-        ensures value { sets_of result.now ≡ sets_at U.Key.eq self.now (arc_value key.now) }
-        ensures rising { IsRising (sets_of result.now) }
+    /// The key's sets, if there was ever room for one.
+    fn history(&self, key: &Arc<U::Key>) -> Option<&History<U::Value>>
+        ensures cell { option_copied result ≡ lookup (U.Key.eq (arc_value key.now)) self.now.cells }
+        ensures rising { IsRising (sets_at U.Key.eq self.now (arc_value key.now)) }
     {
-        match self.histories.get(key) {
-            Some(sets) => sets.as_slice(),
-            None => &[],
-        }
+        self.histories.get(key)
     }
 
     /// Whether there is room for one more set of the key.
     fn has_room(&self, key: &Arc<U::Key>) -> bool
         ensures { result ≡ nat_lt 0 (room_at U.Key.eq self.now (arc_value key.now)) }
     {
-        match self.histories.get(key) {
-            Some(sets) => sets.len() < sets.capacity(),
+        match self.history(key) {
+            Some(history) => history.room() > 0,
             None => false,
         }
     }
@@ -159,9 +170,9 @@ impl<U: Universe> Cells<U> {
 }
 
 /// Makes room for one more set of a key.
-fn make_room<K: Eq + Hash + Drop, V: Drop>(
+fn make_room<K: Eq + Hash + Drop, V: Eq + Hash + Drop>(
     alloc: Global,
-    histories: &mut HashMap<Arc<K>, Vec<(u64, Arc<V>)>>,
+    histories: &mut HashMap<Arc<K>, History<V>>,
     key: Arc<K>,
 ) -> Result<(), NoMemory>
     ensures ok { OnOk result ((room : ℕ) × (0 < room) × Writes K.eq (map named histories.old.entries) (map named histories.new.entries) (arc_value key) (record { room = room; sets = sets_in (lookup (K.eq (arc_value key)) (map named histories.old.entries)) })) }
@@ -170,14 +181,14 @@ fn make_room<K: Eq + Hash + Drop, V: Drop>(
     if histories.contains_key(&key) {
         return reserve_more(histories, &key);
     }
-    let sets = Vec::with_capacity(alloc, 1)?;
-    histories.insert(key, sets)?;
+    let history = History::with_room(alloc)?;
+    histories.insert(key, history)?;
     Ok(())
 }
 
 /// Makes room for one more set of a key that is there.
-fn reserve_more<K: Eq + Hash + Drop, V: Drop>(
-    histories: &mut HashMap<Arc<K>, Vec<(u64, Arc<V>)>>,
+fn reserve_more<K: Eq + Hash + Drop, V: Eq + Hash + Drop>(
+    histories: &mut HashMap<Arc<K>, History<V>>,
     key: &Arc<K>,
 ) -> Result<(), NoMemory>
     requires { IsSome (lookup (K.eq (arc_value key.now)) (map named histories.old.entries)) }
@@ -185,26 +196,24 @@ fn reserve_more<K: Eq + Hash + Drop, V: Drop>(
     ensures err { OnErr result (map named histories.new.entries ≡ map named histories.old.entries) }
 {
     match histories.get_mut(key) {
-        Some(sets) => {
-            sets.reserve(1)?;
-            Ok(())
-        }
+        Some(history) => history.reserve(),
         None => unreachable!(),
     }
 }
 
 /// Adds a set of a key that has room for it.
-fn push_set<K: Eq + Hash + Drop, V: Drop>(
-    histories: &mut HashMap<Arc<K>, Vec<(u64, Arc<V>)>>,
+fn push_set<K: Eq + Hash + Drop, V: Eq + Hash + Drop>(
+    histories: &mut HashMap<Arc<K>, History<V>>,
     version: u64,
     key: &Arc<K>,
     value: Arc<V>,
 )
-    requires { 0 < room_in (lookup (K.eq (arc_value key.now)) (map named histories.old.entries)) }
+    requires laws { IsEquality V.eq }
+    requires room { 0 < room_in (lookup (K.eq (arc_value key.now)) (map named histories.old.entries)) }
     ensures { (room : ℕ) × Writes K.eq (map named histories.old.entries) (map named histories.new.entries) (arc_value key.now) (record { room = room; sets = sets_in (lookup (K.eq (arc_value key.now)) (map named histories.old.entries)) ++ (version, arc_value value) ∷ [] }) }
 {
     match histories.get_mut(key) {
-        Some(sets) => sets.push((version, value)).unwrap(),
+        Some(history) => history.push(version, value),
         None => unreachable!(),
     }
 }

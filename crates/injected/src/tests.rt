@@ -40,17 +40,29 @@ fn the_last_set_at_or_below_a_version_has_the_value(rt: HostRuntime) -> Result<(
     crosses(&cells);
     let key = Arc::new(alloc, Place::Cell(7))?;
     assert_eq!(rt; cells.last(), 0);
-    assert!(rt; put(alloc, &mut cells, 1, &key, 1)? && put(alloc, &mut cells, 3, &key, 2)?);
-    cells.reserve(Arc::try_clone(&key)?)?;
-    assert!(rt; put(alloc, &mut cells, 4, &key, 1)?);
-    for (version, value) in [(0, 0), (1, 1), (2, 1), (3, 2), (4, 1), (9, 1)] {
-        assert!(rt; **cells.at(version, &key) == Value::Number(value));
+    for (version, value) in [(1, 1), (3, 2), (4, 3), (6, 1), (7, 0)] {
+        assert!(rt; put(alloc, &mut cells, version, &key, value)?);
     }
-    assert!(rt; **cells.newest(&key) == Value::Number(1));
-    assert!(rt; lists(&cells.ranges_of(2, &key)?, &[(1, Some(3)), (4, None)]));
-    assert!(rt; lists(&cells.ranges_of(3, &key)?, &[(3, Some(4))]));
-    assert!(rt; lists(&cells.ranges_of(0, &key)?, &[(0, Some(1))]));
-    assert_eq!(rt; cells.last(), 4);
+    cells.reserve(Arc::try_clone(&key)?)?;
+    assert!(rt; put(alloc, &mut cells, 9, &key, 2)? && put(alloc, &mut cells, 10, &key, 2)?);
+    let rows: [(u64, u64, &[(u64, Option<u64>)]); 10] = [
+        (0, 0, &[(0, Some(1)), (7, Some(9))]),
+        (1, 1, &[(1, Some(3)), (6, Some(7))]),
+        (2, 1, &[(1, Some(3)), (6, Some(7))]),
+        (3, 2, &[(3, Some(4)), (9, None)]),
+        (5, 3, &[(4, Some(6))]),
+        (6, 1, &[(1, Some(3)), (6, Some(7))]),
+        (7, 0, &[(0, Some(1)), (7, Some(9))]),
+        (8, 0, &[(0, Some(1)), (7, Some(9))]),
+        (9, 2, &[(3, Some(4)), (9, None)]),
+        (12, 2, &[(3, Some(4)), (9, None)]),
+    ];
+    for (version, value, ranges) in rows {
+        assert!(rt; **cells.at(version, &key) == Value::Number(value));
+        assert!(rt; lists(&cells.ranges_of(version, &key)?, ranges));
+    }
+    assert!(rt; **cells.newest(&key) == Value::Number(2));
+    assert_eq!(rt; cells.last(), 10);
     let other = Arc::new(alloc, Place::Cell(8))?;
     assert!(rt; **cells.at(9, &other) == Value::Number(0));
     assert!(rt; lists(&cells.ranges_of(5, &other)?, &[(0, None)]));

@@ -1,9 +1,8 @@
 -- A key that is not there gets an empty history with room for a set.
-use Rattle.std.proofs.Common.{◌≡◌, ◌-◌, ◌∙◌, None, Some, true, false, Option, IsSome, ap, sym, refl, map, vec_len, vec_capacity, arith, is_some}
+use Rattle.std.proofs.Common.{◌≡◌, ◌∙◌, None, Some, true, false, Option, IsSome, sym, refl, map, is_some}
 use Rattle.std.specs.Arc.{arc_value}
 use Rattle.std.specs.Map.{lookup}
-use Rattle.injected.specs.History.{sets_of}
-use Rattle.injected.specs.Seen.{named, cell_of, sets_in}
+use Rattle.injected.specs.Seen.{named, sets_in}
 use Rattle.injected.proofs.Maps.{writes_at, writes_as, cell_is, sets_unknown, some_known}
 use Rattle.injected.proofs.store.make_room.Goals as goal
 
@@ -28,10 +27,10 @@ returns-clause-ok g c =
     let k = arc_value c.args.key in
     let es = c.args.histories.now.entries in
     let fs = c.insert.new.self.entries in
-    let f = c.in_ok-sets.sets in
+    let f = c.in_ok-history.history in
     let none : lookup (λ y. eq k (arc_value y)) es ≡ None = none_of (lookup (λ y. eq k (arc_value y)) es) (sym c.contains_key.ensures ∙ c.if-contains_key.false) in
-    let sets : sets_of f.items ≡ sets_in (lookup (eq k) (map named es)) = ap sets_of c.in_ok-sets.ensures.items ∙ sym (sets_unknown eq k es none) in (
-      vec_capacity f - vec_len f,
-      omega (arith, c.in_ok-sets.ensures.capacity, c.in_ok-sets.ensures.len),
-      writes_as eq k (map named es) (map named fs) (cell_of f) _ (cell_is (cell_of f) (vec_capacity f - vec_len f) (sets_in (lookup (eq k) (map named es))) refl sets) (writes_at eq k c.args.key es fs f c.in_ok-insert.ensures.updates.0),
+    let sets : f.sets ≡ sets_in (lookup (eq k) (map named es)) = c.in_ok-history.ensures.sets ∙ sym (sets_unknown eq k es none) in (
+      f.room,
+      c.in_ok-history.ensures.room,
+      writes_as eq k (map named es) (map named fs) f _ (cell_is f f.room (sets_in (lookup (eq k) (map named es))) refl sets) (writes_at eq k c.args.key es fs f c.in_ok-insert.ensures.updates.0),
     )

@@ -8,7 +8,10 @@ use Rattle.std.specs.Map.{lookup}
 use Rattle.injected.proofs.store.Cells.write.Goals as goal
 
 pub push_set-requires : goal.push_set-requires
-push_set-requires g c = subst (λ s. 0 < room_at g.U.Key.PartialEq.eq s (arc_value c.args.key.now)) (sym c.self.view_is) c.requires.room
+push_set-requires g c = record {
+  laws = c.laws_of.ensures.values;
+  room = subst (λ s. 0 < room_at g.U.Key.PartialEq.eq s (arc_value c.args.key.now)) (sym c.self.view_is) c.requires.room;
+}
 
 pub invariant_of-self : goal.invariant_of-self
 invariant_of-self g c =
