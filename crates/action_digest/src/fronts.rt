@@ -161,12 +161,27 @@ impl TypedKey<Buck> for DigestKey {
     ghost of_it = { λ k. digest_front k.label };
 }
 
+impl ProjectionKey<Buck> for RuleKey {
+    ghost use Rattle.std.specs.Prelude.{refl};
+    ghost use Rattle.buck_label.specs.Labels.{package_of};
+
+    type Base = PackageKey;
+
+    ghost base_of = { λ k. record { «package» = package_of k.label } };
+
+    ghost projects = { λ k. refl };
+
+    ghost bases = { λ k. refl };
+}
+
 impl ProjectionKey<Buck> for DigestKey {
     ghost use Rattle.std.specs.Prelude.{refl};
 
     type Base = ActionKey;
 
     ghost base_of = { λ k. record { label = k.label } };
+
+    ghost projects = { λ k. refl };
 
     ghost bases = { λ k. refl };
 }

@@ -114,12 +114,22 @@ fn log_of(alloc: Global, files: Files<'_>) -> Result<Commits<Buck>, NoMemory> {
 /// How deep the evaluation goes: more than the keys of any row.
 const DEPTH: u32 = 12;
 
-/// The value of a key from nothing, at the version of the whole log.
-fn value_of(alloc: Global, files: Files<'_>, key: Key) -> Result<Option<Arc<Value>>, NoMemory> {
+/// The value of a key from nothing, at the version of the whole log, by an evaluation that goes this deep.
+fn value_within(
+    alloc: Global,
+    files: Files<'_>,
+    key: Key,
+    depth: u32,
+) -> Result<Option<Arc<Value>>, NoMemory> {
     let universe = Buck::new(alloc)?;
     let commits = log_of(alloc, files)?;
     let key = Arc::new(alloc, key)?;
-    plain(alloc, &universe, &commits, files.len() as u64, &key, DEPTH)
+    plain(alloc, &universe, &commits, files.len() as u64, &key, depth)
+}
+
+/// The same, deep enough.
+fn value_of(alloc: Global, files: Files<'_>, key: Key) -> Result<Option<Arc<Value>>, NoMemory> {
+    value_within(alloc, files, key, DEPTH)
 }
 
 /// A fault in words.
@@ -204,11 +214,7 @@ const GENRULE_TEXT: &[u8] =
 fn actions_of_the_rules_from_nothing(rt: HostRuntime) -> Result<(), Fail> {
     let alloc = rt.alloc();
     let rows: [(Files<'_>, &[u8], &[u8]); 7] = [
-        (
-            &[(b"a/BUCK", WRITE)],
-            b"//a:w",
-            b"write_file\nw.txt\nba7816bf8f01cfea414140de5dae2223b00361a396177a9cb410ff61f20015ad\n",
-        ),
+        (&[(b"a/BUCK", WRITE)], b"//a:w", WRITE_TEXT),
         (
             &[(b"a/BUCK", EXPORT), (b"a/f", b"a")],
             b"//a:f",
@@ -275,27 +281,57 @@ fn faults_come_in_the_order_of_the_sources(rt: HostRuntime) -> Result<(), Fail> 
     Ok(())
 }
 
-/// The SHA-256 of an action's text, in hex.
+/// The text of the action of `//a:w`.
+const WRITE_TEXT: &[u8] =
+    b"write_file\nw.txt\nba7816bf8f01cfea414140de5dae2223b00361a396177a9cb410ff61f20015ad\n";
+
+/// The SHA-256 of that text, in hex.
 const WRITE_DIGEST: &str = "72801cd249fb51131b7bbb93151ac0d3277ce1ef6febdf4fdc9f980dbb59266d";
+
+fn is_write_text(value: &Value) -> bool {
+    match ActionKey::read(value) {
+        Some(Ok(action)) => action.text.as_bytes() == WRITE_TEXT,
+        _ => false,
+    }
+}
+
+fn is_write_digest(alloc: Global, value: &Value) -> Result<bool, NoMemory> {
+    match DigestKey::read(value) {
+        Some(Ok(digest)) => {
+            Ok(hex::encode(alloc, digest.as_slice())?.as_bytes() == WRITE_DIGEST.as_bytes())
+        }
+        _ => Ok(false),
+    }
+}
 
 #[test]
 fn a_digest_is_that_of_the_text_and_a_stamp_is_transient(rt: HostRuntime) -> Result<(), Fail> {
     let alloc = rt.alloc();
     let universe = Buck::new(alloc)?;
-    let digest = DigestKey {
-        label: label(alloc, b"//a:w")?,
+    // The action stands on its rule, its package and the file; the digest on the action.
+    for (depth, text, digest) in [
+        (3, false, false),
+        (4, true, false),
+        (5, true, true),
+        (DEPTH, true, true),
+    ] {
+        let action = ActionKey {
+            label: label(alloc, b"//a:w")?,
+        };
+        let found = value_within(alloc, &[(b"a/BUCK", WRITE)], action.wrap(), depth)?;
+        assert_eq!(rt; found.is_some(), text);
+        if let Some(value) = found {
+            assert!(rt; is_write_text(&value));
+        }
+        let key = DigestKey {
+            label: label(alloc, b"//a:w")?,
+        };
+        let found = value_within(alloc, &[(b"a/BUCK", WRITE)], key.wrap(), depth)?;
+        assert_eq!(rt; found.is_some(), digest);
+        if let Some(value) = found {
+            assert!(rt; is_write_digest(alloc, &value)?);
+        }
     }
-    .wrap();
-    let shown = match value_of(alloc, &[(b"a/BUCK", WRITE)], digest)? {
-        Some(value) => match DigestKey::read(&value) {
-            Some(Ok(digest)) => {
-                hex::encode(alloc, digest.as_slice())?.as_bytes() == WRITE_DIGEST.as_bytes()
-            }
-            _ => false,
-        },
-        None => false,
-    };
-    assert!(rt; shown);
     let path = Path::read(alloc, b"a/BUCK").map_err(|_| NoMemory)?;
     let read = value_of(alloc, &[(b"a/BUCK", WRITE)], SourceKey { path }.wrap())?;
     assert!(rt;

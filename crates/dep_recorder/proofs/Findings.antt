@@ -9,7 +9,7 @@ use Rattle.std.proofs.lemmas.Option.{same_Some, none-some}
 use Rattle.std.proofs.lemmas.List.{take-append-drop, map-append, length-map}
 use Rattle.dice_key.specs.Meaning.{Answered}
 use Rattle.dice_key.specs.Lawful.{IsEquality}
-use Rattle.dep_recorder.specs.Checks.{Finding, Wants, IsSame, HasChanged, finding, first_change, change_or, values_of, IsFirstChange, IsNextBatch, Checked, IsWantingOf, fed_so_far, changed_at, HasChange}
+use Rattle.dep_recorder.specs.Checks.{Finding, Wants, IsSame, HasChanged, finding, first_change, change_or, values_of, IsFirstChange, IsNextBatch, IsNext, Checked, IsWantingOf, fed_so_far, changed_at, HasChange}
 
 drop_all : {X : Type 0} (n : ℕ) (xs : List X) → length xs ≤ n → drop n xs ≡ []
 drop_all zero [] h = refl
@@ -163,17 +163,20 @@ module _ {K V : Type 0} (eq : V → V → Bool) (law : IsEquality eq) where
       )
 
   -- a check that wants a batch
-  pub batch_wanted : (n : ℕ) (T : List (Answered K V)) (b : Answered K V) (rest : List (Answered K V)) → drop n T ≡ b ∷ rest → (finding eq T (fed_so_far T n None) ≡ Wants b.keys) × IsNextBatch T (fed_so_far T n None) b.keys
+  pub batch_wanted : (n : ℕ) (T : List (Answered K V)) (b : Answered K V) (rest : List (Answered K V)) → drop n T ≡ b ∷ rest → (finding eq T (fed_so_far T n None) ≡ Wants b.keys) × IsNext T (fed_so_far T n None) b
   batch_wanted n T b rest e = (
     finding_on n T [] ∙ ap (λ bs. finding eq bs []) e,
-    record {
-      before = take n T;
-      batch = b;
-      after = rest;
-      trace_is = sym (take-append-drop n T) ∙ ap (λ bs. take n T ++ bs) e;
-      fed_is = append-nil (values_of (take n T));
-      keys_are = refl;
-    },
+    (
+      record {
+        before = take n T;
+        batch = b;
+        after = rest;
+        trace_is = sym (take-append-drop n T) ∙ ap (λ bs. take n T ++ bs) e;
+        fed_is = append-nil (values_of (take n T));
+        keys_are = refl;
+      },
+      refl,
+    ),
   )
 
   -- a check that was fed all
@@ -270,10 +273,10 @@ module _ {K V : Type 0} (eq : V → V → Bool) (law : IsEquality eq) {D : Type 
   without : change ≡ None → ◌≡◌ {A = Checked K V} (record { trace = T; fed = fed_so_far T n None }) s
   without c = (λ i. record { trace = T; fed = fed_so_far T n (option_map f (sym c i)) }) ∙ view
 
-  pub seen_wanted : change ≡ None → (b : Answered K V) (rest : List (Answered K V)) → drop n T ≡ b ∷ rest → (Wants b.keys ≡ finding eq s.trace s.fed) × ((ks : List K) → 0 < length b.keys → ◌≡◌ {A = Finding K V} (Wants b.keys) (Wants ks) → (0 < length ks) × IsNextBatch s.trace s.fed ks)
+  pub seen_wanted : change ≡ None → (b : Answered K V) (rest : List (Answered K V)) → drop n T ≡ b ∷ rest → (Wants b.keys ≡ finding eq s.trace s.fed) × ((ks : List K) → 0 < length b.keys → ◌≡◌ {A = Finding K V} (Wants b.keys) (Wants ks) → (0 < length ks) × IsNextBatch s.trace s.fed ks) × IsNext s.trace s.fed b
   seen_wanted c b rest e =
-      let r = subst (λ (t : Checked K V). (finding eq t.trace t.fed ≡ Wants b.keys) × IsNextBatch t.trace t.fed b.keys) (without c) (batch_wanted eq law n T b rest e) in
-      (sym r.0, λ ks h p. (let q : b.keys ≡ ks = cc in (subst (λ zs. 0 < length zs) q h, subst (IsNextBatch s.trace s.fed) q r.1)))
+      let r = subst (λ (t : Checked K V). (finding eq t.trace t.fed ≡ Wants b.keys) × IsNext t.trace t.fed b) (without c) (batch_wanted eq law n T b rest e) in
+      (sym r.0, λ ks h p. (let q : b.keys ≡ ks = cc in (subst (λ zs. 0 < length zs) q h, subst (IsNextBatch s.trace s.fed) q r.1.0)), r.1)
 
   pub seen_same : change ≡ None → length T ≤ n → (IsSame ≡ finding eq s.trace s.fed) × (s.fed ≡ values_of s.trace)
   seen_same c h =

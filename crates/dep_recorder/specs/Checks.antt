@@ -2,7 +2,7 @@
 use Rattle.std.specs.Prelude.{◌≡◌, ◌≢◌, ◌<◌, ℕ, Bool, cond, List, [], ◌∷◌, ◌++◌, length, map, take, drop, option_to_list, Option, Some, None}
 use Rattle.std.specs.Arc.{arc_value}
 use Rattle.dice_key.specs.Meaning.{Answered}
-use Rattle.dep_recorder.specs.Recordings.{keys_in}
+use Rattle.dep_recorder.specs.Recordings.{keys_in, answered_in}
 use Rattle.dep_recorder.specs.declared.check.Next.{Next}
 use Rattle.dep_recorder.specs.declared.check.Next.TheVariants.{Want, Same, Differs}
 
@@ -78,6 +78,16 @@ pub record IsNextBatch {K V : Type 0} (trace : List (Answered K V)) (fed : List 
   pub trace_is : trace ≡ before ++ batch ∷ after
   pub fed_is : fed ≡ values_of before
   pub keys_are : keys ≡ batch.keys
+
+-- so it is of a batch with its values
+abbrev pub IsNext : {K V : Type 0} → List (Answered K V) → List (List V) → Answered K V → Type 0
+IsNext trace fed b = (n : IsNextBatch trace fed b.keys) × (n.batch ≡ b)
+
+-- the pairs that are wanted are the next batch of the trace: its keys, each with its value there
+abbrev pub LendsNext : {K V : Type 0} → List (Answered K V) → List (List V) → Next K V → Type 0
+LendsNext trace fed (Want ps) = IsNext trace fed (answered_in ps.now)
+LendsNext trace fed Same = Unit {0}
+LendsNext trace fed (Differs d x y) = Unit {0}
 
 -- ---- how a check is kept
 

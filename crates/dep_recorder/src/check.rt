@@ -2,7 +2,7 @@
 ghost use Rattle.std.specs.Prelude.{◌≡◌, ◌<◌, ◌++◌, ◌∷◌, [], length, map, drop, IfOk, IfSome, IfNone, None, List};
 ghost use Rattle.std.specs.Arc.{arc_value};
 ghost use Rattle.dep_recorder.specs.Recordings.{keys_in, values_in};
-ghost use Rattle.dep_recorder.specs.Checks.{finding, finding_of, first_change, IsWantingOf, changed_at, values_of, IsNextBatch, IsFirstChange, Wants, IsSame, HasChanged};
+ghost use Rattle.dep_recorder.specs.Checks.{finding, finding_of, first_change, IsWantingOf, changed_at, values_of, IsNextBatch, IsFirstChange, LendsNext, Wants, IsSame, HasChanged};
 
 use crate::trace::Trace;
 use dice_key::{Answers, Batch, NoMemory, Universe, laws_of};
@@ -13,7 +13,7 @@ use std::sync::Arc;
 /// What a check needs or finds.
 #[derive(Drop)]
 pub enum Next<'a, K, V> {
-    /// The answers to the keys of this batch, each beside its answer in the trace.
+    /// The answers to the keys of this batch, the next of the trace. Each key stands beside its answer in the trace.
     Want(&'a [(Arc<K>, Arc<V>)]),
     /// All answers are as they were.
     Same,
@@ -69,6 +69,7 @@ impl<U: Universe> Check<U> {
     pub fn next(&self) -> Next<'_, U::Key, U::Value>
         ensures finding { finding_of result ≡ finding U.Value.eq self.now.trace self.now.fed }
         ensures wants { (ks : List U.Key) → finding_of result ≡ Wants ks → (0 < length ks) × IsNextBatch self.now.trace self.now.fed ks }
+        ensures pairs { LendsNext self.now.trace self.now.fed result }
         ensures same { finding_of result ≡ IsSame → self.now.fed ≡ values_of self.now.trace }
         ensures differs { (d : U.Key) (x y : U.Value) → finding_of result ≡ HasChanged d x y → IsFirstChange self.now.trace self.now.fed d x y }
     {

@@ -2,6 +2,7 @@
 ghost use Rattle.std.specs.Prelude.{◌≡◌, Option};
 ghost use Rattle.std.specs.Option.{option_copied};
 ghost use Rattle.dice_key.specs.Fronts.{ValuesAreOf};
+ghost use Rattle.dice_key.specs.declared.universe.Kind.TheVariants.{Projection};
 
 use crate::universe::Universe;
 
@@ -35,6 +36,9 @@ pub trait ProjectionKey<U: Universe>: TypedKey<U> {
 
     /// The base.
     ghost base_of: { Self → Self.Base };
+
+    /// The universe's key is a projection.
+    ghost projects: { (k : Self) → U.meaning.kind (Self.wrapped k) ≡ Projection };
 
     /// The base of the universe's key is that of the front.
     ghost bases: { (k : Self) → U.meaning.base (Self.wrapped k) ≡ Self.Base.wrapped (base_of k) };

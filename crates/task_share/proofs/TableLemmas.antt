@@ -7,6 +7,7 @@ use Rattle.std.specs.Arc.{arc_value}
 use Rattle.std.specs.declared.sync.Arc.{Arc}
 use Rattle.std.specs.List.{list_any, IsDistinct, AllByRecursion}
 use Rattle.std.proofs.lemmas.Map.Keys.{IsDistinct-head, IsDistinct-tail}
+use Rattle.std.proofs.lemmas.List.{map-id}
 use Rattle.dice_key.specs.Lawful.{IsEquality}
 use Rattle.task_share.specs.Asked.{By, Promised, Tasked, is_by, Takes, IsDone}
 use Rattle.task_share.specs.Seen.{Share, is_for, list_for, number_for, has_by, has_live, task_at, is_live, asks, waits_at, asked_of, has_place, promise_room, asker_room, wait_room, ask_count, one_if, live_count, KeepsTasks, KeepsAsks, KeepsRoom, KeepsOtherRoom, UsesRoomOf}
@@ -407,12 +408,20 @@ pub on_some : {X : Type 0} {P : Type 0} (o : Option X) → (is_some o ≡ true �
 on_some None f = tt
 on_some (Some x) f = f refl
 
+-- things that are apart by their images have distinct images
+distinct_images : {X Y : Type 0} (eq : Y → Y → Bool) → ((y : Y) → eq y y ≡ true) → (f : X → Y) (xs : List X) → IsDistinct (λ x y. eq (f x) (f y)) xs → AreDistinct (map f xs)
+distinct_images eq itself f [] d = tt
+distinct_images {X} {Y} eq itself f (x ∷ xs) d = (λ h. clash xs (IsDistinct-head (λ (a b : X). eq (f a) (f b)) x xs d) h, distinct_images eq itself f xs (IsDistinct-tail (λ (a b : X). eq (f a) (f b)) x xs d))
+  where
+    clash : (ys : List X) → AllByRecursion (λ y. eq (f x) (f y) ≡ false) ys → Has (map f ys) (f x) → ⊥
+    clash [] a h = h
+    clash (y ∷ ys) a (inl q) = let e : eq (f x) (f y) ≡ true = subst (λ z. eq (f x) z ≡ true) (sym q) (itself (f x)) in let c : false ≡ true = sym a.0 ∙ e in cc
+    clash (y ∷ ys) a (inr h) = clash ys a.1 h
+
 -- pointers that are apart by what they point to point to distinct things
 pub distinct_values : {K A : Type 0} (eq : K → K → Bool) → IsEquality eq → (xs : List (Arc K A)) → IsDistinct (λ x y. eq (arc_value x) (arc_value y)) xs → AreDistinct (map arc_value xs)
-distinct_values eq law [] d = tt
-distinct_values {K} {A} eq law (x ∷ xs) d = (λ h. clash xs (IsDistinct-head (λ (a b : Arc K A). eq (arc_value a) (arc_value b)) x xs d) h, distinct_values eq law xs (IsDistinct-tail (λ (a b : Arc K A). eq (arc_value a) (arc_value b)) x xs d))
-  where
-    clash : (ys : List (Arc K A)) → AllByRecursion (λ y. eq (arc_value x) (arc_value y) ≡ false) ys → Has (map arc_value ys) (arc_value x) → ⊥
-    clash [] a h = h
-    clash (y ∷ ys) a (inl q) = let e : eq (arc_value x) (arc_value y) ≡ true = subst (λ z. eq (arc_value x) z ≡ true) (sym q) (law.itself (arc_value x)) in let c : false ≡ true = sym a.0 ∙ e in cc
-    clash (y ∷ ys) a (inr h) = clash ys a.1 h
+distinct_values eq law xs d = distinct_images eq law.itself arc_value xs d
+
+-- numbers that are apart are distinct
+pub distinct_numbers : (ns : List ℕ) → IsDistinct nat_eq ns → AreDistinct ns
+distinct_numbers ns d = subst AreDistinct (map-id ns) (distinct_images nat_eq (λ n. eq-eqb n n refl) (λ n. n) ns d)

@@ -306,11 +306,12 @@ impl<K: Eq + Hash + Drop, T: Drop> Table<K, T> {
         }
     }
 
-    /// The askers of the key, which may be none. No task stands there twice.
+    /// The askers of the key, which may be none. No promise and no task stands there twice.
     pub fn askers(&self, key: &Arc<K>) -> Askers<'_, K>
         ensures promises { (n : ℕ) → list_any (nat_eq n) result.promises.now ≡ asks K.eq self.now (arc_value key.now) (Promised n) }
         ensures tasks { (j : K) → list_any (K.eq j) (map arc_value result.tasks.now) ≡ asks K.eq self.now (arc_value key.now) (Tasked j) }
         ensures distinct { AreDistinct (map arc_value result.tasks.now) }
+        ensures distinct_promises { AreDistinct result.promises.now }
     {
         match self.places.get(key) {
             Some(place) => Askers {

@@ -2,6 +2,7 @@
 use Rattle.std.specs.Prelude.{◌≡◌, ℕ, List, [], ◌∷◌, Option, Some, None, IsSome, refl}
 use Rattle.dice_key.specs.Meaning.{Answered, Step, Asks, Ends}
 use Rattle.dice_key.specs.Fronts.{ValuesAreOf}
+use Rattle.dice_key.specs.declared.universe.Kind.TheVariants.{Projection}
 use Rattle.tiny_universe.specs.declared.place.Place.{Place}
 use Rattle.tiny_universe.specs.declared.place.Place.TheVariants.{Cell, Follow, Parity}
 use Rattle.tiny_universe.specs.declared.place.Value.{Value}
@@ -63,6 +64,9 @@ follows_are_numbers k = record { absent = refl; ends = follow_ends k.cell }
 
 pub parities_are_numbers : (k : ParityKey) → ValuesAreOf tiny (parity_of k) number_of
 parities_are_numbers k = record { absent = refl; ends = parity_ends k.cell }
+
+pub parity_projects : (k : ParityKey) → tiny.kind (parity_of k) ≡ Projection
+parity_projects k = refl
 
 pub parity_is_of_follow : (k : ParityKey) → tiny.base (parity_of k) ≡ follow_of (followed_by k)
 parity_is_of_follow k = refl

@@ -86,11 +86,13 @@ impl TypedKey<Tiny> for ParityKey {
 }
 
 impl ProjectionKey<Tiny> for ParityKey {
-    ghost use Rattle.tiny_universe.specs.Fronts.{followed_by, parity_is_of_follow};
+    ghost use Rattle.tiny_universe.specs.Fronts.{followed_by, parity_projects, parity_is_of_follow};
 
     type Base = FollowKey;
 
     ghost base_of = { followed_by };
+
+    ghost projects = { parity_projects };
 
     ghost bases = { parity_is_of_follow };
 }

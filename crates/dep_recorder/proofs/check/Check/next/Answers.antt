@@ -63,3 +63,11 @@ returns-then-self-len-clause-wants g c =
     let e : drop s.agreed T ≡ answered_in ps ∷ drop (s.agreed + 1) T = subst (λ t. drop s.agreed t ≡ answered_in ps ∷ drop (s.agreed + 1) t) c.deref-then-self-len.ensures c.batch-then-self-len.ensures.batch in
     let r = seen_wanted eq law (λ d. d.answers) T s.agreed s.change c.args.self.now c.self.view_is c.in_default.is (answered_in ps) (drop (s.agreed + 1) T) e in
     λ ks p. r.1 ks (let h = c.batch-then-self-len.ensures.some in let n = length-map ps (λ q. arc_value q.0) in omega arith) p
+
+pub returns-then-self-len-clause-pairs : goal.returns-then-self-len-clause-pairs
+returns-then-self-len-clause-pairs g c =
+    let s = c.self.inside in
+    let T = arc_value s.trace in
+    let ps = c.batch-then-self-len.result.now in
+    let e : drop s.agreed T ≡ answered_in ps ∷ drop (s.agreed + 1) T = subst (λ t. drop s.agreed t ≡ answered_in ps ∷ drop (s.agreed + 1) t) c.deref-then-self-len.ensures c.batch-then-self-len.ensures.batch in
+    (seen_wanted g.U.Value.PartialEq.eq c.laws_of.ensures.values (λ d. d.answers) T s.agreed s.change c.args.self.now c.self.view_is c.in_default.is (answered_in ps) (drop (s.agreed + 1) T) e).2

@@ -7,7 +7,7 @@ use Rattle.task_share.specs.Seen.{Share, is_for, has_by, asks}
 use Rattle.task_share.specs.Listed.{share_of}
 use Rattle.task_share.specs.Lists.{AreDistinct}
 use Rattle.task_share.proofs.PlaceLemmas.{lookup_shares}
-use Rattle.task_share.proofs.TableLemmas.{distinct_values}
+use Rattle.task_share.proofs.TableLemmas.{distinct_values, distinct_numbers}
 use Rattle.task_share.proofs.table.Table.askers.Goals as goal
 
 pub returns-in-Some-clause-promises : goal.returns-in-Some-clause-promises
@@ -32,3 +32,6 @@ returns-in-None-clause-tasks g c = λ j.
 
 pub returns-in-Some-clause-distinct : goal.returns-in-Some-clause-distinct
 returns-in-Some-clause-distinct g c = subst (λ ks. AreDistinct (map arc_value ks)) (sym c.as_slice-in-Some.ensures.keys) (distinct_values g.K.PartialEq.eq c.self.invariant.0 _ c.as_slice-in-Some.ensures.unique)
+
+pub returns-in-Some-clause-distinct_promises : goal.returns-in-Some-clause-distinct_promises
+returns-in-Some-clause-distinct_promises g c = subst AreDistinct (sym c.as_slice.ensures.keys) (distinct_numbers _ c.as_slice.ensures.unique)
