@@ -61,7 +61,8 @@ names_sources (action.WriteFile content out) = true
 names_sources (action.Genrule srcs out cmd) = true
 names_sources (action.StampFile out) = true
 
--- what answers another kind of key than was asked; no key is answered so
+-- the fault that stands for an answer of another kind than was asked. None comes in the program; but a commit may set a source to a
+-- value of another kind, and that is read as no file
 abbrev pub nothing : Fault
 nothing = NoPackage []
 

@@ -13,9 +13,9 @@ abbrev pub IsOpenAt : ℕ → (ℕ → Bool) → Type 0
 IsOpenAt v r = (w : ℕ) → v ≤ w → r w ≡ true
 
 module _ {K V : Type 0} (eq : K → K → Bool) (m : Meaning K V) where
-  -- of an entry of k: its value is that of k at each version of its ranges up to the newest; its trace is that of the version
-  -- at which it was finished, which is at most its own, and k has the same value at both; its own version is in its ranges, and
-  -- is the only one of a transient value
+  -- of an entry of k: its value is that of k at each version of its ranges up to the newest; its trace is that of k at some
+  -- version, `finished`, which is at most its own, and k has the same value at both; its own version is in its ranges, and is the
+  -- only one of a transient value
   pub record IsTrue (C : List (List (K × V))) (k : K) (e : Kept K V) : Type 0 where
     pub finished : ℕ
     pub before : finished ≤ e.version
