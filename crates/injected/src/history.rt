@@ -1,5 +1,5 @@
 //! The sets of one key.
-ghost use Rattle.std.specs.Prelude.{◌≡◌, ℕ, ◌<◌, true, [], ◌∷◌, ◌++◌, ◌&&◌, ◌||◌, IfOk, OnOk, OnErr};
+ghost use Rattle.std.specs.Prelude.{◌≡◌, ℕ, ◌<◌, ◌-◌, true, [], ◌∷◌, ◌++◌, ◌&&◌, ◌||◌, IfOk, OnOk, OnErr};
 ghost use Rattle.std.specs.Arc.{arc_value};
 ghost use Rattle.dice_key.specs.Lawful.{IsEquality};
 ghost use Rattle.version_ranges.specs.Members.{contains, is_in, is_open};
@@ -76,7 +76,8 @@ impl<V: Eq + Hash + Drop> History<V> {
     pub(crate) fn push(&mut self, version: u64, value: Arc<V>)
         requires laws { IsEquality V.eq }
         requires room { 0 < self.old.room }
-        ensures { self.new.sets ≡ self.old.sets ++ (version, arc_value value) ∷ [] }
+        ensures sets { self.new.sets ≡ self.old.sets ++ (version, arc_value value) ∷ [] }
+        ensures used { self.new.room ≡ self.old.room - 1 }
     {
         let (number, _) = self.values.insert_full(value).unwrap();
         self.sets.push((version, number)).unwrap();

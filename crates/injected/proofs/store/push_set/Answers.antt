@@ -31,5 +31,5 @@ returns g c =
     let fs = (c.get_mut.follows.lender f).entries in
     let known : lookup (λ y. eq k (arc_value y)) es ≡ Some v = sym c.get_mut.ensures.value ∙ ap option_copied_mut c.in-Some.is in
     let added = (c.args.version, arc_value c.args.value) ∷ [] in
-    let sets : f.sets ≡ sets_in (lookup (eq k) (map named es)) ++ added = c.push.ensures ∙ ap (λ ss. ss ++ added) (sym (sets_known eq k es v known)) in
+    let sets : f.sets ≡ sets_in (lookup (eq k) (map named es)) ++ added = c.push.ensures.sets ∙ ap (λ ss. ss ++ added) (sym (sets_known eq k es v known)) in
     (f.room, writes_as eq k (map named es) (map named fs) f _ (cell_is f f.room (sets_in (lookup (eq k) (map named es)) ++ added) refl sets) (writes_at eq k c.args.key.now es fs f ((c.get_mut.follows.holds f).3 (subst IsSome (sym known) refl)).0))

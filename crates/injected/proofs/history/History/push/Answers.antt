@@ -1,5 +1,5 @@
 -- The number that the value has, or gets, names it.
-use Rattle.std.proofs.Common.{◌≡◌, ◌<◌, ◌++◌, ◌∷◌, [], ◌∙◌, true, cond, ap, sym, subst, length, slice_get, Some, arith}
+use Rattle.std.proofs.Common.{◌≡◌, ◌-◌, ◌<◌, ◌++◌, ◌∷◌, [], ◌∙◌, true, cond, ap, sym, subst, length, slice_get, Some, arith}
 use Rattle.std.specs.Arc.{arc_value}
 use Rattle.std.specs.List.{list_any}
 use Rattle.std.specs.declared.sync.Arc.{Arc}
@@ -25,8 +25,8 @@ invariant_of-self g c =
       values_fit = omega arith;
     }
 
-pub returns : goal.returns
-returns g c =
+pub returns-clause-sets : goal.returns-clause-sets
+returns-clause-sets g c =
     let eq = g.V.PartialEq.eq in
     let xs = c.self.inside.values.keys in
     let zs = c.insert_full.new.self.keys in
@@ -37,3 +37,6 @@ returns g c =
     let items : c.push.new.self.items ≡ ss ++ (c.args.version, n) ∷ [] = rw c.unwrap.ensures at c.push.ensures.items in
     let stored : (k : Arc g.row.V.Denot _) × (slice_get zs n ≡ Some k) × (equal_at eq c.args.value k ≡ true) = IfOk-at_ok (λ r. (k : Arc g.row.V.Denot _) × (slice_get zs r.0 ≡ Some k) × (equal_at eq c.args.value k ≡ true)) c.unwrap-number.ensures c.insert_full.ensures.stored in
     ap (sets_of zs) items ∙ (pushed eq c.requires.laws.same b xs zs c.args.value stored.0 ss (c.args.version, n) c.self.invariant.named keys stored.1 stored.2 ∙ ap (λ s. s.sets ++ (c.args.version, arc_value c.args.value) ∷ []) c.self.view_is)
+
+pub returns-clause-used : goal.returns-clause-used
+returns-clause-used g c = ap (λ s. s.room - 1) c.self.view_is
