@@ -15,8 +15,9 @@ ghost use Rattle.dice_tasks.specs.Hands.{KeepsHands, KeepsDeskRoom, Working};
 ghost use Rattle.dice_tasks.specs.Entries.{EntriesStand};
 ghost use Rattle.dice_tasks.specs.Endings.{ReachesPath, GivesUpAll, path_of};
 ghost use Rattle.dice_tasks.specs.Makings.{CanMake, IsMade, IsMaking, IsOfKey, MakesAlone, MayMake};
-ghost use Rattle.dice_steps.specs.Plans.{IsPlan, key_in};
-ghost use Rattle.dice_steps.specs.Batches.{GivesUp, HasRoomToMake, MakesOn, MakesParts, TakesUp};
+ghost use Rattle.dice_steps.specs.Plans.{IsPlan, IsPlanDone, IfEnds, key_in};
+ghost use Rattle.dice_steps.specs.Taken.{IsBatchDone};
+ghost use Rattle.dice_steps.specs.Batches.{AreMakable, GivesUp, HasRoomToMake, MakesOn, MakesParted, MakesParts, TakesUp};
 
 use crate::plan::{Part, Plan, plan_batch};
 use dice_jobs::{Parked, Report, Step};
@@ -61,6 +62,7 @@ fn make_all<U: Universe>(
     requires hand { (W : List U.Key) × (w : World U.Key U.Value) × (owed : ℕ) × MakesOn U.Key.eq U.meaning version W w owed parts.items tasks.old desk.old graph.old }
     requires room { HasRoomToMake U.Key.eq parts.items tasks.old desk.old }
     ensures made { MakesParts U.Key.eq parts.items version tasks.old desk.old tasks.new desk.new }
+    ensures looked { (born : ℕ) → AreMakable U.Key.eq U.meaning version born parts.items tasks.old graph.old → MakesParted U.Key.eq U.meaning version born parts.items tasks.old desk.old graph.old tasks.new desk.new graph.new }
     ensures kept { (W : List U.Key) (w : World U.Key U.Value) (owed : ℕ) → MakesOn U.Key.eq U.meaning version W w owed parts.items tasks.old desk.old graph.old → Working U.Key.eq U.meaning version W w owed tasks.new desk.new × EntriesStand U.Key.eq U.meaning (reverse desk.new.events) graph.new }
 {
     laws_of::<U>();
@@ -104,6 +106,7 @@ fn take_up<U: Universe>(
     requires next { AsksNext U.Key.eq U.meaning version (arc_value key.now) (doing parked.job.work) parked.job.answered (IsWaiting parked.keys) }
     requires hand { (w : World U.Key U.Value) × (owed : ℕ) × (s : Seen U.Key U.Value) × AtHand U.Key.eq U.meaning version w owed tasks.old desk.old graph.old s × IsPlan U.Key.eq U.meaning version owed parked.job parked.keys tasks.old desk.old graph.old s plan }
     ensures given { TakesUp U.Key.eq U.meaning version parked.job parked.keys tasks.old desk.old tasks.new desk.new }
+    ensures done { (w : World U.Key U.Value) (owed : ℕ) (s : Seen U.Key U.Value) → AtHand U.Key.eq U.meaning version w owed tasks.old desk.old graph.old s → IsPlan U.Key.eq U.meaning version owed parked.job parked.keys tasks.old desk.old graph.old s plan → IsPlanDone U.Key.eq U.meaning version owed parked.job parked.keys tasks.old desk.old graph.old s plan tasks.new desk.new graph.new }
     ensures kept { (w : World U.Key U.Value) (owed : ℕ) (s : Seen U.Key U.Value) → AtHand U.Key.eq U.meaning version w owed tasks.old desk.old graph.old s → IsPlan U.Key.eq U.meaning version owed parked.job parked.keys tasks.old desk.old graph.old s plan → AtHand U.Key.eq U.meaning version w owed tasks.new desk.new graph.new s }
 {
     laws_of::<U>();
@@ -141,6 +144,7 @@ pub fn ask_batch<U: Universe>(
     requires out { task_at U.Key.eq tasks.old step.job.name.key ≡ Some (held_of step.job IsOut) }
     requires hand { (w : World U.Key U.Value) × AtHand U.Key.eq U.meaning step.job.name.version w owed tasks.old desk.old graph.old cells.now }
     ensures given { OnOk result ((ks : List U.Key) → step.outcome ≡ Wanting ks → TakesUp U.Key.eq U.meaning step.job.name.version step.job ks tasks.old desk.old tasks.new desk.new) }
+    ensures done { OnOk result ((ks : List U.Key) → step.outcome ≡ Wanting ks → IsBatchDone U.Key.eq U.meaning step.job.name.version step.job ks cells.now tasks.old desk.old graph.old tasks.new desk.new graph.new) }
     ensures kept { (w : World U.Key U.Value) → AtHand U.Key.eq U.meaning step.job.name.version w owed tasks.old desk.old graph.old cells.now → AtHand U.Key.eq U.meaning step.job.name.version w owed tasks.new desk.new graph.new cells.now }
 
     // Where memory is refused, all that is seen is as before.
@@ -188,6 +192,7 @@ fn plan_step<U: Universe>(
     ensures desk_room { KeepsDeskRoom desk.old desk.new }
     ensures key { IfOk result (λ r. arc_value r.0 ≡ step.now.job.name.key) }
     ensures plan { IfOk result (λ r. (ks : List U.Key) → step.now.outcome ≡ Wanting ks → IsPlan U.Key.eq U.meaning step.now.job.name.version owed step.now.job ks tasks.new desk.new graph.now cells.now r.1) }
+    ensures still { IfOk result (λ r. IfEnds r.1 ((tasks.new ≡ tasks.old) × (desk.new ≡ desk.old))) }
     ensures next { IfOk result (λ r. (ks : List U.Key) → step.now.outcome ≡ Wanting ks → AsksNext U.Key.eq U.meaning step.now.job.name.version step.now.job.name.key (doing step.now.job.work) step.now.job.answered (IsWaiting ks)) }
 {
     laws_of::<U>();

@@ -14,7 +14,8 @@ ghost use Rattle.core_laws.specs.Desk.{World};
 ghost use Rattle.dice_steps.specs.AtHand.{AtHand};
 ghost use Rattle.dice_tasks.specs.Circles.{path_with};
 ghost use Rattle.dice_tasks.specs.Hands.{KeepsHands, KeepsDeskRoom, tasks_of};
-ghost use Rattle.dice_steps.specs.Plans.{key_in, waits_of, is_awaited, HasNoPath, IsPathAt, IsAtHand, HasNone, IsPart, IsSurvey, ArePlaced, IsPlan};
+ghost use Rattle.dice_steps.specs.Plans.{key_in, waits_of, is_awaited, IsAtHand, HasNone, IsPart, IsSurvey, ArePlaced, IsPlan, IfEnds};
+ghost use Rattle.dice_steps.specs.Taken.{HasNoPath, IsPathAt};
 
 use crate::noted::note;
 use cycle_guard::would_close;
@@ -78,6 +79,7 @@ pub(crate) fn plan_batch<U: Universe>(
     ensures hands { KeepsHands desk.old desk.new }
     ensures desk_room { KeepsDeskRoom desk.old desk.new }
     ensures plan { IfOk result (IsPlan U.Key.eq U.meaning assignment.now.name.version owed assignment.now batch.now tasks.new desk.new graph.now cells.now) }
+    ensures still { IfOk result (λ p. IfEnds p ((tasks.new ≡ tasks.old) × (desk.new ≡ desk.old))) }
 {
     laws_of::<U>();
     let name = assignment.name();

@@ -14,7 +14,7 @@ ghost use Rattle.core_laws.specs.Desk.{World, ready_in, out_in};
 ghost use Rattle.dice_tasks.specs.Helds.{Held, came};
 ghost use Rattle.dice_tasks.specs.Loads.{AreCopies};
 ghost use Rattle.dice_tasks.specs.Hands.{Working, Cleaning};
-ghost use Rattle.dice_tasks.specs.Endings.{Quits, Knows, DropsTask, DropsTasks, EndsTask, TellsEnd, ListsEnd, ComesOf, path_of, told_end, ReachesPath, EndsAsker, HasTold, EndsTasks, AreTasked};
+ghost use Rattle.dice_tasks.specs.Endings.{Quits, Knows, DropsTask, DropsTasks, EndsTask, TellsEnd, ListsEnd, ComesOf, path_of, told_end, ReachesPath, EndsAsker, HasTold, EndsTasks, EndWithAskers, AreTasked};
 
 use crate::Tasks;
 use crate::desk::Desk;
@@ -227,7 +227,7 @@ pub fn end_all<U: Universe>(
     requires live { is_live U.Key.eq tasks.old (arc_value key.now) ≡ true }
     requires ended { desk.old.ended ≡ [] }
     requires reached { ReachesPath U.Key.eq U.meaning (path_of how.now) (commits_of (reverse desk.old.events)) version (arc_value key.now) }
-    ensures ends { (es : List (U.Key × Came U.Key U.Value)) × EndsTasks U.Key.eq version (path_of how.now) (arc_value key.now) es tasks.old tasks.new desk.old desk.new }
+    ensures ends { (es : List (U.Key × Came U.Key U.Value)) × EndsTasks U.Key.eq version (path_of how.now) (arc_value key.now) es tasks.old tasks.new desk.old desk.new × EndWithAskers U.Key.eq es tasks.old }
     ensures ended { desk.new.ended ≡ [] }
     ensures tasked { AreTasked U.Key.eq tasks.old → AreTasked U.Key.eq tasks.new }
     ensures kept { (w : World U.Key U.Value) (owed : ℕ) → Working U.Key.eq U.meaning version [] w owed tasks.old desk.old → Working U.Key.eq U.meaning version [] w owed tasks.new desk.new }
