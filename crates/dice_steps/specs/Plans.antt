@@ -109,18 +109,18 @@ module _ {U K V R : Type 0} (eq : K → K → Bool) (m : Meaning K V) (v owed : 
 
   -- what was planned, with the memory for it
   abbrev pub IsPlan : Plan U K V R → Type 0
-  IsPlan (plan.Ends path) = IsPathOf eq ps m a.name.key ks (arc_value path)
+  IsPlan (plan.Ends path own) = IsPathOf eq ps m a.name.key ks (arc_value path) × (arc_value own ≡ arc_value path)
   IsPlan (plan.GoesOn xs n) = GoesOnSo xs.items n
   IsPlan (plan.Waits xs ws) = WaitsSo xs.items ws.items
 
   -- what is done where this was planned, from the tasks ps, the desk d, the entries es and the cells s
   abbrev pub IsPlanDone : Plan U K V R → List (K × Share K (Held K V)) → DeskSeen K V → List (K × Stored K V) → Type 0
-  IsPlanDone (plan.Ends path) qs e fs = EndsByCircle eq m v a ks s ps d es qs e fs
+  IsPlanDone (plan.Ends path own) qs e fs = EndsByCircle eq m v a ks s ps d es qs e fs
   IsPlanDone (plan.GoesOn xs n) qs e fs = MakesTasks eq m v a ks s ps d es qs e fs × GoesOnWith eq m v a ks s ps d es qs e fs
   IsPlanDone (plan.Waits xs ws) qs e fs = MakesTasks eq m v a ks s ps d es qs e fs × WaitsFor eq m v a ks s ps d es qs e fs
 
 -- P holds where the plan is an end
 abbrev pub IfEnds : {U K V R : Type 0} → Plan U K V R → Type 0 → Type 0
-IfEnds (plan.Ends path) P = P
+IfEnds (plan.Ends path own) P = P
 IfEnds (plan.GoesOn xs n) P = Unit {0}
 IfEnds (plan.Waits xs ws) P = Unit {0}

@@ -49,8 +49,8 @@ pub(crate) enum Survey<U: Universe> {
 /// What a batch comes to, with all the memory that it takes.
 #[derive(Drop)]
 pub(crate) enum Plan<U: Universe> {
-    /// The task that asks it ends with this circle.
-    Ends(Arc<Path<U::Key>>),
+    /// The task that asks it ends with this circle, of which it has its own copy.
+    Ends(Arc<Path<U::Key>>, Arc<Path<U::Key>>),
     /// Where these are made, all keys have values, and the task goes on.
     GoesOn(Vec<Part<U>>, Next<U>),
     /// Where these are made, the task waits.
@@ -87,7 +87,10 @@ pub(crate) fn plan_batch<U: Universe>(
     let own = name.key();
     let born = told_so_far::<U>(desk);
     let parts = match look_over::<U>(alloc, universe, graph, tasks, version, own, batch, born)? {
-        Survey::Circle(path) => return Ok(Plan::Ends(path)),
+        Survey::Circle(path) => {
+            let own = Arc::try_clone(&path)?;
+            return Ok(Plan::Ends(path, own));
+        }
         Survey::Parts(parts) => parts,
     };
     let waits = reserve_parts::<U>(alloc, tasks, own, &parts)?;

@@ -1,5 +1,5 @@
 -- Which tasks end where one is given up, and all that ask for it.
-use Rattle.std.proofs.Common.{◌≡◌, ◌⊎◌, inl, inr, ◌+◌, ◌-◌, ℕ, Bool, true, false, cond, not, ◌&&◌, List, [], ◌∷◌, ◌++◌, map, Option, Some, refl, sym, ap, ◌∙◌, subst, arith, append_assoc}
+use Rattle.std.proofs.Common.{◌≡◌, ◌⊎◌, inl, inr, ◌+◌, ◌-◌, ℕ, Bool, true, false, cond, not, ◌&&◌, List, [], ◌∷◌, ◌++◌, map, Option, Some, None, refl, sym, ap, ◌∙◌, subst, arith, append_assoc}
 use Rattle.std.proofs.lemmas.List.{map-append}
 use Rattle.dice_key.specs.Lawful.{IsEquality}
 use Rattle.dice_model.specs.Log.{Has, AreDistinct}
@@ -11,7 +11,7 @@ use Rattle.core_laws.proofs.Counts.{has_append, has_front, has_last}
 use Rattle.core_laws.proofs.Shapes.{both_parts, not_both}
 use Rattle.dice_tasks.specs.Helds.{Held, held_ended}
 use Rattle.dice_tasks.specs.Hands.{DeskSeen, with_event, with_ended, with_told_next}
-use Rattle.dice_tasks.specs.Endings.{EndsTask, ListsEnd, ComesOf, told_end, EndsAsker, HasTold, EndsTasks, EndWithAskers}
+use Rattle.dice_tasks.specs.Endings.{EndsTask, ListsEnd, ComesOf, told_end, EndsAsker, HasTold, EndsTasks, EndWithAskers, ends_so}
 use Rattle.dice_tasks.proofs.EndsLemmas.{quits_keeps}
 use Rattle.dice_tasks.proofs.CascadeLemmas.{quits_room}
 use Rattle.dice_tasks.proofs.TellLemmas.{told_events, told_ended}
@@ -229,3 +229,8 @@ module _ {K V : Type 0} (eq : K → K → Bool) (equality : IsEquality eq) (v : 
       where
         ended : e.ended ≡ d.ended ++ k ∷ []
         ended = ap (λ (y : DeskSeen K V). y.ended) l.desk ∙ ap (λ xs. xs ++ k ∷ []) (told_ended eq v k h o (told_end v k o) ps qs d l.mid l.tells)
+
+-- so the first may end
+pub comes_so : {K : Type 0} (V : Type 0) (path : Option (List K)) → ComesOf {V = V} path (ends_so path)
+comes_so V None = refl
+comes_so V (Some p) = inl refl

@@ -90,6 +90,11 @@ abbrev pub path_of : {K : Type 0} → How K → Option (List K)
 path_of Lost = None
 path_of (Cycle p) = Some (arc_value p.now)
 
+-- how the first of them ends: with the circle, where there is one, else as lost
+abbrev pub ends_so : {K V : Type 0} → Option (List K) → Outcome K V
+ends_so None = WithNothing
+ends_so (Some p) = WithCycle p
+
 -- the event that tells how a task ended
 abbrev pub told_end : {K V : Type 0} → ℕ → K → Outcome K V → Told K V
 told_end v k (WithValue x) = event.End v k
@@ -166,14 +171,15 @@ module _ {K V : Type 0} (eq : K → K → Bool) where
   abbrev pub EndWithAskers : List (K × Outcome K V) → List (K × Share K (Held K V)) → Type 0
   EndWithAskers es ps = (q j : K) (o : Outcome K V) → Has es (q, o) → asks eq ps q (Tasked j) ≡ true → (r : Outcome K V) × Has es (j, r)
 
-  -- the task of k ends, and with it each that asks for it, each that asks for one of these, and so on, and no other; and then those are dropped.
-  -- No task is told of twice
+  -- the task of k ends, with the circle where there is one, and with it each that asks for it, each that asks for one of these, and so on, and no
+  -- other; and then those are dropped. No task is told of twice
   pub record GivesUpAll (v : ℕ) (path : Option (List K)) (k : K) (ps qs : List (K × Share K (Held K V))) (d e : DeskSeen K V) : Type 0 where
     pub ends : List (K × Outcome K V)
     pub drops : List K
     pub tasks : List (K × Share K (Held K V))
     pub desk : DeskSeen K V
     pub ended : EndsTasks eq v path k ends ps tasks d desk
+    pub own : Has ends (k, ends_so path)
     pub askers : EndWithAskers ends ps
     pub once : AreDistinct (map (λ (p : K × Outcome K V). p.0) ends ++ drops)
     pub dropped : DropsTasks eq v drops tasks qs desk e

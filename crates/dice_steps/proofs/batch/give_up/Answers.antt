@@ -32,6 +32,7 @@ returns-clause-ends g c =
       tasks = c.end_all.new.tasks;
       desk = c.end_all.new.desk;
       ended = e.1;
+      own = e.3;
       askers = e.2;
       once = told_once g.U.Key.PartialEq.eq c.laws_of.ensures.keys c.args.version (path_of c.args.how.now) (arc_value c.args.key.now) e.0 d.0 _ _ _ _ _ _ e.1 d.1;
       dropped = d.1;

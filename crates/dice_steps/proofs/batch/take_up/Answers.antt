@@ -1,4 +1,4 @@
-use Rattle.std.proofs.Common.{[], Some, refl, sym, subst}
+use Rattle.std.proofs.Common.{[], Some, refl, sym, ap, subst}
 use Rattle.std.specs.Arc.{arc_value}
 use Rattle.dice_steps.specs.Batches.{GivesUp}
 use Rattle.dice_tasks.specs.Endings.{GivesUpAll}
@@ -21,7 +21,12 @@ give_up-requires-clause-reached g c l o =
     let m = g.U.Universe.meaning in
     let r = c.requires.hand in
     own_path eq c.laws_of.ensures.keys m c.laws_of.ensures.lawful c.args.version (arc_value c.args.key.now) c.args.parked.job c.requires.own.0 c.args.parked.keys r.0 r.1 _ _ _ r.2 r.3 c.requires.out c.requires.next (arc_value c.in-Ends.path)
-    (subst (λ z. IsPlan eq m c.args.version r.1 c.args.parked.job c.args.parked.keys c.args.tasks.now c.args.desk.now c.args.graph.now r.2 z) c.in-Ends.is r.4)
+    (subst (λ z. IsPlan eq m c.args.version r.1 c.args.parked.job c.args.parked.keys c.args.tasks.now c.args.desk.now c.args.graph.now r.2 z) c.in-Ends.is r.4).0
+
+pub give_up-requires-clause-own : goal.give_up-requires-clause-own
+give_up-requires-clause-own g c l o =
+    let r = c.requires.hand in
+    ap Some (subst (λ z. IsPlan g.U.Key.PartialEq.eq g.U.Universe.meaning c.args.version r.1 c.args.parked.job c.args.parked.keys c.args.tasks.now c.args.desk.now c.args.graph.now r.2 z) c.in-Ends.is r.4).1
 
 pub make_all-requires-clause-hand : goal.make_all-requires-clause-hand
 make_all-requires-clause-hand g c l o =
@@ -189,7 +194,7 @@ returns-in-Ends-clause-done g c w owed s hand plan =
     subst (λ z. IsPlanDone eq m c.args.version owed a c.args.parked.keys c.args.tasks.now c.args.desk.now c.args.graph.now s z c.give_up.new.tasks c.give_up.new.desk c.args.graph.now) (sym c.in-Ends.is)
     (record {
       path = path;
-      circle = subst (λ z. IsPlan eq m c.args.version owed a c.args.parked.keys c.args.tasks.now c.args.desk.now c.args.graph.now s z) c.in-Ends.is plan;
+      circle = (subst (λ z. IsPlan eq m c.args.version owed a c.args.parked.keys c.args.tasks.now c.args.desk.now c.args.graph.now s z) c.in-Ends.is plan).0;
       ends = subst (λ z. GivesUpAll eq c.args.version (Some path) z c.args.tasks.now c.give_up.new.tasks c.args.desk.now c.give_up.new.desk) (sym c.requires.own.0) c.give_up.ensures.ends;
       entries = refl;
     })
