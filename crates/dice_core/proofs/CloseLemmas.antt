@@ -37,6 +37,7 @@ use Rattle.dice_core.proofs.AskingLemmas.{dropped_live, cleaning_by}
 use Rattle.dice_tasks.proofs.EndsLemmas.{back_more}
 use Rattle.dice_tasks.proofs.EntriesLemmas.{stand_close}
 use Rattle.dice_core.proofs.EventLemmas.{all_drops, all_works, entries_given_up, cells_works, count_works, sessions_works}
+use Rattle.dice_tasks.proofs.Dropped.{cascade_distinct}
 use Rattle.dice_core.proofs.SessionLemmas.{closing_end, eqb_flips}
 
 -- ---- the asks of a transaction that go
@@ -174,6 +175,7 @@ module _ {K V : Type 0} (eq : K → K → Bool) (equality : IsEquality eq) (m : 
   pub closed_log : (x : Told K V) (ks : List K) (ps qs rs : List (K × Share K (Held K V))) (d e : DeskSeen K V) → KeepsTasks eq ps qs → DropsTasks eq v ks qs rs (with_event d x) e → DropsAfter eq v (x ∷ []) ks ps rs d e
   closed_log x ks ps qs rs d e keeps drops = record {
     events = drops.events ∙ append_assoc d.events (x ∷ []) (map (Drop v) ks);
+    distinct = cascade_distinct eq equality ks (asked_of eq qs) (asked_of eq rs) drops.cascade;
     at_work = λ q h. sym (keeps.live q) ∙ dropped_live eq ks (asked_of eq qs) (asked_of eq rs) drops.cascade q h;
     tasks = λ q. drops.tasks q ∙ ap (λ o. cond (list_has q) None o) (keeps.tasks q);
   }

@@ -46,6 +46,7 @@ module _ {K V : Type 0} (eq : K → K → Bool) (v : ℕ) (ts us : List (ℕ × 
   -- an ask was left, or a transaction closed beside another one
   pub drops_some : (all : Bool) (ks : List K) (before : List (Told K V)) (ps qs : List (K × Share K (Held K V))) (d e : DeskSeen K V) → all ≡ false → table_at ts v ≡ ps → PutsTable v qs ts us → DropsAfter eq v before ks ps qs d e → DropsThese eq v all ks ts us
   drops_some all ks before ps qs d e off found put drops = subst (λ b. DropsThese eq v b ks ts us) (sym off) (record {
+    distinct = drops.distinct;
     at_work = λ q h. ap (λ x. is_live eq x q) found ∙ drops.at_work q h;
     tasks = drops_put qs (λ q. list_any (eq q) ks) put (λ q. drops.tasks q ∙ ap (λ x. cond (list_any (eq q) ks) None (task_at eq x q)) (sym found));
   })
@@ -53,6 +54,7 @@ module _ {K V : Type 0} (eq : K → K → Bool) (v : ℕ) (ts us : List (ℕ × 
   -- the last transaction was closed: the table went
   pub drops_all : (all : Bool) (ks : List K) (before : List (Told K V)) (ps qs : List (K × Share K (Held K V))) (d e : DeskSeen K V) → all ≡ true → table_at ts v ≡ ps → DropsAfter eq v before ks ps qs d e → ((u : ℕ) → lookup (nat_eq u) us ≡ cond (nat_eq v u) None (lookup (nat_eq u) ts)) → DropsThese eq v all ks ts us
   drops_all all ks before ps qs d e on found drops gone = subst (λ b. DropsThese eq v b ks ts us) (sym on) (record {
+    distinct = drops.distinct;
     at_work = λ q h. ap (λ x. is_live eq x q) found ∙ drops.at_work q h;
     tasks = λ u q. by_test u q (nat_eq v u) (gone u);
   })

@@ -9,9 +9,11 @@ use Rattle.task_share.specs.Seen.{Share, task_at}
 use Rattle.journal.specs.declared.event.Told.{Told}
 use Rattle.journal.specs.declared.event.Told.TheVariants.{Start, Keep, Drop}
 use Rattle.journal.specs.declared.event.Reason.TheVariants.{Differs}
-use Rattle.core_laws.specs.Tasks.{IsOut, IsWaiting, Outcome}
+use Rattle.injected.specs.Seen.{Seen}
+use Rattle.core_laws.specs.Tasks.{IsOut, IsWaiting, Outcome, WithValue}
 use Rattle.core_laws.specs.Desk.{out_in}
 use Rattle.dice_steps.specs.Batches.{IsOfMakes, IsGiven, IsToldOf, TakesUp, ending_events}
+use Rattle.dice_steps.specs.Finishings.{EndsAndWakes}
 use Rattle.dice_tasks.specs.Endings.{told_end}
 use Rattle.dice_core.specs.Givings.{IsToldBy, Gives}
 use Rattle.dice_tasks.specs.Hands.{DeskSeen}
@@ -68,6 +70,18 @@ module _ {K V : Type 0} (eq : K → K → Bool) (equality : IsEquality eq) (s : 
       only : (q : K) (a : Assigned K V) → task_at eq qs q ≡ Some (held_of a IsOut) → (c : Bool) → eq s.job.name.key q ≡ c → task_at eq ps q ≡ Some (held_of a IsOut)
       only q a is true i = absurd (not_run a (sym (turned.tasks q ∙ ap (λ c. cond c (Some (held_run s.job.name)) (task_at eq ps q)) i) ∙ is))
       only q a is false i = sym (turned.tasks q ∙ ap (λ c. cond c (Some (held_run s.job.name)) (task_at eq ps q)) i) ∙ is
+
+  -- it ends the task with a value
+  pub ended_gives : (m : Meaning K V) (cells : Seen K V) (x : V) (t : Told K V) → EndsAndWakes eq m cells v s.job.name.key x s.job.name ps qs → e.events ≡ d.events ++ t ∷ [] → IsWorkAt v t → IsToldBy v s.job.name.key s.job.work s.outcome (t ∷ []) → Gives eq v s ps qs d e
+  ended_gives m cells x t h told at by = record {
+    was = was;
+    out = record { stay = λ q a other is. inl (h.still_out q a other is); only = h.was_out };
+    home = home_by (held_ended s.job.name (WithValue x)) refl h.ended;
+    events = t ∷ [];
+    told = told;
+    works = (at, tt);
+    by = by;
+  }
 
   -- the batch that it asks was taken up
   pub batch_gives : (m : Meaning K V) (ks : List K) → s.outcome ≡ Wanting ks → TakesUp eq m v s.job ks ps d qs e → Gives eq v s ps qs d e

@@ -343,7 +343,7 @@ module _ {U K V A : Type 0} (eq : K → K → Bool) (equality : IsEquality eq) (
             free = i.0;
             held = task;
             task = put task r.0.tasks;
-            by_look = subst (IsMadeBy eq v k (length c.events + 1) es fs task (Keep v k base ∷ [])) (sym i.1.1) (i.1.2 ∙ ap (λ b. held_ended (record { version = v; key = k; born = b }) (WithValue i.1.0)) (named (index + 1) refl), refl, r.2);
+            by_look = subst (IsMadeBy eq v k (length c.events + 1) es fs task (Keep v k base ∷ [])) (sym i.1.1) (i.1.2 ∙ ap (λ b. held_ended (record { version = v; key = k; born = b }) (WithValue i.1.0)) (named (index + 1) refl), refl, r.2, r.3);
           });
           outs = outs_same e.out (ap (λ (z : DeskSeen K V). z.out) r.1);
         }

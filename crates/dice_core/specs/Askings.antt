@@ -2,7 +2,7 @@
 use Rattle.std.specs.Prelude.{◌≡◌, ℕ, Bool, true, cond, List, ◌++◌, ◌+◌, map, Some, None}
 use Rattle.std.specs.List.{list_any}
 use Rattle.dice_key.specs.Meaning.{Meaning}
-use Rattle.dice_model.specs.Log.{Has}
+use Rattle.dice_model.specs.Log.{Has, AreDistinct}
 use Rattle.task_share.specs.Seen.{Share, task_at, is_live}
 use Rattle.injected.specs.Seen.{Seen}
 use Rattle.journal.specs.declared.event.Told.{Told}
@@ -33,8 +33,9 @@ module _ {K V : Type 0} (R : List (Told K V)) where
     pub key : asking.key ≡ k
 
 module _ {K V : Type 0} (eq : K → K → Bool) where
-  -- these events, and then the drops of these tasks, which were at work; all other tasks are as before
+  -- these events, and then the drops of these tasks, each once, which were at work; all other tasks are as before
   pub record DropsAfter (v : ℕ) (before : List (Told K V)) (ks : List K) (ps qs : List (K × Share K (Held K V))) (d e : DeskSeen K V) : Type 0 where
     pub events : e.events ≡ d.events ++ (before ++ map (Drop v) ks)
+    pub distinct : AreDistinct ks
     pub at_work : (q : K) → Has ks q → is_live eq ps q ≡ true
     pub tasks : (q : K) → task_at eq qs q ≡ cond (list_any (eq q) ks) None (task_at eq ps q)

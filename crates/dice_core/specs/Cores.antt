@@ -11,7 +11,7 @@ use Rattle.injected.specs.Seen.{Seen, cell_at}
 use Rattle.journal.specs.declared.event.Told.{Told}
 use Rattle.journal.specs.declared.event.Told.TheVariants.{Start, Keep, End, Cyclic, Drop, Lost}
 use Rattle.std.specs.List.{AllByRecursion, list_any}
-use Rattle.dice_model.specs.Log.{Has}
+use Rattle.dice_model.specs.Log.{Has, AreDistinct}
 use Rattle.journal.specs.Events.{Decision, ByValue, ByCycle, open_count}
 use Rattle.version_epoch.specs.Standings.{open_count_of}
 use Rattle.versioned_graph.specs.Entries.{Stored}
@@ -183,8 +183,9 @@ module _ {K V : Type 0} (eq : K → K → Bool) where
     pub ready : d.desk.ready ≡ c.desk.ready
     pub out : d.desk.out ≡ c.desk.out
 
-  -- these tasks of v are gone, which were at work, and where it says so all tasks of v are; all other tasks, of all versions, are as before
+  -- these tasks of v, each named once, are gone, which were at work, and where it says so all tasks of v are; all other tasks, of all versions, are as before
   pub record DropsThese (v : ℕ) (all : Bool) (ks : List K) (ts us : List (ℕ × List (K × Share K (Held K V)))) : Type 0 where
+    pub distinct : AreDistinct ks
     pub at_work : (q : K) → Has ks q → is_live eq (table_at ts v) q ≡ true
     pub tasks : (u : ℕ) (q : K) → task_at eq (table_at us u) q ≡ cond (nat_eq v u && (all || list_any (eq q) ks)) None (task_at eq (table_at ts u) q)
 

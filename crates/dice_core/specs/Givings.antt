@@ -16,6 +16,7 @@ use Rattle.dice_tasks.specs.Makings.{held_run}
 use Rattle.dice_tasks.specs.Waitings.{IsTurned}
 use Rattle.dice_steps.specs.Batches.{LeavesOut, IsOfMakes, TakesUp, ending_events}
 use Rattle.dice_steps.specs.Finishings.{IsFinished, EndsAndWakes}
+use Rattle.dice_steps.specs.Taken.{IsBatchDone}
 use Rattle.dice_core.specs.Cores.{IsWorkAt}
 use Rattle.dice_core.specs.declared.giving.Gave.{Gave}
 use Rattle.dice_core.specs.declared.giving.Gave.TheVariants.{Taken, Stale}
@@ -59,4 +60,4 @@ module _ {K V : Type 0} (eq : K → K → Bool) (m : Meaning K V) (veq : V → V
   IsTakenUp d e (Valued x) = EndsIn x
   IsTakenUp d e Unchanged = (x : V) × (T : List (Answered K V)) × (b : ℕ) × (s.job.work ≡ Checks x T b) × EndsIn x
   IsTakenUp d e (Changed j) = IsTurned eq s.job.name.key (held_of s.job IsOut) (held_run s.job.name) ps qs × (fs ≡ es)
-  IsTakenUp d e (Wanting ks) = TakesUp eq m v s.job ks ps d qs e
+  IsTakenUp d e (Wanting ks) = TakesUp eq m v s.job ks ps d qs e × IsBatchDone eq m v s.job ks cells ps d es qs e fs

@@ -8,6 +8,7 @@ use Rattle.injected.specs.Seen.{Seen}
 use Rattle.journal.specs.declared.event.Told.{Told}
 use Rattle.journal.specs.declared.event.Told.TheVariants.{Ask, Start, Keep}
 use Rattle.journal.specs.Events.{Opened, open_at}
+use Rattle.versioned_graph.specs.Edges.{is_edge}
 use Rattle.versioned_graph.specs.Entries.{Stored, entry_at, seen_at}
 use Rattle.versioned_graph.specs.Looks.{Look, Matches, Computes, Checks, look}
 use Rattle.core_laws.specs.Tasks.{Ended, WithValue}
@@ -37,9 +38,9 @@ module _ {K V : Type 0} (v : ℕ) (k : K) where
 module _ {K V : Type 0} (eq : K → K → Bool) (v : ℕ) (k : K) (born : ℕ) (es fs : List (K × Stored K V)) (h : Held K V) (made : List (Told K V)) where
   -- the task h was made of k at v by what a look-up says, when the journal had so many events; this was told, and the entries es became fs: a value
   -- that matches ends it and is kept, and its entry was seen at v; a key that has to be computed is started, for the reason that the look-up has; and a
-  -- value whose dependencies have to be checked waits for its check
+  -- value whose dependencies have to be checked waits for its check. All other entries, and all recorded edges, are as they were
   abbrev pub IsMadeBy : Look K V → Type 0
-  IsMadeBy (Matches x b) = (h ≡ held_ended (record { version = v; key = k; born = born }) (WithValue x)) × (made ≡ Keep v k b ∷ []) × ((q : K) → entry_at eq fs q ≡ cond (eq k q) (option_map (seen_at v) (entry_at eq es k)) (entry_at eq es q))
+  IsMadeBy (Matches x b) = (h ≡ held_ended (record { version = v; key = k; born = born }) (WithValue x)) × (made ≡ Keep v k b ∷ []) × ((q : K) → entry_at eq fs q ≡ cond (eq k q) (option_map (seen_at v) (entry_at eq es k)) (entry_at eq es q)) × ((j q : K) → is_edge eq fs j q ≡ is_edge eq es j q)
   IsMadeBy (Computes y) = (h ≡ held_run (record { version = v; key = k; born = born })) × (made ≡ Start v k (started_for y) ∷ []) × (fs ≡ es)
   IsMadeBy (Checks x T b) = (h ≡ held_check (record { version = v; key = k; born = born }) x T b) × (made ≡ []) × (fs ≡ es)
 

@@ -186,6 +186,7 @@ impl<U: Universe> Core<U> {
         ensures index { IfOk result (λ t. t ≡ length (events_of self.old)) }
         ensures events { OnOk result (events_of self.new ≡ events_of self.old ++ Open by (length (commits_of (past_of self.old))) ∷ []) }
         ensures tasks { OnOk result (KeepsTasksOf U.Key.eq self.old self.new) }
+        ensures rest { (self.new.entries ≡ self.old.entries) × (self.new.cells ≡ self.old.cells) }
         ensures err { OnErr result (IsAsBefore U.Key.eq self.old self.new) }
     {
         laws_of::<U>();
@@ -206,6 +207,7 @@ impl<U: Universe> Core<U> {
         requires { is_some (open_at (past_of self.old) tx) ≡ true }
         ensures index { IfOk result (λ i. i ≡ length (events_of self.old)) }
         ensures asked { OnOk result ((o : Opened) × (open_at (past_of self.old) tx ≡ Some o) × Turned U.Key.eq U.meaning o.version self.old.tables self.new.tables (λ ps qs. AsksForKey U.Key.eq U.meaning o.version by tx (arc_value key) ps qs self.old.entries self.new.entries self.old.desk self.new.desk)) }
+        ensures rest { self.new.cells ≡ self.old.cells }
         ensures err { OnErr result (IsAsBefore U.Key.eq self.old self.new) }
     {
         laws_of::<U>();
@@ -227,6 +229,7 @@ impl<U: Universe> Core<U> {
     pub fn close(&mut self, tx: u64)
         requires { is_some (open_at (past_of self.old) tx) ≡ true }
         ensures log { (o : Opened) × (ks : List U.Key) × (open_at (past_of self.old) tx ≡ Some o) × (events_of self.new ≡ events_of self.old ++ (Close o.by tx ∷ map (Drop o.version) ks)) × DropsThese U.Key.eq o.version (nat_eq (open_count (past_of self.new) o.version) 0) ks self.old.tables self.new.tables }
+        ensures rest { (self.new.entries ≡ self.old.entries) × (self.new.cells ≡ self.old.cells) }
     {
         laws_of::<U>();
         close_in(&mut self.desk, &mut self.versions, &mut self.sessions, tx);
@@ -236,6 +239,7 @@ impl<U: Universe> Core<U> {
     pub fn leave(&mut self, ask: u64)
         requires { is_some (live_at (past_of self.old) ask) ≡ true }
         ensures log { (a : Asking U.Key) × (o : Opened) × (ks : List U.Key) × (live_at (past_of self.old) ask ≡ Some a) × (open_at (past_of self.old) a.opened ≡ Some o) × (events_of self.new ≡ events_of self.old ++ (Leave a.by ask ∷ map (Drop o.version) ks)) × DropsThese U.Key.eq o.version false ks self.old.tables self.new.tables }
+        ensures rest { (self.new.entries ≡ self.old.entries) × (self.new.cells ≡ self.old.cells) }
     {
         laws_of::<U>();
         leave_ask(&mut self.desk, &mut self.versions, &mut self.sessions, ask);
@@ -246,6 +250,7 @@ impl<U: Universe> Core<U> {
         ensures none { IfNone result ((self.old.desk.ready ≡ []) × (self.new ≡ self.old)) }
         ensures some { IfSome result (λ j. TakesOut U.Key.eq j self.old self.new) }
         ensures events { events_of self.new ≡ events_of self.old }
+        ensures rest { (self.new.entries ≡ self.old.entries) × (self.new.cells ≡ self.old.cells) × (self.new.sessions ≡ self.old.sessions) }
     {
         laws_of::<U>();
         take_next(&mut self.desk, &mut self.versions)
@@ -257,6 +262,7 @@ impl<U: Universe> Core<U> {
         ensures other { IfSome result (λ j. (j ≡ job) × IsAsBefore U.Key.eq self.old self.new × (IsJobOut U.Key.eq self.old job → ⊥)) }
         ensures back { IfNone result (IsJobOut U.Key.eq self.old job × TakesOut U.Key.eq job self.new self.old) }
         ensures events { events_of self.new ≡ events_of self.old }
+        ensures rest { (self.new.entries ≡ self.old.entries) × (self.new.cells ≡ self.old.cells) × (self.new.sessions ≡ self.old.sessions) }
     {
         laws_of::<U>();
         bring_back(&mut self.desk, &mut self.versions, job)
@@ -287,6 +293,7 @@ impl<U: Universe> Core<U> {
         ensures stale { IfOk result (λ g. IfSome (stale_of g) (λ s. (s ≡ step) × (IsJobOut U.Key.eq self.old step.job → ⊥) × (self.new ≡ self.old))) }
         ensures taken { IfOk result (λ g. IfNone (stale_of g) (Turned U.Key.eq U.meaning step.job.name.version self.old.tables self.new.tables (λ ps qs. Gives U.Key.eq step.job.name.version step ps qs self.old.desk self.new.desk))) }
         ensures does { IfOk result (λ g. IfNone (stale_of g) (Turned U.Key.eq U.meaning step.job.name.version self.old.tables self.new.tables (λ ps qs. IsTakenUp U.Key.eq U.meaning U.Value.eq step.job.name.version step self.old.cells ps qs self.old.entries self.new.entries self.old.desk self.new.desk step.outcome))) }
+        ensures rest { (self.new.cells ≡ self.old.cells) × (self.new.sessions ≡ self.old.sessions) }
         ensures step { IfErr result (λ e. e.1 ≡ step) }
         ensures err { OnErr result (IsJobOut U.Key.eq self.old step.job × IsAsBefore U.Key.eq self.old self.new) }
     {

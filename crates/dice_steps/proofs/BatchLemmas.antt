@@ -37,10 +37,12 @@ use Rattle.dice_tasks.specs.Hands.{DeskSeen, desk_of, Working, tasks_of}
 use Rattle.dice_tasks.specs.Entries.{EntriesStand}
 use Rattle.dice_tasks.specs.Endings.{AreTasked, Knows}
 use Rattle.dice_tasks.specs.Waitings.{HasRoomFor, ParksJob, ReturnsJob, MayPark, waits_so}
-use Rattle.dice_steps.specs.Plans.{key_in, wait_for, waits_of, IsPathOf, AreParts, ArePlaced, IsAtHand, IsRoomy, GoesOnSo, WaitsSo}
+use Rattle.dice_steps.specs.Taken.{IsPathOf}
+use Rattle.dice_steps.specs.Plans.{key_in, wait_for, waits_of, AreParts, ArePlaced, IsAtHand, IsRoomy, GoesOnSo, WaitsSo}
 use Rattle.dice_steps.specs.Batches.{IsOfMakes, ending_events, GivesUp, LeavesOut, MakesOn, IsBeside, HasRoomToMake, MakesParts, TakesUp}
 use Rattle.dice_steps.specs.declared.plan.Part.{Part}
 use Rattle.dice_tasks.proofs.EndsLemmas.{working_knows}
+use Rattle.dice_tasks.proofs.Lists.{has_right}
 use Rattle.dice_tasks.proofs.LooksLemmas.{look_stands}
 use Rattle.dice_steps.proofs.MakesLemmas.{makes_more_keys, makes_tasks}
 use Rattle.dice_steps.proofs.PartLemmas.{has_mapped, there_waits, wait_there, zip_on}
@@ -51,7 +53,7 @@ use Rattle.dice_tasks.proofs.WaitLemmas.{waits_there, waits_only, key_there, wai
 
 module _ {K V : Type 0} where
   -- a task that has a value has ended with it
-  ended_so : (o : Option (Held K V)) (x : V) → value_of (option_map task_of o) ≡ Some x → (h : Held K V) × (o ≡ Some h) × (h.standing ≡ Ended (WithValue x))
+  pub ended_so : (o : Option (Held K V)) (x : V) → value_of (option_map task_of o) ≡ Some x → (h : Held K V) × (o ≡ Some h) × (h.standing ≡ Ended (WithValue x))
   ended_so None x e = absurd (none-some x e)
   ended_so (Some h) x e = (h, refl, by_standing h.standing refl)
     where
@@ -96,18 +98,21 @@ module _ {K V : Type 0} (eq : K → K → Bool) (equality : IsEquality eq) (m : 
       asked_next : (q : K) → Has ks q → AsksFor eq m (commits_of (reverse d.events)) v a.name.key q
       asked_next q h = asks_of_next eq equality m law (reverse d.events) v a.name.key (doing a.work) a.answered ks stood.standing.work next stood.computed q h
 
+      key_among : (path : List K) (h : IsPathOf eq ps m a.name.key ks path) → Has ks h.key
+      key_among path h = subst (λ z. Has z h.key) (sym h.all) (has_right h.before (h.key ∷ h.later) h.key (inl refl))
+
       -- a circle to which a key comes is a cycle that the task's key reaches
-      pub path_stands : (path : List K) → IsPathOf eq ps a.name.key ks path → CycleStands eq m (commits_of (reverse d.events)) v a.name.key path
+      pub path_stands : (path : List K) → IsPathOf eq ps m a.name.key ks path → CycleStands eq m (commits_of (reverse d.events)) v a.name.key path
       path_stands path h = elim h.found as (λ _. CycleStands eq m (commits_of (reverse d.events)) v a.name.key path) [
         | inl c ↦ subst (CycleStands eq m (commits_of (reverse d.events)) v a.name.key) (sym c.begins)
             (circle_is_cycle eq m (commits_of (reverse d.events)) v a.name.key (IsRound (WouldWait (asked_of eq ps) a.name.key h.key) a.name.key) (λ j r. waits_on j a.name.key r) (λ i j js r. (waits_on i j r.0, r.1)) c.rest (subst Shared.AreDistinct c.begins c.distinct) c.round)
         | inr g ↦ (let t = path_so (task_at eq ps h.key) path g in let s : IsStanding eq m (reverse d.events) v h.key (Ended (WithCycle path)) = subst (IsStanding eq m (reverse d.events) v h.key) t.2 (here.each h.key (task_of t.0) (ap (option_map task_of) t.1)).standing in
-            cycle_above eq m (commits_of (reverse d.events)) v a.name.key h.key path (asked_next h.key h.among) s.0)
+            cycle_above eq m (commits_of (reverse d.events)) v a.name.key h.key path (asked_next h.key (key_among path h)) s.0)
       ]
         where
           waits_on : (i j : K) → WouldWait (asked_of eq ps) a.name.key h.key i j → AsksFor eq m (commits_of (reverse d.events)) v i j
           waits_on i j (inl e) = here.waits j i e
-          waits_on i j (inr e) = subst (λ z. AsksFor eq m (commits_of (reverse d.events)) v z j) (sym e.0) (subst (AsksFor eq m (commits_of (reverse d.events)) v a.name.key) (sym e.1) (asked_next h.key h.among))
+          waits_on i j (inr e) = subst (λ z. AsksFor eq m (commits_of (reverse d.events)) v z j) (sym e.0) (subst (AsksFor eq m (commits_of (reverse d.events)) v a.name.key) (sym e.1) (asked_next h.key (key_among path h)))
 
   -- what is at hand as a key's value is the value
   pub at_hand_true : (es : List (K × Stored K V)) (s : Seen K V) → v ≤ length (commits_of (reverse d.events)) → EntriesStand eq m (reverse d.events) es → ((u : ℕ) (q : K) → cell_at eq m s u q ≡ input eq m (commits_of (reverse d.events)) u q)
@@ -361,7 +366,7 @@ module _ {K V : Type 0} (eq : K → K → Bool) (equality : IsEquality eq) (m : 
   pub own_live : is_live eq ps k ≡ true
   own_live = subst (λ z. is_live eq ps z ≡ true) own (live_own eq equality m law v w owed ps d hand.working a ks own_out)
 
-  pub own_path : (path : List K) → IsPathOf eq ps a.name.key ks path → CycleStands eq m (commits_of (reverse d.events)) v k path
+  pub own_path : (path : List K) → IsPathOf eq ps m a.name.key ks path → CycleStands eq m (commits_of (reverse d.events)) v k path
   own_path path h = subst (λ z. CycleStands eq m (commits_of (reverse d.events)) v z path) own (path_stands eq equality m law v w owed ps d hand.working a ks own_out own_next path h)
 
 module _ {U K V R : Type 0} (eq : K → K → Bool) (equality : IsEquality eq) (m : Meaning K V) (law : IsLawful m) (v : ℕ) (k : K) (a : Assigned K V) (own : a.name.key ≡ k) (ks : List K) (xs : List (Part U K V R)) (w : World K V) (owed : ℕ) (ps : List (K × Share K (Held K V))) (d : DeskSeen K V) (es : List (K × Stored K V)) (s : Seen K V)

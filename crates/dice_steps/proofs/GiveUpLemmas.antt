@@ -6,7 +6,7 @@ use Rattle.std.proofs.lemmas.List.{reverse-append}
 use Rattle.std.proofs.lemmas.Option.{none-some, same_Some}
 use Rattle.dice_key.specs.Meaning.{Meaning}
 use Rattle.dice_key.specs.Lawful.{IsEquality}
-use Rattle.dice_model.specs.Log.{Has}
+use Rattle.dice_model.specs.Log.{Has, AreDistinct}
 use Rattle.task_share.specs.Asked.{Asked, IsDone, Cascade}
 use Rattle.task_share.specs.Seen.{Share, task_at, is_live, asked_of}
 use Rattle.injected.specs.Seen.{Seen}
@@ -26,7 +26,9 @@ use Rattle.dice_tasks.specs.Hands.{DeskSeen, Working, desk_of, tasks_of}
 use Rattle.dice_tasks.specs.Entries.{LeavesEntries, EntriesStand}
 use Rattle.dice_tasks.specs.Endings.{ComesOf, told_end, EndsTasks, DropsTasks, AreTasked}
 use Rattle.dice_steps.specs.Batches.{LeavesOut, GivesUp, ending_events}
+use Rattle.dice_tasks.proofs.Dropped.{cascade_live, cascade_distinct}
 use Rattle.dice_tasks.proofs.EntriesLemmas.{stand_after}
+use Rattle.dice_tasks.proofs.Lists.{distinct_both}
 use Rattle.dice_steps.proofs.QuietLemmas.{all_both, cells_after, open_after}
 
 -- ---- the events
@@ -93,6 +95,16 @@ module _ {K V : Type 0} (eq : K → K → Bool) (equality : IsEquality eq) where
   ]
 
   module _ (v : ℕ) (path : Option (List K)) (k : K) (os : List (K × Outcome K V)) (ds : List K) (ps rs qs : List (K × Share K (Held K V))) (d f e : DeskSeen K V) (ends : EndsTasks eq v path k os ps rs d f) (drops : DropsTasks eq v ds rs qs f e) where
+    -- no task is told of twice
+    pub told_once : AreDistinct (map (λ (p : K × Outcome K V). p.0) os ++ ds)
+    told_once = distinct_both (map (λ (p : K × Outcome K V). p.0) os) ds ends.distinct (cascade_distinct eq equality ds (asked_of eq rs) (asked_of eq qs) drops.cascade)
+        (λ x h i. (let r = key_of os x h in not_both (cascade_live eq equality ds (asked_of eq rs) (asked_of eq qs) drops.cascade x i) (subst (λ z. is_live eq rs z ≡ false) r.2 (ends.idle r.0 r.1))))
+      where
+        key_of : (xs : List (K × Outcome K V)) (x : K) → Has (map (λ (p : K × Outcome K V). p.0) xs) x → (p : K × Outcome K V) × Has xs p × (p.0 ≡ x)
+        key_of [] x h = absurd h
+        key_of (p ∷ xs) x (inl i) = (p, inl refl, i)
+        key_of (p ∷ xs) x (inr h) = let r = key_of xs x h in (r.0, inr r.1, r.2)
+
     dropped_or : (q : K) → (task_at eq qs q ≡ None) ⊎ (task_at eq qs q ≡ task_at eq rs q)
     dropped_or q = by_test (list_any (eq q) ds) refl
       where

@@ -1,7 +1,9 @@
 pub mod AskedLemmas
 pub mod BatchLemmas
+pub mod DoneLemmas
 pub mod FinishLemmas
 pub mod GiveUpLemmas
+pub mod LookedLemmas
 pub mod MakesLemmas
 pub mod NotedLemmas
 pub mod PartLemmas

@@ -170,7 +170,7 @@ module _ {K V : Type 0} (eq : K → K → Bool) (ps qs : List (K × Share K (Hel
   pub at_hand_same : (m : Meaning K V) (v : ℕ) (es : List (K × Stored K V)) (s : _) (q : K) (x : V) → IsAtHand eq m v qs es s q x → IsAtHand eq m v ps es s q x
   at_hand_same m v es s q x (inl h) = inl h
   at_hand_same m v es s q x (inr (inl h)) = inr (inl (ap (λ (o : Option (Held K V)). value_of (option_map task_of o)) (sym (tasks.tasks q)) ∙ h))
-  at_hand_same m v es s q x (inr (inr h)) = inr (inr h)
+  at_hand_same m v es s q x (inr (inr h)) = inr (inr (h.0, h.1, h.2, ap (λ (o : Option (Held K V)). value_of (option_map task_of o)) (sym (tasks.tasks q)) ∙ h.3))
 
 module _ {U K V R : Type 0} (k : K) where
   -- the waits for those that are waited for

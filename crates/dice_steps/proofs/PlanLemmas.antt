@@ -1,6 +1,6 @@
 -- A plan is one over the room that was made for it, and leaves what is seen as it was.
-use Rattle.std.proofs.Common.{◌≡◌, inl, inr, ◌<◌, ◌≤◌, ◌+◌, ◌*◌, ℕ, Bool, true, false, List, [], ◌∷◌, ◌++◌, length, reverse, Option, Some, None, refl, sym, ap, ◌∙◌, subst, arith}
-use Rattle.std.specs.List.{AllZip}
+use Rattle.std.proofs.Common.{◌≡◌, inl, inr, ◌<◌, ◌≤◌, ◌+◌, ◌*◌, ℕ, Bool, true, false, ◌&&◌, ◌||◌, List, [], ◌∷◌, ◌++◌, length, reverse, Option, Some, None, refl, sym, ap, ◌∙◌, subst, arith}
+use Rattle.std.specs.List.{AllZip, list_any}
 use Rattle.std.specs.Option.{option_map}
 use Rattle.std.specs.Prelude.{◌==◌}
 use Rattle.std.proofs.lemmas.Bool.{eqb-true}
@@ -9,7 +9,7 @@ use Rattle.dice_key.specs.Meaning.{Meaning}
 use Rattle.dice_key.specs.Lawful.{IsEquality}
 use Rattle.dice_model.specs.Log.{Has}
 use Rattle.dice_jobs.specs.Jobs.{Assigned, Waits, Outcome, Wanting, waiting_after, answered_more}
-use Rattle.task_share.specs.Asked.{WaitOf}
+use Rattle.task_share.specs.Asked.{Tasked, WaitOf, is_by}
 use Rattle.task_share.specs.Seen.{Share, task_at, is_live, asked_of, wait_room, KeepsTasks, KeepsAsks}
 use Rattle.injected.specs.Seen.{Seen}
 use Rattle.journal.specs.declared.event.Told.{Told}
@@ -26,13 +26,15 @@ use Rattle.dice_steps.specs.Cells.{CellsStand}
 use Rattle.dice_tasks.specs.Helds.{Held, Ahead, task_of}
 use Rattle.dice_tasks.specs.Hands.{DeskSeen, KeepsHands, HasDeskRoom, desk_of, Working, tasks_of, seen_world}
 use Rattle.dice_tasks.specs.Entries.{EntriesStand}
-use Rattle.dice_tasks.specs.Makings.{IsMaking}
-use Rattle.dice_steps.specs.Plans.{key_in, wait_for, waits_of, is_awaited, HasNone, IsPart, AreParts, ArePlaced, IsAtHand, IsRoomy, GoesOnSo, WaitsSo, IsPlan}
+use Rattle.dice_tasks.specs.Makings.{IsFree, IsMaking, task_by}
+use Rattle.dice_steps.specs.Plans.{key_in, wait_for, waits_of, is_awaited, HasNone, IsPart, AreParts, ArePlaced, IsAtHand, IsRoomy, GoesOnSo, WaitsSo, IsPlan, IsPlanDone, IfEnds}
+use Rattle.dice_steps.specs.Taken.{says, told_of, NeedsTask, MakesTasks, WaitsFor, GoesOnWith, EndsByCircle, IsBatchDone}
 use Rattle.dice_steps.specs.Batches.{TakesUp}
 use Rattle.dice_tasks.specs.declared.making.Making.{Making}
 use Rattle.dice_tasks.specs.declared.making.Making.TheVariants.{Join, Match, Run, Check}
 use Rattle.dice_steps.specs.declared.plan.Part.{Part}
 use Rattle.dice_steps.specs.declared.plan.Plan.{Plan}
+use Rattle.dice_steps.specs.declared.plan.Plan.TheVariants as plan
 use Rattle.dice_tasks.proofs.CascadeLemmas.{done_same}
 use Rattle.dice_tasks.proofs.EndsLemmas.{same_table}
 use Rattle.dice_steps.proofs.MakesLemmas.{value_there}
@@ -92,6 +94,49 @@ module _ {K V : Type 0} (eq : K → K → Bool) (m : Meaning K V) (v : ℕ) (ps 
     told = h.told ∙ ap (λ (x : List (Told K V)). x ++ h.events) hands.events;
     of_batch = h.of_batch;
   }
+
+  -- the same of what becomes of the batch, where tasks were made
+  module _ (a : Assigned K V) (ks : List K) (s : Seen K V) (es : List (K × Stored K V)) (rs : List (K × Share K (Held K V))) (f : DeskSeen K V) (fs : List (K × Stored K V)) where
+    needs_from : (q : K) → NeedsTask eq m v a ks s qs e es rs f fs q → NeedsTask eq m v a ks s ps d es rs f fs q
+    needs_from q n = record { among = n.among; computed = n.computed; free = subst IsFree (tasks.tasks q) n.free }
+
+    needs_to : (q : K) → NeedsTask eq m v a ks s ps d es rs f fs q → NeedsTask eq m v a ks s qs e es rs f fs q
+    needs_to q n = record { among = n.among; computed = n.computed; free = subst IsFree (sym (tasks.tasks q)) n.free }
+
+    pub makes_from : MakesTasks eq m v a ks s qs e es rs f fs → MakesTasks eq m v a ks s ps d es rs f fs
+    makes_from h = record {
+      made = h.made;
+      distinct = h.distinct;
+      needed = λ q i. needs_from q (h.needed q i);
+      all = λ q n. h.all q (needs_to q n);
+      these = record {
+        tasks = λ q i. h.these.tasks q i ∙ ap (λ (J : List (Told K V)). Some (task_by v q (length J) (says eq m v es q))) hands.events;
+        told = h.these.told ∙ ap (λ (J : List (Told K V)). J ++ told_of eq m v es h.made) hands.events;
+        entries = h.these.entries;
+        other_entries = h.these.other_entries;
+        edges = h.these.edges;
+      };
+      others = λ q n miss. h.others q n miss ∙ tasks.tasks q;
+    }
+
+    pub waits_from : WaitsFor eq m v a ks s qs e es rs f fs → WaitsFor eq m v a ks s ps d es rs f fs
+    waits_from h = record {
+      held = h.held;
+      awaited = h.awaited;
+      some = h.some;
+      each = λ q i. (let x = h.each q i in record { among = x.among; computed = x.computed; going = x.going });
+      all = λ q x. h.all q (record { among = x.among; computed = x.computed; going = x.going });
+      asks = λ q b. h.asks q b ∙ ap (λ z. z || (list_any (λ k. eq k q) h.awaited && is_by eq (Tasked a.name.key) b)) (asked q b);
+    }
+
+    pub goes_from : GoesOnWith eq m v a ks s qs e es rs f fs → GoesOnWith eq m v a ks s ps d es rs f fs
+    goes_from h = record { values = h.values; held = h.held; answers = h.answers; asks = λ q b. h.asks q b ∙ asked q b }
+
+    -- whatever was planned
+    pub done_from : {U R : Type 0} (owed : ℕ) (z : Plan U K V R) → IfEnds z ((qs ≡ ps) × (e ≡ d)) → IsPlanDone eq m v owed a ks qs e es s z rs f fs → IsBatchDone eq m v a ks s ps d es rs f fs
+    done_from owed (plan.Ends path own) still h = inl (subst (λ (x : List (K × Share K (Held K V))). EndsByCircle eq m v a ks s x d es rs f fs) still.0 (subst (λ (x : DeskSeen K V). EndsByCircle eq m v a ks s qs x es rs f fs) still.1 h))
+    done_from owed (plan.GoesOn xs n) still h = inr (inr (makes_from h.0, goes_from h.1))
+    done_from owed (plan.Waits xs ws) still h = inr (inl (makes_from h.0, waits_from h.1))
 
 -- ---- the plan
 
@@ -193,6 +238,9 @@ module _ {U K V R : Type 0} (eq : K → K → Bool) (m : Meaning K V) (v v2 : �
 module _ {K V : Type 0} (eq : K → K → Bool) (m : Meaning K V) (v v2 : ℕ) (same : v ≡ v2) where
   pub takes_as : (a a2 : Assigned K V) (ks ls : List K) (ps qs : List (K × Share K (Held K V))) (d e : DeskSeen K V) → a ≡ a2 → ks ≡ ls → TakesUp eq m v a ks ps d qs e → TakesUp eq m v2 a2 ls ps d qs e
   takes_as a a2 ks ls ps qs d e i j h = subst (λ x. TakesUp eq m x a2 ls ps d qs e) same (subst (λ x. TakesUp eq m v x ls ps d qs e) i (subst (λ x. TakesUp eq m v a x ps d qs e) j h))
+
+  pub done_as : (a a2 : Assigned K V) (ks ls : List K) (s : Seen K V) (ps : List (K × Share K (Held K V))) (d : DeskSeen K V) (es : List (K × Stored K V)) (qs : List (K × Share K (Held K V))) (e : DeskSeen K V) (fs : List (K × Stored K V)) → a ≡ a2 → ks ≡ ls → IsBatchDone eq m v a ks s ps d es qs e fs → IsBatchDone eq m v2 a2 ls s ps d es qs e fs
+  done_as a a2 ks ls s ps d es qs e fs i j h = subst (λ x. IsBatchDone eq m x a2 ls s ps d es qs e fs) same (subst (λ x. IsBatchDone eq m v x ls s ps d es qs e fs) i (subst (λ x. IsBatchDone eq m v a x s ps d es qs e fs) j h))
 
   pub hand_as : (w : World K V) (owed : ℕ) (ps : List (K × Share K (Held K V))) (d : DeskSeen K V) (es : List (K × Stored K V)) (s : Seen K V) → AtHand eq m v w owed ps d es s → AtHand eq m v2 w owed ps d es s
   hand_as w owed ps d es s h = subst (λ x. AtHand eq m x w owed ps d es s) same h

@@ -13,6 +13,7 @@ use Rattle.versioned_graph.specs.Entries.{Stored}
 use Rattle.core_laws.proofs.Shapes.{not_both}
 use Rattle.dice_tasks.specs.Helds.{Held}
 use Rattle.dice_steps.specs.Plans.{key_in, IsPart, AreParts}
+use Rattle.dice_steps.specs.Taken.{MayWaitFor}
 use Rattle.dice_steps.specs.declared.plan.Part.{Part}
 use Rattle.dice_steps.proofs.NotedLemmas.{AreSeen, seen_more, any_has, has_any}
 use Rattle.dice_steps.proofs.PartLemmas.{keys_next, map_has, parts_skip, parts_more}
@@ -22,6 +23,12 @@ get_has : {X : Type 0} (xs : List X) (i : ℕ) (x : X) → i < length xs → x �
 get_has [] i x l e = absurd (omega arith)
 get_has (y ∷ xs) zero x l e = inl (sym e)
 get_has (y ∷ xs) (suc i) x l e = inr (get_has xs i x (omega arith) e)
+
+-- a key of a batch, with those before it and those after it
+pub batch_at : {K A : Type 0} (items : List (Arc K A)) (i : ℕ) (x : Arc K A) → i < length items → x ≡ get_or items i x → (later : List K) × (map arc_value items ≡ map arc_value (take i items) ++ arc_value x ∷ later)
+batch_at [] i x l e = absurd (omega arith)
+batch_at (y ∷ ys) zero x l e = (map arc_value ys, ap (λ z. arc_value z ∷ map arc_value ys) (sym e))
+batch_at (y ∷ ys) (suc i) x l e = let r = batch_at ys i x (omega arith) e in (r.0, ap (λ z. arc_value y ∷ z) r.1)
 
 module _ {K A : Type 0} (eq : K → K → Bool) (equality : IsEquality eq) where
   -- a key of a batch
@@ -49,6 +56,13 @@ module _ {K A : Type 0} (eq : K → K → Bool) (equality : IsEquality eq) where
     unseen e h = not_both (has_any eq equality ks k h) (sym (seen k) ∙ e)
 
 module _ {U K V R A : Type 0} (eq : K → K → Bool) (equality : IsEquality eq) (m : Meaning K V) (v born : ℕ) (ps : List (K × Share K (Held K V))) (es : List (K × Stored K V)) (k : K) (items : List (Arc K A)) (i : ℕ) (x : Arc K A) (l : i < length items) (e : x ≡ get_or items i x) (xs : List (Part U K V R)) (so_far : AreParts eq m v born ps es k (map arc_value (take i items)) xs) where
+  -- those that were looked at come to no circle
+  pub comes_to_none : (q : K) → Has (map arc_value (take i items)) q → (m.kind q ≡ Injected) ⊎ MayWaitFor eq ps k q
+  comes_to_none q h = elim (so_far.all q h) as (λ _. (m.kind q ≡ Injected) ⊎ MayWaitFor eq ps k q) [
+    | inl j ↦ inl j
+    | inr r ↦ inr (subst (MayWaitFor eq ps k) r.2 (record { apart = so_far.apart r.0 r.1; whole = (so_far.each r.0 r.1).whole }))
+  ]
+
   pub skips : (m.kind (arc_value x) ≡ Injected) ⊎ Has (map key_in xs) (arc_value x) → AreParts eq m v born ps es k (map arc_value (take (i + 1) items)) xs
   skips known = subst (λ z. AreParts eq m v born ps es k z xs) (sym (keys_next items i x l e)) (parts_skip eq m v born ps es k (map arc_value (take i items)) (arc_value x) xs so_far known)
 

@@ -7,6 +7,7 @@ use Rattle.task_share.specs.Seen.{Share, task_at, asks}
 use Rattle.injected.specs.Seen.{Seen, cell_at}
 use Rattle.journal.specs.declared.event.Told.{Told}
 use Rattle.journal.specs.declared.event.Told.TheVariants.{Keep, End}
+use Rattle.versioned_graph.specs.Edges.{Records}
 use Rattle.versioned_graph.specs.Entries.{Stored, entry_at, finished, written}
 use Rattle.core_laws.specs.Tasks.{IsReady, IsOut, WithValue}
 use Rattle.dice_tasks.specs.Helds.{Held, Ahead, held_of, held_ended}
@@ -19,9 +20,11 @@ module _ {K V : Type 0} where
   EndsWith v k s x e = ((s.outcome ≡ Valued x) × (e ≡ End v k)) ⊎ ((s.outcome ≡ Unchanged) × (T : List (Answered K V)) × (b : ℕ) × (s.job.work ≡ Checks x T b) × (e ≡ Keep v k b))
 
 module _ {K V : Type 0} (eq : K → K → Bool) (m : Meaning K V) (veq : V → V → Bool) where
-  -- the value x of k at v was finished with the trace A, and no other entry changed
-  abbrev pub IsFinished : Seen K V → ℕ → K → V → List (Answered K V) → List (K × Stored K V) → List (K × Stored K V) → Type 0
-  IsFinished cells v k x A es fs = (q : K) → entry_at eq fs q ≡ cond (eq k q) (Some (written m veq (entry_at eq es k) (finished m veq (cell_at eq m cells) (entry_at eq es) v x A))) (entry_at eq es q)
+  -- the value x of k at v was finished with the trace A, and no other entry changed; and where by this the entry of k came to have a tail, an edge to k
+  -- from each key of A was recorded, and no other
+  pub record IsFinished (cells : Seen K V) (v : ℕ) (k : K) (x : V) (A : List (Answered K V)) (es fs : List (K × Stored K V)) : Type 0 where
+    pub entries : (q : K) → entry_at eq fs q ≡ cond (eq k q) (Some (written m veq (entry_at eq es k) (finished m veq (cell_at eq m cells) (entry_at eq es) v x A))) (entry_at eq es q)
+    pub edges : Records eq m veq k (finished m veq (cell_at eq m cells) (entry_at eq es) v x A) es fs
 
 module _ {K V : Type 0} (eq : K → K → Bool) (m : Meaning K V) where
   -- the task of k at v, of this name, has ended with x; the tasks that waited for k alone are ready with the answers to their batches, and all other

@@ -3,4 +3,5 @@ pub mod Batches
 pub mod Cells
 pub mod Finishings
 pub mod Plans
+pub mod Taken
 pub mod Wokens

@@ -9,17 +9,16 @@ use Rattle.dice_model.specs.Log.{Has, AreDistinct}
 use Rattle.dice_jobs.specs.Jobs.{Assigned, answered_more}
 use Rattle.task_share.specs.Asked.{WaitOf, Leads}
 use Rattle.task_share.specs.Seen.{Share, task_at, is_live, asked_of, has_place, asker_room, wait_room}
-use Rattle.cycle_guard.specs.Circle.{IsCircle}
 use Rattle.injected.specs.Seen.{Seen, cell_at}
 use Rattle.versioned_graph.specs.Entries.{Stored, entry_at}
 use Rattle.versioned_graph.specs.Looks.{Matches, look}
 use Rattle.core_laws.specs.Tasks.{value_of}
-use Rattle.dice_tasks.specs.Circles.{path_with}
 use Rattle.dice_tasks.specs.Helds.{Held, Ahead}
 use Rattle.dice_tasks.specs.Hands.{DeskSeen, HasDeskRoom, tasks_of}
 use Rattle.dice_tasks.specs.Makings.{IsMaking, IsOfKey}
 use Rattle.dice_tasks.specs.declared.making.Making.{Making}
 use Rattle.dice_tasks.specs.declared.making.Making.TheVariants.{Join, Match, Run, Check}
+use Rattle.dice_steps.specs.Taken.{HasNoPath, IsPathOf, EndsByCircle, MakesTasks, WaitsFor, GoesOnWith}
 use Rattle.dice_steps.specs.declared.plan.Part.{Part}
 use Rattle.dice_steps.specs.declared.plan.Survey.{Survey}
 use Rattle.dice_steps.specs.declared.plan.Survey.TheVariants as survey
@@ -46,25 +45,10 @@ module _ {U K V R : Type 0} (eq : K → K → Bool) (ps : List (K × Share K (He
   is_awaited (Run event cause ready task) = true
   is_awaited (Check ready task) = true
 
-module _ {K V : Type 0} (eq : K → K → Bool) (ps : List (K × Share K (Held K V))) where
-  -- the task of q has not ended with a circle
-  abbrev pub HasNoPath : K → Type 0
-  HasNoPath q = path_with (task_at eq ps q) ≡ None
-
-  -- the path is the circle that the wait of the task of k for q would close, or that with which the task of q has ended
-  abbrev pub IsPathAt : K → K → List K → Type 0
-  IsPathAt k q path = IsCircle (asked_of eq ps) k q path ⊎ (path_with (task_at eq ps q) ≡ Some path)
-
-  -- so it is with some of these keys
-  pub record IsPathOf (k : K) (ks : List K) (path : List K) : Type 0 where
-    pub key : K
-    pub among : Has ks key
-    pub found : IsPathAt k key path
-
 module _ {K V : Type 0} (eq : K → K → Bool) (m : Meaning K V) (v : ℕ) (ps : List (K × Share K (Held K V))) (es : List (K × Stored K V)) where
-  -- x is at hand as the value of q at v: it is the input of an injected key, what the task of q has ended with, or what its entry keeps there
+  -- x is at hand as the value of q at v: it is the input of an injected key, what the task of q has ended with, or else what its entry keeps there
   abbrev pub IsAtHand : Seen K V → K → V → Type 0
-  IsAtHand s q x = ((m.kind q ≡ Injected) × (x ≡ cell_at eq m s v q)) ⊎ (value_of (tasks_of eq ps q) ≡ Some x) ⊎ ((b : ℕ) × (look m.is_transient (entry_at eq es q) v ≡ Matches x b))
+  IsAtHand s q x = ((m.kind q ≡ Injected) × (x ≡ cell_at eq m s v q)) ⊎ (value_of (tasks_of eq ps q) ≡ Some x) ⊎ ((b : ℕ) × (look m.is_transient (entry_at eq es q) v ≡ Matches x b) × (m.kind q ≢ Injected) × (value_of (tasks_of eq ps q) ≡ None))
 
   -- no value of q is at hand
   pub record HasNone (q : K) : Type 0 where
@@ -92,7 +76,7 @@ module _ {U K V R : Type 0} (eq : K → K → Bool) (m : Meaning K V) (v born : 
 
   -- what a batch comes to: a circle, or its parts
   abbrev pub IsSurvey : K → List K → Survey U K V R → Type 0
-  IsSurvey k ks (survey.Circle path) = IsPathOf eq ps k ks (arc_value path)
+  IsSurvey k ks (survey.Circle path) = IsPathOf eq ps m k ks (arc_value path)
   IsSurvey k ks (survey.Parts xs) = AreParts k ks xs.items
 
 module _ {U K V R : Type 0} (eq : K → K → Bool) (xs : List (Part U K V R)) (ps : List (K × Share K (Held K V))) where
@@ -125,6 +109,18 @@ module _ {U K V R : Type 0} (eq : K → K → Bool) (m : Meaning K V) (v owed : 
 
   -- what was planned, with the memory for it
   abbrev pub IsPlan : Plan U K V R → Type 0
-  IsPlan (plan.Ends path) = IsPathOf eq ps a.name.key ks (arc_value path)
+  IsPlan (plan.Ends path own) = IsPathOf eq ps m a.name.key ks (arc_value path) × (arc_value own ≡ arc_value path)
   IsPlan (plan.GoesOn xs n) = GoesOnSo xs.items n
   IsPlan (plan.Waits xs ws) = WaitsSo xs.items ws.items
+
+  -- what is done where this was planned, from the tasks ps, the desk d, the entries es and the cells s
+  abbrev pub IsPlanDone : Plan U K V R → List (K × Share K (Held K V)) → DeskSeen K V → List (K × Stored K V) → Type 0
+  IsPlanDone (plan.Ends path own) qs e fs = EndsByCircle eq m v a ks s ps d es qs e fs
+  IsPlanDone (plan.GoesOn xs n) qs e fs = MakesTasks eq m v a ks s ps d es qs e fs × GoesOnWith eq m v a ks s ps d es qs e fs
+  IsPlanDone (plan.Waits xs ws) qs e fs = MakesTasks eq m v a ks s ps d es qs e fs × WaitsFor eq m v a ks s ps d es qs e fs
+
+-- P holds where the plan is an end
+abbrev pub IfEnds : {U K V R : Type 0} → Plan U K V R → Type 0 → Type 0
+IfEnds (plan.Ends path own) P = P
+IfEnds (plan.GoesOn xs n) P = Unit {0}
+IfEnds (plan.Waits xs ws) P = Unit {0}

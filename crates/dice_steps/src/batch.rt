@@ -1,6 +1,7 @@
 //! A batch that a task asks: it waits for the answers, goes on with them, or ends with a circle.
 ghost use Rattle.std.specs.Prelude.{◌≡◌, ◌+◌, ℕ, List, length, reverse, Some, true, OnErr, OnOk, IfErr, IfOk};
 ghost use Rattle.std.specs.Arc.{arc_value};
+ghost use Rattle.std.specs.Option.{option_map};
 ghost use Rattle.dice_jobs.specs.Jobs.{Wanting};
 ghost use Rattle.task_share.specs.Seen.{Share, task_at, is_live, KeepsTasks, KeepsAsks, KeepsRoom};
 ghost use Rattle.injected.specs.Seen.{Seen};
@@ -15,12 +16,13 @@ ghost use Rattle.dice_tasks.specs.Hands.{KeepsHands, KeepsDeskRoom, Working};
 ghost use Rattle.dice_tasks.specs.Entries.{EntriesStand};
 ghost use Rattle.dice_tasks.specs.Endings.{ReachesPath, GivesUpAll, path_of};
 ghost use Rattle.dice_tasks.specs.Makings.{CanMake, IsMade, IsMaking, IsOfKey, MakesAlone, MayMake};
-ghost use Rattle.dice_steps.specs.Plans.{IsPlan, key_in};
-ghost use Rattle.dice_steps.specs.Batches.{GivesUp, HasRoomToMake, MakesOn, MakesParts, TakesUp};
+ghost use Rattle.dice_steps.specs.Plans.{IsPlan, IsPlanDone, IfEnds, key_in};
+ghost use Rattle.dice_steps.specs.Taken.{IsBatchDone};
+ghost use Rattle.dice_steps.specs.Batches.{AreMakable, GivesUp, HasRoomToMake, MakesOn, MakesParted, MakesParts, TakesUp};
 
 use crate::plan::{Part, Plan, plan_batch};
 use dice_jobs::{Parked, Report, Step};
-use dice_key::{KeyRef, NoMemory, Universe, laws_of};
+use dice_key::{KeyRef, NoMemory, Path, Universe, laws_of};
 use dice_tasks::{Desk, How, Tasks, cascade, end_all, go_on, make, park};
 use injected::{Cells, cells_are_the_inputs};
 use std::alloc::Global;
@@ -28,7 +30,8 @@ use std::sync::Arc;
 use versioned_graph::Graph;
 
 /// Gives up the task at work of a key: it ends as lost, or with a circle that the key reaches, and with it all that ask for it, for
-/// one of these, and so on; and what nobody asks for then is dropped. It takes no memory.
+/// one of these, and so on; and what nobody asks for then is dropped. It takes no memory: the task of the key ends with its `own`
+/// circle, and another one for which there is no memory for a copy ends as lost.
 ///
 /// It costs the number of tasks that it ends and drops, and of the keys that they waited for.
 pub fn give_up<U: Universe>(
@@ -36,17 +39,19 @@ pub fn give_up<U: Universe>(
     tasks: &mut Tasks<U>,
     version: u64,
     key: &KeyRef<U>,
+    own: Option<Arc<Path<U::Key>>>,
     how: &How<'_, U::Key>,
 )
     requires hand { (w : World U.Key U.Value) × (owed : ℕ) × (es : List (U.Key × Stored U.Key U.Value)) × (s : Seen U.Key U.Value) × AtHand U.Key.eq U.meaning version w owed tasks.old desk.old es s }
     requires live { is_live U.Key.eq tasks.old (arc_value key.now) ≡ true }
+    requires own { option_map arc_value own ≡ path_of how.now }
     requires reached { ReachesPath U.Key.eq U.meaning (path_of how.now) (commits_of (reverse desk.old.events)) version (arc_value key.now) }
     ensures ends { GivesUpAll U.Key.eq version (path_of how.now) (arc_value key.now) tasks.old tasks.new desk.old desk.new }
     ensures given { GivesUp U.Key.eq version (path_of how.now) (arc_value key.now) tasks.old desk.old tasks.new desk.new }
     ensures kept { (w : World U.Key U.Value) (owed : ℕ) (es : List (U.Key × Stored U.Key U.Value)) (s : Seen U.Key U.Value) → AtHand U.Key.eq U.meaning version w owed tasks.old desk.old es s → AtHand U.Key.eq U.meaning version w owed tasks.new desk.new es s }
 {
     laws_of::<U>();
-    end_all(desk, tasks, version, key, how);
+    end_all(desk, tasks, version, key, own, how);
     cascade(desk, tasks, version);
 }
 
@@ -61,6 +66,7 @@ fn make_all<U: Universe>(
     requires hand { (W : List U.Key) × (w : World U.Key U.Value) × (owed : ℕ) × MakesOn U.Key.eq U.meaning version W w owed parts.items tasks.old desk.old graph.old }
     requires room { HasRoomToMake U.Key.eq parts.items tasks.old desk.old }
     ensures made { MakesParts U.Key.eq parts.items version tasks.old desk.old tasks.new desk.new }
+    ensures looked { (born : ℕ) → AreMakable U.Key.eq U.meaning version born parts.items tasks.old graph.old → MakesParted U.Key.eq U.meaning version born parts.items tasks.old desk.old graph.old tasks.new desk.new graph.new }
     ensures kept { (W : List U.Key) (w : World U.Key U.Value) (owed : ℕ) → MakesOn U.Key.eq U.meaning version W w owed parts.items tasks.old desk.old graph.old → Working U.Key.eq U.meaning version W w owed tasks.new desk.new × EntriesStand U.Key.eq U.meaning (reverse desk.new.events) graph.new }
 {
     laws_of::<U>();
@@ -104,12 +110,15 @@ fn take_up<U: Universe>(
     requires next { AsksNext U.Key.eq U.meaning version (arc_value key.now) (doing parked.job.work) parked.job.answered (IsWaiting parked.keys) }
     requires hand { (w : World U.Key U.Value) × (owed : ℕ) × (s : Seen U.Key U.Value) × AtHand U.Key.eq U.meaning version w owed tasks.old desk.old graph.old s × IsPlan U.Key.eq U.meaning version owed parked.job parked.keys tasks.old desk.old graph.old s plan }
     ensures given { TakesUp U.Key.eq U.meaning version parked.job parked.keys tasks.old desk.old tasks.new desk.new }
+    ensures done { (w : World U.Key U.Value) (owed : ℕ) (s : Seen U.Key U.Value) → AtHand U.Key.eq U.meaning version w owed tasks.old desk.old graph.old s → IsPlan U.Key.eq U.meaning version owed parked.job parked.keys tasks.old desk.old graph.old s plan → IsPlanDone U.Key.eq U.meaning version owed parked.job parked.keys tasks.old desk.old graph.old s plan tasks.new desk.new graph.new }
     ensures kept { (w : World U.Key U.Value) (owed : ℕ) (s : Seen U.Key U.Value) → AtHand U.Key.eq U.meaning version w owed tasks.old desk.old graph.old s → IsPlan U.Key.eq U.meaning version owed parked.job parked.keys tasks.old desk.old graph.old s plan → AtHand U.Key.eq U.meaning version w owed tasks.new desk.new graph.new s }
 {
     laws_of::<U>();
     cells_are_the_inputs::<U>();
     match plan {
-        Plan::Ends(path) => give_up::<U>(desk, tasks, version, key, &How::Cycle(&path)),
+        Plan::Ends(path, own) => {
+            give_up::<U>(desk, tasks, version, key, Some(own), &How::Cycle(&path));
+        }
         Plan::GoesOn(parts, next) => {
             make_all::<U>(desk, tasks, graph, version, parts);
             go_on::<U>(desk, tasks, version, key, parked, next);
@@ -141,6 +150,7 @@ pub fn ask_batch<U: Universe>(
     requires out { task_at U.Key.eq tasks.old step.job.name.key ≡ Some (held_of step.job IsOut) }
     requires hand { (w : World U.Key U.Value) × AtHand U.Key.eq U.meaning step.job.name.version w owed tasks.old desk.old graph.old cells.now }
     ensures given { OnOk result ((ks : List U.Key) → step.outcome ≡ Wanting ks → TakesUp U.Key.eq U.meaning step.job.name.version step.job ks tasks.old desk.old tasks.new desk.new) }
+    ensures done { OnOk result ((ks : List U.Key) → step.outcome ≡ Wanting ks → IsBatchDone U.Key.eq U.meaning step.job.name.version step.job ks cells.now tasks.old desk.old graph.old tasks.new desk.new graph.new) }
     ensures kept { (w : World U.Key U.Value) → AtHand U.Key.eq U.meaning step.job.name.version w owed tasks.old desk.old graph.old cells.now → AtHand U.Key.eq U.meaning step.job.name.version w owed tasks.new desk.new graph.new cells.now }
 
     // Where memory is refused, all that is seen is as before.
@@ -188,6 +198,7 @@ fn plan_step<U: Universe>(
     ensures desk_room { KeepsDeskRoom desk.old desk.new }
     ensures key { IfOk result (λ r. arc_value r.0 ≡ step.now.job.name.key) }
     ensures plan { IfOk result (λ r. (ks : List U.Key) → step.now.outcome ≡ Wanting ks → IsPlan U.Key.eq U.meaning step.now.job.name.version owed step.now.job ks tasks.new desk.new graph.now cells.now r.1) }
+    ensures still { IfOk result (λ r. IfEnds r.1 ((tasks.new ≡ tasks.old) × (desk.new ≡ desk.old))) }
     ensures next { IfOk result (λ r. (ks : List U.Key) → step.now.outcome ≡ Wanting ks → AsksNext U.Key.eq U.meaning step.now.job.name.version step.now.job.name.key (doing step.now.job.work) step.now.job.answered (IsWaiting ks)) }
 {
     laws_of::<U>();

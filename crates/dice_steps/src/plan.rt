@@ -14,7 +14,8 @@ ghost use Rattle.core_laws.specs.Desk.{World};
 ghost use Rattle.dice_steps.specs.AtHand.{AtHand};
 ghost use Rattle.dice_tasks.specs.Circles.{path_with};
 ghost use Rattle.dice_tasks.specs.Hands.{KeepsHands, KeepsDeskRoom, tasks_of};
-ghost use Rattle.dice_steps.specs.Plans.{key_in, waits_of, is_awaited, HasNoPath, IsPathAt, IsAtHand, HasNone, IsPart, IsSurvey, ArePlaced, IsPlan};
+ghost use Rattle.dice_steps.specs.Plans.{key_in, waits_of, is_awaited, IsAtHand, HasNone, IsPart, IsSurvey, ArePlaced, IsPlan, IfEnds};
+ghost use Rattle.dice_steps.specs.Taken.{HasNoPath, IsPathAt};
 
 use crate::noted::note;
 use cycle_guard::would_close;
@@ -48,8 +49,8 @@ pub(crate) enum Survey<U: Universe> {
 /// What a batch comes to, with all the memory that it takes.
 #[derive(Drop)]
 pub(crate) enum Plan<U: Universe> {
-    /// The task that asks it ends with this circle.
-    Ends(Arc<Path<U::Key>>),
+    /// The task that asks it ends with this circle, of which it has its own copy.
+    Ends(Arc<Path<U::Key>>, Arc<Path<U::Key>>),
     /// Where these are made, all keys have values, and the task goes on.
     GoesOn(Vec<Part<U>>, Next<U>),
     /// Where these are made, the task waits.
@@ -78,6 +79,7 @@ pub(crate) fn plan_batch<U: Universe>(
     ensures hands { KeepsHands desk.old desk.new }
     ensures desk_room { KeepsDeskRoom desk.old desk.new }
     ensures plan { IfOk result (IsPlan U.Key.eq U.meaning assignment.now.name.version owed assignment.now batch.now tasks.new desk.new graph.now cells.now) }
+    ensures still { IfOk result (λ p. IfEnds p ((tasks.new ≡ tasks.old) × (desk.new ≡ desk.old))) }
 {
     laws_of::<U>();
     let name = assignment.name();
@@ -85,7 +87,10 @@ pub(crate) fn plan_batch<U: Universe>(
     let own = name.key();
     let born = told_so_far::<U>(desk);
     let parts = match look_over::<U>(alloc, universe, graph, tasks, version, own, batch, born)? {
-        Survey::Circle(path) => return Ok(Plan::Ends(path)),
+        Survey::Circle(path) => {
+            let own = Arc::try_clone(&path)?;
+            return Ok(Plan::Ends(path, own));
+        }
         Survey::Parts(parts) => parts,
     };
     let waits = reserve_parts::<U>(alloc, tasks, own, &parts)?;

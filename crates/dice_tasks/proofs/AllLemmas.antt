@@ -1,20 +1,21 @@
 -- Which tasks end where one is given up, and all that ask for it.
-use Rattle.std.proofs.Common.{◌≡◌, ◌⊎◌, inl, inr, ◌+◌, ◌-◌, ℕ, Bool, true, false, cond, not, ◌&&◌, List, [], ◌∷◌, ◌++◌, map, Option, Some, refl, sym, ap, ◌∙◌, subst, arith, append_assoc}
+use Rattle.std.proofs.Common.{◌≡◌, ◌⊎◌, inl, inr, ◌+◌, ◌-◌, ℕ, Bool, true, false, cond, not, ◌&&◌, List, [], ◌∷◌, ◌++◌, map, Option, Some, None, refl, sym, ap, ◌∙◌, subst, arith, append_assoc}
 use Rattle.std.proofs.lemmas.List.{map-append}
 use Rattle.dice_key.specs.Lawful.{IsEquality}
-use Rattle.dice_model.specs.Log.{Has}
+use Rattle.dice_model.specs.Log.{Has, AreDistinct}
 use Rattle.task_share.specs.Asked.{By, Promised, Tasked, is_by}
-use Rattle.task_share.specs.Seen.{Share, task_at, asks}
+use Rattle.task_share.specs.Seen.{Share, task_at, is_live, asks}
 use Rattle.journal.specs.declared.event.Told.{Told}
 use Rattle.core_laws.specs.Tasks.{Outcome, goes_on}
 use Rattle.core_laws.proofs.Counts.{has_append, has_front, has_last}
-use Rattle.core_laws.proofs.Shapes.{both_parts}
+use Rattle.core_laws.proofs.Shapes.{both_parts, not_both}
 use Rattle.dice_tasks.specs.Helds.{Held, held_ended}
 use Rattle.dice_tasks.specs.Hands.{DeskSeen, with_event, with_ended, with_told_next}
-use Rattle.dice_tasks.specs.Endings.{EndsTask, ListsEnd, ComesOf, told_end, EndsAsker, HasTold, EndsTasks}
+use Rattle.dice_tasks.specs.Endings.{EndsTask, ListsEnd, ComesOf, told_end, EndsAsker, HasTold, EndsTasks, EndWithAskers, ends_so}
 use Rattle.dice_tasks.proofs.EndsLemmas.{quits_keeps}
 use Rattle.dice_tasks.proofs.CascadeLemmas.{quits_room}
 use Rattle.dice_tasks.proofs.TellLemmas.{told_events, told_ended}
+use Rattle.dice_tasks.proofs.Lists.{distinct_added}
 
 module _ {K V : Type 0} (eq : K → K → Bool) (equality : IsEquality eq) (v : ℕ) where
   lists_events : (k : K) (h : Held K V) (o : Outcome K V) (x : Told K V) (ps qs : List (K × Share K (Held K V))) (d e : DeskSeen K V) → ListsEnd eq v k h o x ps qs d e → e.events ≡ d.events ++ x ∷ []
@@ -52,6 +53,31 @@ module _ {K V : Type 0} (eq : K → K → Bool) (equality : IsEquality eq) (v : 
       and_true true = refl
       and_true false = refl
 
+  -- it is at work no more, and no other comes to be
+  ends_idle : (k : K) (h : Held K V) (o : Outcome K V) (ps qs : List (K × Share K (Held K V))) (d e : DeskSeen K V) → EndsTask eq v k h o ps qs d e → is_live eq qs k ≡ false
+  ends_idle k h o ps qs d e ends = ends.live k ∙ (ap (λ b. is_live eq ps k && not b) (equality.itself k) ∙ and_false (is_live eq ps k))
+    where
+      and_false : (b : Bool) → (b && false) ≡ false
+      and_false true = refl
+      and_false false = refl
+
+  ends_off : (k : K) (h : Held K V) (o : Outcome K V) (ps qs : List (K × Share K (Held K V))) (d e : DeskSeen K V) → EndsTask eq v k h o ps qs d e → (q : K) → is_live eq ps q ≡ false → is_live eq qs q ≡ false
+  ends_off k h o ps qs d e ends q off = ends.live q ∙ ap (λ b. b && not (eq k q)) off
+
+  -- whoever asks asks on, but for this one
+  ends_stays : (k : K) (h : Held K V) (o : Outcome K V) (ps qs : List (K × Share K (Held K V))) (d e : DeskSeen K V) → EndsTask eq v k h o ps qs d e → (q j : K) → asks eq ps q (Tasked j) ≡ true → (asks eq qs q (Tasked j) ≡ true) ⊎ (k ≡ j)
+  ends_stays k h o ps qs d e ends q j on = by_test (eq k j) refl
+    where
+      by_test : (b : Bool) → eq k j ≡ b → (asks eq qs q (Tasked j) ≡ true) ⊎ (k ≡ j)
+      by_test true i = inr (equality.same k j i)
+      by_test false i = inl (ends.asks q (Tasked j) ∙ (ap (λ b. b && not (eq k j)) on ∙ ap not i))
+
+  -- a key of those that ended
+  key_ended : (es : List (K × Outcome K V)) (q : K) → Has (map (λ (p : K × Outcome K V). p.0) es) q → (p : K × Outcome K V) × Has es p × (p.0 ≡ q)
+  key_ended [] q h = absurd h
+  key_ended (p ∷ es) q (inl i) = (p, inl refl, i)
+  key_ended (p ∷ es) q (inr h) = let r = key_ended es q h in (r.0, inr r.1, r.2)
+
   module _ (path : Option (List K)) where
     -- the first ends
     pub all_first : (k : K) (h : Held K V) (o : Outcome K V) (ps qs : List (K × Share K (Held K V))) (d e : DeskSeen K V) → ComesOf path o → ListsEnd eq v k h o (told_end v k o) ps qs d e → EndsTasks eq v path k ((k, o) ∷ []) ps qs d e
@@ -67,6 +93,9 @@ module _ {K V : Type 0} (eq : K → K → Bool) (equality : IsEquality eq) (v : 
       others = λ q n. ends_there k h o ps qs d l.tells.mid l.tells.ends q (n (k, o) (inl refl));
       fewer = ends_fewer k h o ps qs d l.tells.mid l.tells.ends;
       promises = ends_promises k h o ps qs d l.tells.mid l.tells.ends;
+      stays = λ q j on. elim (ends_stays k h o ps qs d l.tells.mid l.tells.ends q j on) as (λ _. (asks eq qs q (Tasked j) ≡ true) ⊎ ((r : Outcome K V) × Has {X = K × Outcome K V} ((k, o) ∷ []) (j, r))) [ inl i ↦ inl i | inr i ↦ inr (o, inl (λ z. (i z, o))) ];
+      distinct = ((λ b. b), tt);
+      idle = λ p i. elim i as (λ _. is_live eq qs p.0 ≡ false) [ inl j ↦ subst (λ (z : K × Outcome K V). is_live eq qs z.0 ≡ false) j (ends_idle k h o ps qs d l.tells.mid l.tells.ends) | inr n ↦ absurd n ];
       ready_room = (lists_rooms k h o (told_end v k o) ps qs d e l).0;
       live_room = (let r = (lists_rooms k h o (told_end v k o) ps qs d e l).1 in omega arith);
     }
@@ -90,6 +119,16 @@ module _ {K V : Type 0} (eq : K → K → Bool) (equality : IsEquality eq) (v : 
         others = λ q n. ends_there a.asker a.held a.came qs rs e a.ends.tells.mid a.ends.tells.ends q (n (a.asker, a.came) (has_last es (a.asker, a.came))) ∙ all.others q (λ p i. n p (has_front es (a.asker, a.came) p i));
         fewer = λ q b i. all.fewer q b (ends_fewer a.asker a.held a.came qs rs e a.ends.tells.mid a.ends.tells.ends q b i);
         promises = λ q n. ends_promises a.asker a.held a.came qs rs e a.ends.tells.mid a.ends.tells.ends q n ∙ all.promises q n;
+        stays = λ q j on. elim (all.stays q j on) as (λ _. (asks eq rs q (Tasked j) ≡ true) ⊎ ((o : Outcome K V) × Has (es ++ (a.asker, a.came) ∷ []) (j, o))) [
+          | inl i ↦ elim (ends_stays a.asker a.held a.came qs rs e a.ends.tells.mid a.ends.tells.ends q j i) as (λ _. (asks eq rs q (Tasked j) ≡ true) ⊎ ((o : Outcome K V) × Has (es ++ (a.asker, a.came) ∷ []) (j, o))) [ inl s ↦ inl s | inr s ↦ inr (a.came, subst (λ z. Has (es ++ (a.asker, a.came) ∷ []) (z, a.came)) s (has_last es (a.asker, a.came))) ]
+          | inr w ↦ inr (w.0, has_front es (a.asker, a.came) (j, w.0) w.1)
+        ];
+        distinct = subst AreDistinct (sym (map-append (λ (p : K × Outcome K V). p.0) es ((a.asker, a.came) ∷ [])))
+            (distinct_added (map (λ (p : K × Outcome K V). p.0) es) a.asker all.distinct (λ h. (let r = key_ended es a.asker h in new r.0 r.1 r.2)));
+        idle = λ p i. elim (has_append es (a.asker, a.came) p i) as (λ _. is_live eq rs p.0 ≡ false) [
+          | inl j ↦ ends_off a.asker a.held a.came qs rs e a.ends.tells.mid a.ends.tells.ends p.0 (all.idle p j)
+          | inr j ↦ subst (λ (z : K × Outcome K V). is_live eq rs z.0 ≡ false) j (ends_idle a.asker a.held a.came qs rs e a.ends.tells.mid a.ends.tells.ends)
+        ];
         ready_room = (lists_rooms a.asker a.held a.came (told_end v a.asker a.came) qs rs e f a.ends).0 ∙ all.ready_room;
         live_room = (let r = (lists_rooms a.asker a.held a.came (told_end v a.asker a.came) qs rs e f a.ends).1 in let s = all.live_room in omega arith);
       }
@@ -117,6 +156,9 @@ module _ {K V : Type 0} (eq : K → K → Bool) (equality : IsEquality eq) (v : 
         others = λ q n. t.tasks.tasks q ∙ all.others q n;
         fewer = λ q a i. all.fewer q a (sym (t.asks q a) ∙ i);
         promises = λ q n. t.asks q (Promised n) ∙ all.promises q n;
+        stays = λ q j on. elim (all.stays q j on) as (λ _. (asks eq rs q (Tasked j) ≡ true) ⊎ ((o : Outcome K V) × Has es (j, o))) [ inl i ↦ inl (t.asks q (Tasked j) ∙ i) | inr w ↦ inr w ];
+        distinct = all.distinct;
+        idle = λ p i. t.tasks.live p.0 ∙ all.idle p i;
         ready_room = ap (λ (y : DeskSeen K V). y.ready_room) (sym t.desk) ∙ all.ready_room;
         live_room = (let r : e.live_room ≡ f.live_room - 1 = ap (λ (y : DeskSeen K V). y.live_room) t.desk in let s = all.live_room in omega arith);
       }
@@ -134,6 +176,41 @@ module _ {K V : Type 0} (eq : K → K → Bool) (equality : IsEquality eq) (v : 
       pub listed_told : HasTold eq qs rs e f → ((q : K) → Has e.ended q → (o : Outcome K V) × Has es (q, o)) → (q : K) → Has f.ended q → (o : Outcome K V) × Has es (q, o)
       listed_told t among q i = among q (subst (λ xs. Has xs q) (ap (λ (y : DeskSeen K V). y.ended) (sym t.desk)) (has_front f.ended t.key q i))
 
+      -- of each of these the askers are still to be told, or there are none
+      abbrev pub AreTold : List (K × Outcome K V) → List (K × Share K (Held K V)) → DeskSeen K V → Type 0
+      AreTold xs ts g = (q : K) (o : Outcome K V) → Has xs (q, o) → Has g.ended q ⊎ ((j : K) → asks eq ts q (Tasked j) ≡ false)
+
+      pub untold_more : (a : EndsAsker eq v path qs rs e f) → AreTold es qs e → AreTold (es ++ (a.asker, a.came) ∷ []) rs f
+      untold_more a told q o i = elim (has_append es (a.asker, a.came) (q, o) i) as (λ _. Has f.ended q ⊎ ((j : K) → asks eq rs q (Tasked j) ≡ false)) [
+        | inl h ↦ elim (told q o h) as (λ _. Has f.ended q ⊎ ((j : K) → asks eq rs q (Tasked j) ≡ false)) [
+          | inl l ↦ inl (subst (λ xs. Has xs q) (sym ended) (has_front e.ended a.asker q l))
+          | inr n ↦ inr (λ j. a.ends.tells.ends.asks q (Tasked j) ∙ ap (λ b. b && not (eq a.asker j)) (n j))
+        ]
+        | inr h ↦ inl (subst (λ xs. Has xs q) (sym ended) (subst (λ z. Has (e.ended ++ a.asker ∷ []) z) (ap (λ (z : K × Outcome K V). z.0) h) (has_last e.ended a.asker)))
+      ]
+        where
+          ended : f.ended ≡ e.ended ++ a.asker ∷ []
+          ended = ap (λ (y : DeskSeen K V). y.ended) a.ends.desk ∙ ap (λ xs. xs ++ a.asker ∷ []) (told_ended eq v a.asker a.held a.came (told_end v a.asker a.came) qs rs e a.ends.mid a.ends.tells)
+
+      pub untold_told : (t : HasTold eq qs rs e f) → AreTold es qs e → AreTold es rs f
+      untold_told t told q o i = elim (told q o i) as (λ _. Has f.ended q ⊎ ((j : K) → asks eq rs q (Tasked j) ≡ false)) [
+        | inl l ↦ elim (has_append f.ended t.key q (subst (λ xs. Has xs q) (ap (λ (y : DeskSeen K V). y.ended) t.desk) l)) as (λ _. Has f.ended q ⊎ ((j : K) → asks eq rs q (Tasked j) ≡ false)) [
+          | inl h ↦ inl h
+          | inr h ↦ inr (λ j. t.asks q (Tasked j) ∙ subst (λ z. asks eq qs z (Tasked j) ≡ false) h (t.none j))
+        ]
+        | inr n ↦ inr (λ j. t.asks q (Tasked j) ∙ n j)
+      ]
+
+      -- where nobody is still to be told, all that asked for one of these are among them
+      pub with_askers : AreTold es qs e → e.ended ≡ [] → EndWithAskers eq es ps
+      with_askers told none q j o i on = elim (all.stays q j on) as (λ _. (r : Outcome K V) × Has es (j, r)) [
+        | inl s ↦ elim (told q o i) as (λ _. (r : Outcome K V) × Has es (j, r)) [
+          | inl l ↦ absurd (subst (λ xs. Has xs q) none l)
+          | inr n ↦ absurd (not_both s (n j))
+        ]
+        | inr w ↦ w
+      ]
+
     -- the first on the list
     pub listed_first : (k : K) (h : Held K V) (o : Outcome K V) (ps qs : List (K × Share K (Held K V))) (d e : DeskSeen K V) → ListsEnd eq v k h o (told_end v k o) ps qs d e → d.ended ≡ [] → (q : K) → Has e.ended q → (r : Outcome K V) × Has {X = K × Outcome K V} ((k, o) ∷ []) (q, r)
     listed_first k h o ps qs d e l none q i = elim (has_append [] k q (subst (λ xs. Has xs q) ended i)) as (λ _. (r : Outcome K V) × Has {X = K × Outcome K V} ((k, o) ∷ []) (q, r)) [
@@ -143,3 +220,17 @@ module _ {K V : Type 0} (eq : K → K → Bool) (equality : IsEquality eq) (v : 
       where
         ended : e.ended ≡ [] ++ k ∷ []
         ended = ap (λ (y : DeskSeen K V). y.ended) l.desk ∙ (ap (λ xs. xs ++ k ∷ []) (told_ended eq v k h o (told_end v k o) ps qs d l.mid l.tells) ∙ ap (λ xs. xs ++ k ∷ []) none)
+
+    pub untold_first : (k : K) (h : Held K V) (o : Outcome K V) (ps qs : List (K × Share K (Held K V))) (d e : DeskSeen K V) → ListsEnd eq v k h o (told_end v k o) ps qs d e → (q : K) (r : Outcome K V) → Has {X = K × Outcome K V} ((k, o) ∷ []) (q, r) → Has e.ended q ⊎ ((j : K) → asks eq qs q (Tasked j) ≡ false)
+    untold_first k h o ps qs d e l q r i = elim i as (λ _. Has e.ended q ⊎ ((j : K) → asks eq qs q (Tasked j) ≡ false)) [
+      | inl j ↦ inl (subst (λ xs. Has xs q) (sym ended) (subst (λ z. Has (d.ended ++ k ∷ []) z) (ap (λ (z : K × Outcome K V). z.0) j) (has_last d.ended k)))
+      | inr n ↦ absurd n
+    ]
+      where
+        ended : e.ended ≡ d.ended ++ k ∷ []
+        ended = ap (λ (y : DeskSeen K V). y.ended) l.desk ∙ ap (λ xs. xs ++ k ∷ []) (told_ended eq v k h o (told_end v k o) ps qs d l.mid l.tells)
+
+-- so the first may end
+pub comes_so : {K : Type 0} (V : Type 0) (path : Option (List K)) → ComesOf {V = V} path (ends_so path)
+comes_so V None = refl
+comes_so V (Some p) = inl refl

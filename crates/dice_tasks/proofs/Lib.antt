@@ -3,6 +3,7 @@ pub mod BackLemmas
 pub mod CascadeLemmas
 pub mod Desks
 pub mod DifferLemmas
+pub mod Dropped
 pub mod EndedLemmas
 pub mod EndsLemmas
 pub mod EntriesLemmas

@@ -33,6 +33,22 @@ module _ {X : Type 0} where
   apart (a ∷ A) B x d (inl e) k = d.0 (has_right A B a (subst (λ z. Has B z) (sym e) k))
   apart (a ∷ A) B x d (inr h) k = apart A B x d.1 h k
 
+  -- one element more, at the end
+  pub distinct_added : (A : List X) (x : X) → AreDistinct A → (Has A x → ⊥) → AreDistinct (A ++ x ∷ [])
+  distinct_added [] x d n = ((λ h. h), tt)
+  distinct_added (a ∷ A) x d n = (
+    λ h. elim (has_either A (x ∷ []) a h) [ inl l ↦ d.0 l | inr r ↦ elim r [ inl q ↦ n (inl (sym q)) | inr z ↦ z ] ],
+    distinct_added A x d.1 (λ h. n (inr h)),
+  )
+
+  -- two lists without a common element
+  pub distinct_both : (A B : List X) → AreDistinct A → AreDistinct B → ((x : X) → Has A x → Has B x → ⊥) → AreDistinct (A ++ B)
+  distinct_both [] B d e n = e
+  distinct_both (a ∷ A) B d e n = (
+    λ h. elim (has_either A B a h) [ inl l ↦ d.0 l | inr r ↦ n a (inl refl) r ],
+    distinct_both A B d.1 e (λ x h k. n x (inr h) k),
+  )
+
   -- the same elements
   pub record Same (xs ys : List X) : Type 0 where
     pub there : (x : X) → Has xs x → Has ys x

@@ -8,6 +8,7 @@ use Rattle.dice_key.specs.Lawful.{IsLawful, IsEquality}
 use Rattle.task_share.specs.Seen.{Share, task_at, is_live, asks, has_place, KeepsRoom, KeepsOtherRoom}
 use Rattle.journal.specs.declared.event.Told.{Told}
 use Rattle.journal.specs.declared.event.Told.TheVariants.{Start, Keep}
+use Rattle.versioned_graph.specs.Edges.{is_edge}
 use Rattle.versioned_graph.specs.Entries.{Stored, entry_at, seen_at}
 use Rattle.versioned_graph.specs.Looks.{look}
 use Rattle.core_laws.specs.Desk.{World}
@@ -31,6 +32,7 @@ module _ {K V : Type 0} (eq : K → K → Bool) (v : ℕ) (k : K) (ps qs : List 
     tasks = λ q n. h.tasks q ∙ ap (λ b. cond b (Some t) (task_at eq ps q)) n;
     lives = λ q n. h.live q ∙ ap (λ b. cond b true (is_live eq ps q)) n;
     entries = λ q n. ap (λ z. entry_at eq z q) same;
+    edges = λ j q. ap (λ z. is_edge eq z j q) same;
     asks = λ q a n. h.asks q a;
     room = other_room eq k ps qs h.room;
     events = xs;
@@ -43,11 +45,12 @@ module _ {K V : Type 0} (eq : K → K → Bool) (v : ℕ) (k : K) (ps qs : List 
   }
 
   -- a task that has ended was made
-  pub alone_ended : (b : ℕ) (t : Held K V) → MakesEnded eq k t ps qs → e ≡ with_event d (Keep v k b) → ((q : K) → eq k q ≡ false → entry_at eq fs q ≡ entry_at eq es q) → MakesAlone eq v k ps d es qs e fs
-  alone_ended b t h is entries = record {
+  pub alone_ended : (b : ℕ) (t : Held K V) → MakesEnded eq k t ps qs → e ≡ with_event d (Keep v k b) → ((q : K) → eq k q ≡ false → entry_at eq fs q ≡ entry_at eq es q) → ((j q : K) → is_edge eq fs j q ≡ is_edge eq es j q) → MakesAlone eq v k ps d es qs e fs
+  alone_ended b t h is entries edges = record {
     tasks = λ q n. h.tasks q ∙ ap (λ b. cond b (Some t) (task_at eq ps q)) n;
     lives = λ q n. h.live q ∙ ap (λ b. cond b false (is_live eq ps q)) n;
     entries = entries;
+    edges = edges;
     asks = λ q a n. h.asks q a ∙ (ap (λ b. asks eq ps q a && not b) n ∙ kept (asks eq ps q a));
     room = h.room;
     events = Keep v k b ∷ [];
@@ -69,6 +72,7 @@ module _ {K V : Type 0} (eq : K → K → Bool) (v : ℕ) (k : K) (ps qs : List 
     tasks = λ q n. ap (λ z. task_at eq z q) a;
     lives = λ q n. ap (λ z. is_live eq z q) a;
     entries = λ q n. ap (λ z. entry_at eq z q) c;
+    edges = λ j q. ap (λ z. is_edge eq z j q) c;
     asks = λ q x n. ap (λ z. asks eq z q x) a;
     room = subst (λ z. KeepsOtherRoom eq k ps z) (sym a) (record { places = λ q n p. p; promises = λ q n. omega arith; askers = λ q n. omega arith; waits = λ q n. omega arith; count = omega arith });
     events = [];

@@ -3,7 +3,7 @@ use Rattle.std.specs.Prelude.{◌≡◌, ◌≤◌, ◌*◌, ◌<◌, ◌⊎◌,
 use Rattle.std.specs.Arc.{arc_value}
 use Rattle.std.specs.List.{list_any}
 use Rattle.dice_key.specs.Meaning.{Meaning}
-use Rattle.dice_model.specs.Log.{Has}
+use Rattle.dice_model.specs.Log.{Has, AreDistinct}
 use Rattle.task_share.specs.Asked.{By, Promised, Tasked, is_by, Takes, Cascade}
 use Rattle.task_share.specs.Seen.{Share, task_at, is_live, asks, asked_of, KeepsTasks, KeepsAsks, KeepsRoom, KeepsOtherRoom}
 use Rattle.journal.specs.declared.event.Told.{Told}
@@ -90,6 +90,11 @@ abbrev pub path_of : {K : Type 0} → How K → Option (List K)
 path_of Lost = None
 path_of (Cycle p) = Some (arc_value p.now)
 
+-- how the first of them ends: with the circle, where there is one, else as lost
+abbrev pub ends_so : {K V : Type 0} → Option (List K) → Outcome K V
+ends_so None = WithNothing
+ends_so (Some p) = WithCycle p
+
 -- the event that tells how a task ended
 abbrev pub told_end : {K V : Type 0} → ℕ → K → Outcome K V → Told K V
 told_end v k (WithValue x) = event.End v k
@@ -128,8 +133,8 @@ module _ {K V : Type 0} (eq : K → K → Bool) (v : ℕ) where
     pub comes : ComesOf path came
     pub ends : ListsEnd eq v asker held came (told_end v asker came) ps qs d e
 
-  -- these tasks end, in this order: the first of them is that of k, and each other one asked for one of them; all of them were at work; no other
-  -- task changes, and no promise
+  -- these tasks end, in this order, each once: one of them is that of k, and each other one asked for one of them; all of them were at work, and
+  -- none is then; no other task changes, and none ceases to ask; no promise changes
   pub record EndsTasks (path : Option (List K)) (k : K) (es : List (K × Outcome K V)) (ps qs : List (K × Share K (Held K V))) (d e : DeskSeen K V) : Type 0 where
     pub events : e.events ≡ d.events ++ map (λ (p : K × Outcome K V). told_end v p.0 p.1) es
     pub first : (o : Outcome K V) × Has es (k, o)
@@ -139,6 +144,9 @@ module _ {K V : Type 0} (eq : K → K → Bool) (v : ℕ) where
     pub others : (q : K) → ((p : K × Outcome K V) → Has es p → p.0 ≡ q → ⊥) → task_at eq qs q ≡ task_at eq ps q
     pub fewer : (q : K) (a : By K) → asks eq qs q a ≡ true → asks eq ps q a ≡ true
     pub promises : (q : K) (n : ℕ) → asks eq qs q (Promised n) ≡ asks eq ps q (Promised n)
+    pub stays : (q j : K) → asks eq ps q (Tasked j) ≡ true → (asks eq qs q (Tasked j) ≡ true) ⊎ ((o : Outcome K V) × Has es (j, o))
+    pub distinct : AreDistinct (map (λ (p : K × Outcome K V). p.0) es)
+    pub idle : (p : K × Outcome K V) → Has es p → is_live eq qs p.0 ≡ false
     pub ready_room : e.ready_room ≡ d.ready_room
     pub live_room : d.live_room ≤ e.live_room
 
@@ -159,13 +167,21 @@ module _ {K V : Type 0} (eq : K → K → Bool) where
   AreTasked ps = (k : K) (a : By K) → asks eq ps k a ≡ true → (h : Held K V) × (task_at eq ps k ≡ Some h)
 
 module _ {K V : Type 0} (eq : K → K → Bool) where
-  -- these tasks end, and then those are dropped
+  -- each task that asked for one of these is one of these
+  abbrev pub EndWithAskers : List (K × Outcome K V) → List (K × Share K (Held K V)) → Type 0
+  EndWithAskers es ps = (q j : K) (o : Outcome K V) → Has es (q, o) → asks eq ps q (Tasked j) ≡ true → (r : Outcome K V) × Has es (j, r)
+
+  -- the task of k ends, with the circle where there is one, and with it each that asks for it, each that asks for one of these, and so on, and no
+  -- other; and then those are dropped. No task is told of twice
   pub record GivesUpAll (v : ℕ) (path : Option (List K)) (k : K) (ps qs : List (K × Share K (Held K V))) (d e : DeskSeen K V) : Type 0 where
     pub ends : List (K × Outcome K V)
     pub drops : List K
     pub tasks : List (K × Share K (Held K V))
     pub desk : DeskSeen K V
     pub ended : EndsTasks eq v path k ends ps tasks d desk
+    pub own : Has ends (k, ends_so path)
+    pub askers : EndWithAskers ends ps
+    pub once : AreDistinct (map (λ (p : K × Outcome K V). p.0) ends ++ drops)
     pub dropped : DropsTasks eq v drops tasks qs desk e
 
   -- the job of this name is out

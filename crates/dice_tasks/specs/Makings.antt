@@ -1,5 +1,5 @@
 -- Tasks that are to be made, what making one needs, and what it does.
-use Rattle.std.specs.Prelude.{◌≡◌, ◌≢◌, ◌<◌, ◌≤◌, ◌+◌, ◌++◌, ◌&&◌, not, cond, ℕ, Bool, true, false, List, [], length, Option, Some, None}
+use Rattle.std.specs.Prelude.{◌≡◌, ◌≢◌, ◌<◌, ◌≤◌, ◌+◌, ◌++◌, ◌&&◌, not, cond, ℕ, Bool, true, false, List, [], ◌∷◌, length, Option, Some, None}
 use Rattle.std.specs.Arc.{arc_value}
 use Rattle.std.specs.List.{AllByRecursion}
 use Rattle.std.specs.Option.{option_map}
@@ -14,7 +14,8 @@ use Rattle.journal.specs.declared.event.Told.TheVariants.{Start, Keep}
 use Rattle.journal.specs.Events.{commits_of}
 use Rattle.journal.specs.Law.{IsWanted}
 use Rattle.journal.specs.Tell.{reason_of}
-use Rattle.versioned_graph.specs.Entries.{Stored, entry_at, seen_at}
+use Rattle.versioned_graph.specs.Edges.{is_edge}
+use Rattle.versioned_graph.specs.Entries.{Stored, Kept, entry_at, seen_at}
 use Rattle.versioned_graph.specs.Looks.{Look, Matches, Computes as LooksNew, Checks as LooksOld, look}
 use Rattle.versioned_graph.specs.declared.found.Why.{Why}
 use Rattle.core_laws.specs.Tasks.{IsReady, Ended, WithValue, WithNothing}
@@ -42,6 +43,26 @@ module _ {K V : Type 0} where
 
   abbrev pub held_check : Name K → V → List (Answered K V) → ℕ → Held K V
   held_check n x T b = held_of (record { name = n; answered = []; work = Checks x T b }) IsReady
+
+module _ {K V : Type 0} (v : ℕ) (k : K) where
+  -- the task that is made of k at v where a look-up says this, when the journal has so many events: a value that matches ends it; a key that has to be
+  -- computed is begun; and a value whose dependencies have to be checked waits for its check
+  abbrev pub task_by : ℕ → Look K V → Held K V
+  task_by born (Matches x b) = held_ended (record { version = v; key = k; born = born }) (WithValue x)
+  task_by born (LooksNew y) = held_run (record { version = v; key = k; born = born })
+  task_by born (LooksOld x T b) = held_check (record { version = v; key = k; born = born }) x T b
+
+  -- what is told of it: that the value is kept; or that the key is started, for the reason that the look-up has
+  abbrev pub told_by : Look K V → List (Told K V)
+  told_by (Matches x b) = Keep v k b ∷ []
+  told_by (LooksNew y) = Start v k (started_for y) ∷ []
+  told_by (LooksOld x T b) = []
+
+-- what becomes of the entry: where its value matches, it was seen at v
+abbrev pub entry_by : {K V : Type 0} → ℕ → Look K V → Option (Kept K V) → Option (Kept K V)
+entry_by v (Matches x b) o = option_map (seen_at v) o
+entry_by v (LooksNew y) o = o
+entry_by v (LooksOld x T b) o = o
 
 module _ {K T : Type 0} (eq : K → K → Bool) (k : K) (t : T) (ps qs : List (K × Share K T)) where
   -- k has this task, which has not ended; all else stays
@@ -112,7 +133,7 @@ module _ {U K V A : Type 0} (eq : K → K → Bool) (v : ℕ) (k : K) (ps : List
   -- it was made: what became of the tasks, of the desk and of the entries
   abbrev pub IsMade : List (K × Stored K V) → Making U K V A → List (K × Share K (Held K V)) → DeskSeen K V → List (K × Stored K V) → Type 0
   IsMade es Join qs e fs = (qs ≡ ps) × (e ≡ d) × (fs ≡ es)
-  IsMade es (Match event base task) qs e fs = MakesEnded eq k task ps qs × (e ≡ with_event d (Keep v k base)) × ((q : K) → entry_at eq fs q ≡ cond (eq k q) (option_map (seen_at v) (entry_at eq es k)) (entry_at eq es q))
+  IsMade es (Match event base task) qs e fs = MakesEnded eq k task ps qs × (e ≡ with_event d (Keep v k base)) × ((q : K) → entry_at eq fs q ≡ cond (eq k q) (option_map (seen_at v) (entry_at eq es k)) (entry_at eq es q)) × ((j q : K) → is_edge eq fs j q ≡ is_edge eq es j q)
   IsMade es (Run event cause ready task) qs e fs = Makes eq k task ps qs × Readies (v, k) (with_made (with_event d (Start v k (reason_of cause)))) e × (fs ≡ es)
   IsMade es (Check ready task) qs e fs = Makes eq k task ps qs × Readies (v, k) (with_made d) e × (fs ≡ es)
 
@@ -124,11 +145,12 @@ module _ {K V : Type 0} (v : ℕ) (k : K) where
   IsOfMake _ = ⊥
 
 module _ {K V : Type 0} (eq : K → K → Bool) (v : ℕ) (k : K) where
-  -- whatever is made of k at v: what other keys have stays; and of each room that was made ahead at most one place was used
+  -- whatever is made of k at v: what other keys have stays, and all recorded edges; and of each room that was made ahead at most one place was used
   pub record MakesAlone (ps : List (K × Share K (Held K V))) (d : DeskSeen K V) (es : List (K × Stored K V)) (qs : List (K × Share K (Held K V))) (e : DeskSeen K V) (fs : List (K × Stored K V)) : Type 0 where
     pub tasks : (q : K) → eq k q ≡ false → task_at eq qs q ≡ task_at eq ps q
     pub lives : (q : K) → eq k q ≡ false → is_live eq qs q ≡ is_live eq ps q
     pub entries : (q : K) → eq k q ≡ false → entry_at eq fs q ≡ entry_at eq es q
+    pub edges : (j q : K) → is_edge eq fs j q ≡ is_edge eq es j q
     pub asks : (q : K) (a : By K) → is_by eq (Tasked k) a ≡ false → asks eq qs q a ≡ asks eq ps q a
     pub room : KeepsOtherRoom eq k ps qs
     pub events : List (Told K V)

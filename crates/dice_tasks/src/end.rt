@@ -1,6 +1,7 @@
 //! Tasks that end, and tasks that nobody asks for any more.
 ghost use Rattle.std.specs.Prelude.{◌≡◌, ◌⊎◌, ℕ, List, [], ◌∷◌, true, false, map, reverse, Some, IfSome, IfNone};
 ghost use Rattle.std.specs.Arc.{arc_value};
+ghost use Rattle.std.specs.Option.{option_map};
 ghost use Rattle.dice_key.specs.Meaning.{Answered, Ends};
 ghost use Rattle.dice_model.specs.Log.{Has};
 ghost use Rattle.dice_model.specs.Asks.{IsTrace};
@@ -14,7 +15,7 @@ ghost use Rattle.core_laws.specs.Desk.{World, ready_in, out_in};
 ghost use Rattle.dice_tasks.specs.Helds.{Held, came};
 ghost use Rattle.dice_tasks.specs.Loads.{AreCopies};
 ghost use Rattle.dice_tasks.specs.Hands.{Working, Cleaning};
-ghost use Rattle.dice_tasks.specs.Endings.{Quits, Knows, DropsTask, DropsTasks, EndsTask, TellsEnd, ListsEnd, ComesOf, path_of, told_end, ReachesPath, EndsAsker, HasTold, EndsTasks, AreTasked};
+ghost use Rattle.dice_tasks.specs.Endings.{Quits, Knows, DropsTask, DropsTasks, EndsTask, TellsEnd, ListsEnd, ComesOf, path_of, told_end, ReachesPath, EndsAsker, HasTold, EndsTasks, EndWithAskers, AreTasked, ends_so};
 
 use crate::Tasks;
 use crate::desk::Desk;
@@ -185,6 +186,25 @@ fn end_one<U: Universe>(
     }
 }
 
+/// Ends the task at work of a key with its own circle, or as lost where there is none, and puts the key on the list of those whose
+/// askers are still to be told. It takes no memory.
+fn end_own<U: Universe>(
+    desk: &mut Desk<U>,
+    tasks: &mut Tasks<U>,
+    version: u64,
+    key: &KeyRef<U>,
+    own: Option<Arc<Path<U::Key>>>,
+)
+    requires known { Knows U.Key.eq version tasks.old desk.old }
+    requires live { is_live U.Key.eq tasks.old (arc_value key.now) ≡ true }
+    ensures ended { (h : Held U.Key U.Value) × ListsEnd U.Key.eq version (arc_value key.now) h (ends_so (option_map arc_value own)) (told_end version (arc_value key.now) (ends_so {V = U.Value} (option_map arc_value own))) tasks.old tasks.new desk.old desk.new }
+{
+    match own {
+        Some(path) => end_cyclic(desk, tasks, version, key, path),
+        None => end_lost(desk, tasks, version, key),
+    }
+}
+
 /// Ends a task that asks for the last key on the list, or takes this key off where no task does; `false` where the list is empty.
 fn tell_one<U: Universe>(
     desk: &mut Desk<U>,
@@ -213,7 +233,8 @@ fn tell_one<U: Universe>(
 }
 
 /// Ends the task at work of a key, each task that asks for it, each that asks for one of these, and so on: as lost, or with a
-/// circle that the key reaches. It takes no memory: a task for which there is none for the circle ends as lost.
+/// circle that the key reaches. It takes no memory: the task of the key ends with its `own` circle, and another one for which there
+/// is no memory for a copy ends as lost.
 ///
 /// It costs the number of tasks that it ends and of the keys that they waited for.
 pub fn end_all<U: Universe>(
@@ -221,18 +242,20 @@ pub fn end_all<U: Universe>(
     tasks: &mut Tasks<U>,
     version: u64,
     key: &KeyRef<U>,
+    own: Option<Arc<Path<U::Key>>>,
     how: &How<'_, U::Key>,
 )
     requires working { (w : World U.Key U.Value) × (owed : ℕ) × Working U.Key.eq U.meaning version [] w owed tasks.old desk.old }
     requires live { is_live U.Key.eq tasks.old (arc_value key.now) ≡ true }
     requires ended { desk.old.ended ≡ [] }
+    requires own { option_map arc_value own ≡ path_of how.now }
     requires reached { ReachesPath U.Key.eq U.meaning (path_of how.now) (commits_of (reverse desk.old.events)) version (arc_value key.now) }
-    ensures ends { (es : List (U.Key × Came U.Key U.Value)) × EndsTasks U.Key.eq version (path_of how.now) (arc_value key.now) es tasks.old tasks.new desk.old desk.new }
+    ensures ends { (es : List (U.Key × Came U.Key U.Value)) × EndsTasks U.Key.eq version (path_of how.now) (arc_value key.now) es tasks.old tasks.new desk.old desk.new × EndWithAskers U.Key.eq es tasks.old × Has es (arc_value key.now, ends_so (path_of how.now)) }
     ensures ended { desk.new.ended ≡ [] }
     ensures tasked { AreTasked U.Key.eq tasks.old → AreTasked U.Key.eq tasks.new }
     ensures kept { (w : World U.Key U.Value) (owed : ℕ) → Working U.Key.eq U.meaning version [] w owed tasks.old desk.old → Working U.Key.eq U.meaning version [] w owed tasks.new desk.new }
 {
     laws_of::<U>();
-    end_one(desk, tasks, version, key, how);
+    end_own(desk, tasks, version, key, own);
     'askers: while tell_one(desk, tasks, version, how) {}
 }

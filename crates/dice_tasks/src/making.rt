@@ -7,6 +7,7 @@ ghost use Rattle.task_share.specs.Seen.{task_at};
 ghost use Rattle.journal.specs.declared.event.Told.TheVariants.{Start, Keep};
 ghost use Rattle.journal.specs.Law.{IsTrueCause};
 ghost use Rattle.journal.specs.Tell.{reason_of};
+ghost use Rattle.versioned_graph.specs.Edges.{is_edge};
 ghost use Rattle.versioned_graph.specs.Entries.{entry_at, seen_at};
 ghost use Rattle.core_laws.specs.Desk.{World};
 ghost use Rattle.core_laws.specs.Stands.{WasSeen};
@@ -105,6 +106,7 @@ fn make_match<U: Universe>(
     ensures tasks { MakesEnded U.Key.eq (arc_value key.now) task tasks.old tasks.new }
     ensures desk { desk.new ≡ with_event desk.old (Keep version (arc_value key.now) base) }
     ensures entries { (q : U.Key) → entry_at U.Key.eq graph.new q ≡ cond (U.Key.eq (arc_value key.now) q) (option_map (seen_at version) (entry_at U.Key.eq graph.old (arc_value key.now))) (entry_at U.Key.eq graph.old q) }
+    ensures edges { (j : U.Key) (q : U.Key) → is_edge U.Key.eq graph.new j q ≡ is_edge U.Key.eq graph.old j q }
     ensures stands { (x : U.Value) (w : World U.Key U.Value) (W : List U.Key) (owed born : ℕ) → Working U.Key.eq U.meaning version W w (owed + 1) tasks.old desk.old → EntriesStand U.Key.eq U.meaning (reverse desk.old.events) graph.old → MayMake U.Key.eq U.meaning (reverse desk.old.events) version (arc_value key.now) born → IsFree (task_at U.Key.eq tasks.old (arc_value key.now)) → IsMatched U.Key.eq U.meaning (reverse desk.old.events) graph.old version (arc_value key.now) x base → task ≡ held_ended (record { version = version; key = arc_value key.now; born = born }) (WithValue x) → Working U.Key.eq U.meaning version W w owed tasks.new desk.new × EntriesStand U.Key.eq U.meaning (reverse desk.new.events) graph.new }
 {
     laws_of::<U>();

@@ -9,6 +9,7 @@ use Rattle.core_laws.proofs.Shapes.{both_parts}
 use Rattle.dice_tasks.specs.Hands.{DeskSeen, Cleaning}
 use Rattle.dice_tasks.specs.Endings.{DropsTasks}
 use Rattle.dice_core.proofs.AskingLemmas.{dropped_live, left_cleaning, left_tasked, in_hand_again}
+use Rattle.dice_tasks.proofs.Dropped.{cascade_distinct}
 use Rattle.dice_tasks.proofs.EntriesLemmas.{stand_leave}
 use Rattle.dice_core.proofs.asking.leave_promise.Goals as goal
 
@@ -30,6 +31,7 @@ returns-clause-log g c =
       d.0,
       record {
         events = d.1.events ∙ (ap (λ (z : DeskSeen g.row.U-Key.Denot g.row.U-Value.Denot). z.events ++ map (Drop c.args.version) d.0) c.push.ensures ∙ append_assoc c.args.desk.now.events (Leave c.args.by c.args.ask ∷ []) (map (Drop c.args.version) d.0));
+        distinct = cascade_distinct g.U.Key.PartialEq.eq c.laws_of.ensures.keys d.0 (asked_of g.U.Key.PartialEq.eq c.leave.new.self) (asked_of g.U.Key.PartialEq.eq c.cascade.new.tasks) d.1.cascade;
         at_work = λ q h. sym (c.leave.ensures.tasks.live q) ∙ dropped_live g.U.Key.PartialEq.eq d.0 (asked_of g.U.Key.PartialEq.eq c.leave.new.self) (asked_of g.U.Key.PartialEq.eq c.cascade.new.tasks) d.1.cascade q h;
         tasks = λ q. d.1.tasks q ∙ ap (λ o. cond (list_any (g.U.Key.PartialEq.eq q) d.0) None o) (c.leave.ensures.tasks.tasks q);
       },

@@ -1,6 +1,6 @@
-use Rattle.std.proofs.Common.{◌≡◌, ◌++◌, [], ◌∷◌, ℕ, sym, ap, ◌∙◌, subst}
+use Rattle.std.proofs.Common.{◌≡◌, ◌++◌, [], ◌∷◌, ℕ, refl, sym, ap, ◌∙◌, subst}
 use Rattle.std.specs.Arc.{arc_value}
-use Rattle.journal.specs.declared.event.Told.TheVariants.{Start}
+use Rattle.journal.specs.declared.event.Told.TheVariants.{Start, Keep, End}
 use Rattle.journal.specs.declared.event.Reason.TheVariants.{Differs}
 use Rattle.dice_jobs.specs.Jobs.{Checks}
 use Rattle.core_laws.specs.Tasks.{IsOut}
@@ -8,7 +8,9 @@ use Rattle.dice_steps.specs.AtHand.{AtHand}
 use Rattle.dice_tasks.specs.Helds.{held_of}
 use Rattle.dice_tasks.specs.Makings.{held_run}
 use Rattle.dice_tasks.specs.Waitings.{IsTurned}
-use Rattle.dice_core.proofs.GivesLemmas.{always_ok, begun_gives}
+use Rattle.dice_steps.specs.Finishings.{EndsAndWakes}
+use Rattle.dice_core.specs.Givings.{IsToldBy}
+use Rattle.dice_core.proofs.GivesLemmas.{always_ok, begun_gives, ended_gives}
 use Rattle.dice_core.proofs.ResultLemmas.{newest_below, both_ok, on_ok}
 use Rattle.dice_core.proofs.giving.end_or_differ.Goals as goal
 
@@ -50,3 +52,43 @@ returns-in-Differs-Some-clause-taken g c =
     (λ h. begun_gives g.U.Key.PartialEq.eq c.laws_of.ensures.keys s n.version c.args.tasks.now c.differs.new.tasks d e c.requires.out (arc_value earlier.value) (arc_value earlier.trace) earlier.base dep checks (sym c.in-Differs-Some.ensures.report)
     (subst (λ z. IsTurned g.U.Key.PartialEq.eq z (held_of s.job IsOut) (held_run n) c.args.tasks.now c.differs.new.tasks) key h.1)
     (subst (λ z. e.events ≡ d.events ++ Start z n.key (Differs earlier.base dep) ∷ []) at (subst (λ z. e.events ≡ d.events ++ Start c.version-version.result z (Differs earlier.base dep) ∷ []) key h.0)))
+
+pub returns-in-Done-default-clause-taken : goal.returns-in-Done-default-clause-taken
+returns-in-Done-default-clause-taken g c =
+    let at : c.version-version.result ≡ c.args.step.now.job.name.version = c.version-version.ensures ∙ ap (λ n. n.version) (c.name.ensures ∙ ap (λ j. j.name) c.assignment.ensures) in
+    let s = c.args.step.now in
+    let n = s.job.name in
+    let d = c.args.desk.now in
+    let e = c.done.new.desk in
+    let ps = c.args.tasks.now in
+    let qs = c.done.new.tasks in
+    let cells = c.args.cells.now in
+    let key : arc_value c.key-key.result.now ≡ n.key = c.key-key.ensures ∙ ap (λ n. n.key) (c.name-2.ensures ∙ ap (λ j. j.name) c.assignment-2.ensures) in
+    let x = arc_value c.in-Done-default.value.now in
+    on_ok c.done.result _ _ (both_ok c.done.result _ _ c.done.ensures.events c.done.ensures.given)
+    (λ h. ended_gives g.U.Key.PartialEq.eq c.laws_of.ensures.keys s n.version ps qs d e c.requires.out g.U.Universe.meaning cells x (End n.version n.key)
+    (subst (λ z. EndsAndWakes g.U.Key.PartialEq.eq g.U.Universe.meaning cells z n.key x n ps qs) at (subst (λ z. EndsAndWakes g.U.Key.PartialEq.eq g.U.Universe.meaning cells c.version-version.result z x n ps qs) key h.1))
+    (subst (λ z. e.events ≡ d.events ++ End z n.key ∷ []) at (subst (λ z. e.events ≡ d.events ++ End c.version-version.result z ∷ []) key h.0))
+    refl
+    (subst (λ o. IsToldBy n.version n.key s.job.work o (End n.version n.key ∷ [])) c.in-Done-default.ensures.report refl))
+
+pub returns-in-Same-Some-clause-taken : goal.returns-in-Same-Some-clause-taken
+returns-in-Same-Some-clause-taken g c =
+    let at : c.version-version.result ≡ c.args.step.now.job.name.version = c.version-version.ensures ∙ ap (λ n. n.version) (c.name.ensures ∙ ap (λ j. j.name) c.assignment.ensures) in
+    let s = c.args.step.now in
+    let n = s.job.name in
+    let d = c.args.desk.now in
+    let e = c.same.new.desk in
+    let ps = c.args.tasks.now in
+    let qs = c.same.new.tasks in
+    let cells = c.args.cells.now in
+    let key : arc_value c.key-key.result.now ≡ n.key = c.key-key.ensures ∙ ap (λ n. n.key) (c.name-2.ensures ∙ ap (λ j. j.name) c.assignment-2.ensures) in
+    let earlier = c.in-Same-Some.earlier.now in
+    let x = arc_value earlier.value in
+    let checks : s.job.work ≡ Checks x (arc_value earlier.trace) earlier.base = sym (c.in-Same-Some.ensures' ∙ ap (λ j. j.work) c.assignment-3.ensures) in
+    on_ok c.same.result _ _ (both_ok c.same.result _ _ c.same.ensures.events c.same.ensures.given)
+    (λ h. ended_gives g.U.Key.PartialEq.eq c.laws_of.ensures.keys s n.version ps qs d e c.requires.out g.U.Universe.meaning cells x (Keep n.version n.key earlier.base)
+    (subst (λ z. EndsAndWakes g.U.Key.PartialEq.eq g.U.Universe.meaning cells z n.key x n ps qs) at (subst (λ z. EndsAndWakes g.U.Key.PartialEq.eq g.U.Universe.meaning cells c.version-version.result z x n ps qs) key h.1))
+    (subst (λ z. e.events ≡ d.events ++ Keep z n.key earlier.base ∷ []) at (subst (λ z. e.events ≡ d.events ++ Keep c.version-version.result z earlier.base ∷ []) key h.0))
+    refl
+    (subst (λ o. IsToldBy n.version n.key s.job.work o (Keep n.version n.key earlier.base ∷ [])) c.in-Same-Some.ensures.report (x, arc_value earlier.trace, earlier.base, checks, refl)))

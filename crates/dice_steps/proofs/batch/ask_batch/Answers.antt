@@ -1,6 +1,6 @@
 use Rattle.std.proofs.Common.{◌∙◌, sym, ap}
 use Rattle.dice_jobs.specs.Jobs.{Name, Assigned}
-use Rattle.dice_steps.proofs.PlanLemmas.{at_hand_kept, takes_from, parked_so, plan_as, takes_as, hand_as}
+use Rattle.dice_steps.proofs.PlanLemmas.{at_hand_kept, takes_from, done_from, parked_so, plan_as, takes_as, done_as, hand_as}
 use Rattle.dice_steps.proofs.batch.ask_batch.Goals as goal
 
 pub returns-in-Err-clause-kept : goal.returns-in-Err-clause-kept
@@ -34,6 +34,22 @@ returns-clause-given g c ks wants =
     let version = c.version-version.ensures ∙ ap (λ (n : Name g.row.U-Key.Denot). n.version) (c.name.ensures ∙ ap (λ (x : Assigned g.row.U-Key.Denot g.row.U-Value.Denot). x.name) c.assignment.ensures) in
     let p = parked_so a c.args.step.outcome ks c.in-Some.parked wants c.in-Some.ensures in
     takes_from eq m a.name.version _ _ _ _ e.tasks e.asks e.hands a ks _ _ (takes_as eq m c.version-version.result a.name.version version c.in-Some.parked.job a c.in-Some.parked.keys ks _ _ _ _ p.0 p.1 c.take_up.ensures.given)
+
+pub returns-clause-done : goal.returns-clause-done
+returns-clause-done g c ks wants =
+    let eq = g.U.Key.PartialEq.eq in
+    let m = g.U.Universe.meaning in
+    let e = c.plan_step.ensures in
+    let a = c.args.step.job in
+    let r = c.requires.hand in
+    let u = c.version-version.result in
+    let version = c.version-version.ensures ∙ ap (λ (n : Name g.row.U-Key.Denot). n.version) (c.name.ensures ∙ ap (λ (x : Assigned g.row.U-Key.Denot g.row.U-Value.Denot). x.name) c.assignment.ensures) in
+    let p = parked_so a c.args.step.outcome ks c.in-Some.parked wants c.in-Some.ensures in
+    done_as eq m u a.name.version version c.in-Some.parked.job a c.in-Some.parked.keys ks c.args.cells.now _ _ _ _ _ _ p.0 p.1
+    (done_from eq m u _ _ _ _ e.tasks e.asks e.hands c.in-Some.parked.job c.in-Some.parked.keys c.args.cells.now _ _ _ _ c.args.owed _ c.in-Ok.ensures.still
+    (c.take_up.ensures.done r.0 c.args.owed c.args.cells.now
+    (hand_as eq m a.name.version u (sym version) r.0 c.args.owed _ _ _ _ (at_hand_kept eq m a.name.version _ _ _ _ e.tasks e.asks e.hands r.0 c.args.owed _ _ e.desk_room.spare r.1))
+    (plan_as eq m a.name.version u (sym version) c.args.owed a c.in-Some.parked.job ks c.in-Some.parked.keys _ _ _ _ _ (sym p.0) (sym p.1) (c.in-Ok.ensures.plan ks wants))))
 
 pub returns-clause-kept : goal.returns-clause-kept
 returns-clause-kept g c w h =

@@ -3,7 +3,7 @@ use Rattle.std.specs.Arc.{arc_value}
 use Rattle.journal.specs.Events.{ended_at}
 use Rattle.dice_tasks.specs.Endings.{path_of}
 use Rattle.dice_tasks.proofs.EndsLemmas.{cleaning_of}
-use Rattle.dice_steps.proofs.GiveUpLemmas.{ended_last, given_up, off_after, at_hand_after}
+use Rattle.dice_steps.proofs.GiveUpLemmas.{ended_last, told_once, given_up, off_after, at_hand_after}
 use Rattle.dice_steps.proofs.batch.give_up.Goals as goal
 
 pub end_all-requires-clause-working : goal.end_all-requires-clause-working
@@ -21,6 +21,22 @@ pub cascade-requires-clause-after : goal.cascade-requires-clause-after
 cascade-requires-clause-after g c l o =
     let e = c.end_all.ensures.ends in
     ap (λ es. ended_at (reverse es)) e.1.events ∙ ended_last c.args.version (path_of c.args.how.now) c.args.desk.now.events e.0 _ e.1.first.1 e.1.comes
+
+pub returns-clause-ends : goal.returns-clause-ends
+returns-clause-ends g c =
+    let e = c.end_all.ensures.ends in
+    let d = c.cascade.ensures.dropped in
+    record {
+      ends = e.0;
+      drops = d.0;
+      tasks = c.end_all.new.tasks;
+      desk = c.end_all.new.desk;
+      ended = e.1;
+      own = e.3;
+      askers = e.2;
+      once = told_once g.U.Key.PartialEq.eq c.laws_of.ensures.keys c.args.version (path_of c.args.how.now) (arc_value c.args.key.now) e.0 d.0 _ _ _ _ _ _ e.1 d.1;
+      dropped = d.1;
+    }
 
 pub returns-clause-given : goal.returns-clause-given
 returns-clause-given g c =

@@ -1,8 +1,10 @@
-use Rattle.std.proofs.Common.{[], Some, refl, sym, subst}
+use Rattle.std.proofs.Common.{[], Some, refl, sym, ap, subst}
 use Rattle.std.specs.Arc.{arc_value}
 use Rattle.dice_steps.specs.Batches.{GivesUp}
-use Rattle.dice_steps.specs.Plans.{IsPlan}
+use Rattle.dice_tasks.specs.Endings.{GivesUpAll}
+use Rattle.dice_steps.specs.Plans.{IsPlan, IsPlanDone}
 use Rattle.dice_steps.proofs.BatchLemmas.{own_live, own_path, own_out, own_makes, own_room, own_knows, own_answers, own_goes, own_fits, own_may, own_waits, ends_given}
+use Rattle.dice_steps.proofs.DoneLemmas.{goes_done, waits_done}
 use Rattle.dice_steps.proofs.batch.take_up.Goals as goal
 
 pub give_up-requires-clause-hand : goal.give_up-requires-clause-hand
@@ -19,7 +21,12 @@ give_up-requires-clause-reached g c l o =
     let m = g.U.Universe.meaning in
     let r = c.requires.hand in
     own_path eq c.laws_of.ensures.keys m c.laws_of.ensures.lawful c.args.version (arc_value c.args.key.now) c.args.parked.job c.requires.own.0 c.args.parked.keys r.0 r.1 _ _ _ r.2 r.3 c.requires.out c.requires.next (arc_value c.in-Ends.path)
-    (subst (λ z. IsPlan eq m c.args.version r.1 c.args.parked.job c.args.parked.keys c.args.tasks.now c.args.desk.now c.args.graph.now r.2 z) c.in-Ends.is r.4)
+    (subst (λ z. IsPlan eq m c.args.version r.1 c.args.parked.job c.args.parked.keys c.args.tasks.now c.args.desk.now c.args.graph.now r.2 z) c.in-Ends.is r.4).0
+
+pub give_up-requires-clause-own : goal.give_up-requires-clause-own
+give_up-requires-clause-own g c l o =
+    let r = c.requires.hand in
+    ap Some (subst (λ z. IsPlan g.U.Key.PartialEq.eq g.U.Universe.meaning c.args.version r.1 c.args.parked.job c.args.parked.keys c.args.tasks.now c.args.desk.now c.args.graph.now r.2 z) c.in-Ends.is r.4).1
 
 pub make_all-requires-clause-hand : goal.make_all-requires-clause-hand
 make_all-requires-clause-hand g c l o =
@@ -177,3 +184,47 @@ returns-in-Waits-clause-kept g c w owed s hand plan =
     let may = own_may eq law.keys m law.lawful v k a c.requires.own.0 c.args.parked.keys xs w owed _ _ _ s hand c.requires.out c.requires.next p.roomy made.new.tasks c.park.new.tasks made.new.desk c.park.new.desk made.new.graph made.ensures.made kept ws p c.args.parked refl refl in
     (own_waits eq law.keys m law.lawful v k a c.requires.own.0 c.args.parked.keys xs w owed _ _ _ s hand c.requires.out c.requires.next p.roomy made.new.tasks c.park.new.tasks made.new.desk c.park.new.desk made.new.graph made.ensures.made kept ws p c.args.parked refl refl c.park.ensures.parks
     (c.park.ensures.kept w [] owed kept.0 may)).0
+
+pub returns-in-Ends-clause-done : goal.returns-in-Ends-clause-done
+returns-in-Ends-clause-done g c w owed s hand plan =
+    let eq = g.U.Key.PartialEq.eq in
+    let m = g.U.Universe.meaning in
+    let a = c.args.parked.job in
+    let path = arc_value c.in-Ends.path in
+    subst (λ z. IsPlanDone eq m c.args.version owed a c.args.parked.keys c.args.tasks.now c.args.desk.now c.args.graph.now s z c.give_up.new.tasks c.give_up.new.desk c.args.graph.now) (sym c.in-Ends.is)
+    (record {
+      path = path;
+      circle = (subst (λ z. IsPlan eq m c.args.version owed a c.args.parked.keys c.args.tasks.now c.args.desk.now c.args.graph.now s z) c.in-Ends.is plan).0;
+      ends = subst (λ z. GivesUpAll eq c.args.version (Some path) z c.args.tasks.now c.give_up.new.tasks c.args.desk.now c.give_up.new.desk) (sym c.requires.own.0) c.give_up.ensures.ends;
+      entries = refl;
+    })
+
+pub returns-in-GoesOn-clause-done : goal.returns-in-GoesOn-clause-done
+returns-in-GoesOn-clause-done g c w owed s hand plan =
+    let eq = g.U.Key.PartialEq.eq in
+    let m = g.U.Universe.meaning in
+    let law = c.laws_of.ensures in
+    let v = c.args.version in
+    let k = arc_value c.args.key.now in
+    let a = c.args.parked.job in
+    let p = subst (λ z. IsPlan eq m v owed a c.args.parked.keys c.args.tasks.now c.args.desk.now c.args.graph.now s z) c.in-GoesOn.is plan in
+    let made = c.make_all in
+    subst (λ z. IsPlanDone eq m v owed a c.args.parked.keys c.args.tasks.now c.args.desk.now c.args.graph.now s z c.go_on.new.tasks c.go_on.new.desk made.new.graph) (sym c.in-GoesOn.is)
+    (goes_done eq law.keys m law.lawful v k a c.requires.own.0 c.args.parked.keys c.in-GoesOn.parts.items w owed _ _ _ s hand c.requires.out p.roomy made.new.tasks c.go_on.new.tasks made.new.desk c.go_on.new.desk made.new.graph made.ensures.made made.ensures.looked c.in-GoesOn.next p c.go_on.ensures.ready)
+
+pub returns-in-Waits-clause-done : goal.returns-in-Waits-clause-done
+returns-in-Waits-clause-done g c w owed s hand plan =
+    let eq = g.U.Key.PartialEq.eq in
+    let m = g.U.Universe.meaning in
+    let law = c.laws_of.ensures in
+    let v = c.args.version in
+    let k = arc_value c.args.key.now in
+    let a = c.args.parked.job in
+    let xs = c.in-Waits.parts.items in
+    let ws = c.in-Waits.waits.items in
+    let p = subst (λ z. IsPlan eq m v owed a c.args.parked.keys c.args.tasks.now c.args.desk.now c.args.graph.now s z) c.in-Waits.is plan in
+    let made = c.make_all-in-Waits in
+    let kept = made.ensures.kept [] w owed (own_makes eq law.keys m law.lawful v k a c.requires.own.0 c.args.parked.keys xs w owed _ _ _ s hand c.requires.out c.requires.next p.roomy) in
+    let may = own_may eq law.keys m law.lawful v k a c.requires.own.0 c.args.parked.keys xs w owed _ _ _ s hand c.requires.out c.requires.next p.roomy made.new.tasks c.park.new.tasks made.new.desk c.park.new.desk made.new.graph made.ensures.made kept ws p c.args.parked refl refl in
+    subst (λ z. IsPlanDone eq m v owed a c.args.parked.keys c.args.tasks.now c.args.desk.now c.args.graph.now s z c.park.new.tasks c.park.new.desk made.new.graph) (sym c.in-Waits.is)
+    (waits_done eq law.keys m law.lawful v k a c.requires.own.0 c.args.parked.keys xs w owed _ _ _ s hand c.requires.out p.roomy made.new.tasks c.park.new.tasks made.new.desk c.park.new.desk made.new.graph made.ensures.made made.ensures.looked ws p c.args.parked refl refl c.park.ensures.parks (c.park.ensures.kept w [] owed kept.0 may))

@@ -1,4 +1,4 @@
-use Rattle.std.proofs.Common.{◌≡◌, inl, [], ◌∷◌, ◌++◌, sym, ◌∙◌, subst}
+use Rattle.std.proofs.Common.{◌≡◌, inl, [], ◌∷◌, ◌++◌, refl, sym, ◌∙◌, subst}
 use Rattle.std.specs.Arc.{arc_value}
 use Rattle.dice_key.specs.declared.universe.Kind.TheVariants.{Injected}
 use Rattle.task_share.specs.Asked.{Leads}
@@ -16,6 +16,16 @@ returns-in-Injected g c =
     let injected : m.kind k ≡ Injected = subst (λ z. m.kind z ≡ Injected) c.deref.ensures (sym c.kind.ensures ∙ c.in-Injected.is) in
     subst (λ zs. AreParts eq m c.args.version c.args.born c.args.tasks.now c.args.graph.now own (k ∷ []) zs) (sym c.new-parts.ensures.items)
     (parts_skip eq m c.args.version c.args.born c.args.tasks.now c.args.graph.now own [] k [] (parts_none eq m c.args.version c.args.born c.args.tasks.now c.args.graph.now own) (inl injected))
+
+pub returns-in-Some : goal.returns-in-Some
+returns-in-Some g c = record {
+  before = [];
+  key = arc_value c.args.key.now;
+  later = [];
+  all = refl;
+  earlier = λ q h. absurd h;
+  found = rw c.in-Some.is at c.in_ok-path.ensures.some;
+}
 
 pub returns : goal.returns
 returns g c =

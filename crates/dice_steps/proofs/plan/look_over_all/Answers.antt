@@ -1,4 +1,4 @@
-use Rattle.std.proofs.Common.{◌≡◌, ◌∙◌, ◌⊎◌, inl, inr, ◌++◌, ◌∷◌, [], ◌+◌, refl, sym, ap, subst, map, take}
+use Rattle.std.proofs.Common.{◌≡◌, ◌∙◌, ◌⊎◌, inl, inr, ◌++◌, ◌∷◌, [], ◌+◌, sym, ap, subst, map, take}
 use Rattle.std.specs.Arc.{arc_value}
 use Rattle.std.specs.List.{list_any}
 use Rattle.std.proofs.lemmas.List.{take_all}
@@ -7,13 +7,16 @@ use Rattle.dice_model.specs.Log.{Has}
 use Rattle.dice_steps.specs.Plans.{key_in, AreParts}
 use Rattle.dice_steps.proofs.NotedLemmas.{AreSeen}
 use Rattle.dice_steps.proofs.PartLemmas.{map_last, parts_none, parts_turned}
-use Rattle.dice_steps.proofs.SurveyLemmas.{key_of_batch, seen_same, seen_new, seen_has, unseen, skips, adds}
+use Rattle.dice_steps.proofs.SurveyLemmas.{batch_at, comes_to_none, seen_same, seen_new, seen_has, unseen, skips, adds}
 use Rattle.dice_steps.proofs.plan.look_over_all.Goals as goal
 
 pub returns-in-Some : goal.returns-in-Some
 returns-in-Some g c = record {
+  before = map arc_value (take c.loop-key.key-index c.args.keys.now);
   key = arc_value c.key-item.result;
-  among = key_of_batch g.U.Key.PartialEq.eq c.laws_of.ensures.keys c.args.keys.now _ c.loop-key.key-index c.key-item.result refl c.loop-key-test.true c.key-item.is;
+  later = (batch_at c.args.keys.now c.loop-key.key-index c.key-item.result c.loop-key-test.true c.key-item.is).0;
+  all = (batch_at c.args.keys.now c.loop-key.key-index c.key-item.result c.loop-key-test.true c.key-item.is).1;
+  earlier = comes_to_none g.U.Key.PartialEq.eq c.laws_of.ensures.keys g.U.Universe.meaning c.args.version c.args.born c.args.tasks.now c.args.graph.now (arc_value c.args.own.now) c.args.keys.now c.loop-key.key-index c.key-item.result c.loop-key-test.true c.key-item.is c.loop-key.parts.items c.loop-key.invariant.parts;
   found = rw c.in-Some.is at c.in_ok-path.ensures.some;
 }
 

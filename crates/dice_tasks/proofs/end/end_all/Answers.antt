@@ -1,29 +1,34 @@
-use Rattle.std.proofs.Common.{◌≡◌, inl, inr, ◌+◌, ◌*◌, ◌<◌, [], ◌∷◌, ◌++◌, length, sym, subst}
+use Rattle.std.proofs.Common.{◌≡◌, inl, inr, ◌+◌, ◌*◌, ◌<◌, [], ◌∷◌, ◌++◌, length, refl, sym, subst}
 use Rattle.std.specs.Arc.{arc_value}
 use Rattle.dice_tasks.specs.Hands.{DeskSeen}
-use Rattle.dice_tasks.specs.Endings.{path_of}
+use Rattle.core_laws.specs.Tasks.{Outcome}
+use Rattle.core_laws.proofs.Counts.{has_front}
+use Rattle.dice_tasks.specs.Endings.{ListsEnd, path_of, ends_so, told_end}
 use Rattle.dice_tasks.proofs.EndsLemmas.{working_knows}
 use Rattle.dice_tasks.proofs.TellLemmas.{begins_telling, listed, asker_ended, last_told, asker_fewer, told_fewer, ends_telling}
-use Rattle.dice_tasks.proofs.AllLemmas.{all_first, all_more, all_told, listed_first, listed_more, listed_told}
+use Rattle.dice_tasks.proofs.AllLemmas.{all_first, all_more, all_told, listed_first, listed_more, listed_told, untold_first, untold_more, untold_told, with_askers, comes_so}
 use Rattle.dice_tasks.proofs.TaskedLemmas.{tasked_end, tasked_same}
 use Rattle.dice_tasks.proofs.end.end_all.Goals as goal
 
-pub end_one-requires-clause-known : goal.end_one-requires-clause-known
-end_one-requires-clause-known g c l o =
+pub end_own-requires-clause-known : goal.end_own-requires-clause-known
+end_own-requires-clause-known g c l o =
     let r = c.requires.working in
     working_knows g.U.Key.PartialEq.eq c.laws_of.ensures.keys g.U.Universe.meaning c.args.version [] r.0 r.1 _ _ r.2
 
 pub askers-init : goal.askers-init
 askers-init g c =
-    let e = c.end_one.ensures.ended in
+    let e = c.end_own.ensures.ended in
     let eq = g.U.Key.PartialEq.eq in
     let p = path_of c.args.how.now in
     let k = arc_value c.args.key.now in
+    let v = c.args.version in
+    let came : Outcome g.row.U-Key.Denot g.row.U-Value.Denot = ends_so p in
+    let ends = subst (λ z. ListsEnd eq v k e.0 (ends_so z) (told_end v k (ends_so {V = g.row.U-Value.Denot} z)) c.args.tasks.now c.end_own.new.tasks c.args.desk.now c.end_own.new.desk) c.requires.own e.1 in
     record {
-      ends = ((k, e.1) ∷ [], all_first eq c.laws_of.ensures.keys c.args.version p k e.0 e.1 _ _ _ _ e.2 e.3, listed_first eq c.laws_of.ensures.keys c.args.version p k e.0 e.1 _ _ _ _ e.3 c.requires.ended);
-      tasked = tasked_end eq c.laws_of.ensures.keys c.args.version k e.0 e.1 _ _ _ _ e.3.tells.ends;
-      kept = λ w owed work. listed eq c.laws_of.ensures.keys g.U.Universe.meaning c.laws_of.ensures.lawful c.args.version p w owed k e.0 e.1 _ _ _ _ e.3 e.2 c.requires.reached
-          (begins_telling eq g.U.Universe.meaning c.args.version p w owed _ _ c.requires.ended work);
+      ends = ((k, came) ∷ [], all_first eq c.laws_of.ensures.keys v p k e.0 came _ _ _ _ (comes_so g.row.U-Value.Denot p) ends, listed_first eq c.laws_of.ensures.keys v p k e.0 came _ _ _ _ ends c.requires.ended, untold_first eq c.laws_of.ensures.keys v p k e.0 came _ _ _ _ ends, inl refl);
+      tasked = tasked_end eq c.laws_of.ensures.keys v k e.0 came _ _ _ _ ends.tells.ends;
+      kept = λ w owed work. listed eq c.laws_of.ensures.keys g.U.Universe.meaning c.laws_of.ensures.lawful v p w owed k e.0 came _ _ _ _ ends (comes_so g.row.U-Value.Denot p) c.requires.reached
+          (begins_telling eq g.U.Universe.meaning v p w owed _ _ c.requires.ended work);
     }
 
 pub tell_one-requires-clause-known : goal.tell_one-requires-clause-known
@@ -41,12 +46,12 @@ askers-preserved g c =
     let n = c.askers.invariant.ends in
     elim (c.tell_one.ensures.some c.askers-test.true) [
       | inl a ↦ record {
-        ends = (n.0 ++ (a.asker, a.came) ∷ [], all_more eq c.laws_of.ensures.keys v p k n.0 _ _ _ _ _ _ n.1 a (n.2 a.key a.listed), listed_more eq c.laws_of.ensures.keys v p k n.0 _ _ _ _ _ _ n.1 a n.2);
+        ends = (n.0 ++ (a.asker, a.came) ∷ [], all_more eq c.laws_of.ensures.keys v p k n.0 _ _ _ _ _ _ n.1 a (n.2 a.key a.listed), listed_more eq c.laws_of.ensures.keys v p k n.0 _ _ _ _ _ _ n.1 a n.2, untold_more eq c.laws_of.ensures.keys v p k n.0 _ _ _ _ _ _ n.1 a n.3, has_front n.0 (a.asker, a.came) (k, ends_so p) n.4);
         tasked = λ h. tasked_end eq c.laws_of.ensures.keys v a.asker a.held a.came _ _ _ _ a.ends.tells.ends (c.askers.invariant.tasked h);
         kept = λ w owed work. asker_ended eq c.laws_of.ensures.keys m c.laws_of.ensures.lawful v p w owed _ _ _ _ a (c.askers.invariant.kept w owed work);
       }
       | inr t ↦ record {
-        ends = (n.0, all_told eq c.laws_of.ensures.keys v p k n.0 _ _ _ _ _ _ n.1 t, listed_told eq c.laws_of.ensures.keys v p k n.0 _ _ _ _ _ _ n.1 t n.2);
+        ends = (n.0, all_told eq c.laws_of.ensures.keys v p k n.0 _ _ _ _ _ _ n.1 t, listed_told eq c.laws_of.ensures.keys v p k n.0 _ _ _ _ _ _ n.1 t n.2, untold_told eq c.laws_of.ensures.keys v p k n.0 _ _ _ _ _ _ n.1 t n.3, n.4);
         tasked = λ h. tasked_same eq _ _ t.tasks t.asks (c.askers.invariant.tasked h);
         kept = λ w owed work. last_told eq c.laws_of.ensures.keys m c.laws_of.ensures.lawful v p w owed _ _ _ _ t (c.askers.invariant.kept w owed work);
       }
@@ -67,7 +72,7 @@ pub returns-clause-ends : goal.returns-clause-ends
 returns-clause-ends g c =
     let e = c.tell_one.ensures.none c.askers-test.false in
     let n = c.askers.invariant.ends in
-    (n.0, rw e.1 (rw e.2 n.1))
+    (n.0, rw e.1 (rw e.2 n.1), with_askers g.U.Key.PartialEq.eq c.laws_of.ensures.keys c.args.version (path_of c.args.how.now) (arc_value c.args.key.now) n.0 c.args.tasks.now c.askers.tasks c.askers.tasks c.args.desk.now c.askers.desk c.askers.desk n.1 n.3 e.0, n.4)
 
 pub returns-clause-ended : goal.returns-clause-ended
 returns-clause-ended g c =

@@ -54,7 +54,7 @@ returns-in-Join-clause-alone g c = alone_none g.U.Key.PartialEq.eq c.args.versio
 pub returns-in-Match-clause-alone : goal.returns-in-Match-clause-alone
 returns-in-Match-clause-alone g c =
     alone_ended g.U.Key.PartialEq.eq c.args.version (arc_value c.args.key.now) c.args.tasks.now c.make_match.new.tasks c.args.desk.now c.make_match.new.desk c.args.graph.now c.make_match.new.graph c.in-Match.base c.in-Match.task
-    c.make_match.ensures.tasks c.make_match.ensures.desk (other_entries g.U.Key.PartialEq.eq c.args.version (arc_value c.args.key.now) c.args.graph.now c.make_match.new.graph c.make_match.ensures.entries)
+    c.make_match.ensures.tasks c.make_match.ensures.desk (other_entries g.U.Key.PartialEq.eq c.args.version (arc_value c.args.key.now) c.args.graph.now c.make_match.new.graph c.make_match.ensures.entries) c.make_match.ensures.edges
 
 pub returns-in-Run-clause-alone : goal.returns-in-Run-clause-alone
 returns-in-Run-clause-alone g c =
