@@ -96,12 +96,12 @@ worst() {
     }'
 }
 
-# one path is put and committed n times, and asked for each time
+# one path is put and committed n times, with so many contents in turn, and asked for each time
 history() {
-    awk -v n="$1" 'BEGIN {
+    awk -v n="$1" -v contents="$2" 'BEGIN {
         text = "export_file(name = \"f\")\n"
         printf "put a/BUCK %d\n%s\n", length(text), text
-        for (i = 0; i < n; i++) printf "put a/f 1\n%d\ncommit\nopen t%d\nask t%d r%d //a:f\n", i % 2, i, i, i
+        for (i = 0; i < n; i++) printf "put a/f 5\n%05d\ncommit\nopen t%d\nask t%d r%d //a:f\n", i % contents, i, i, i
     }'
 }
 
@@ -137,8 +137,10 @@ one_file 0 >"$work/equal"
 one_file 1 >"$work/file"
 chain >"$work/chain"
 worst >"$work/worst"
-history 1000 >"$work/history1"
-history 4000 >"$work/history4"
+for n in 1000 4000 20000; do
+    history "$n" 2 >"$work/two$n"
+    history "$n" "$n" >"$work/new$n"
+done
 : >"$work/none"
 for workers in 0 1 4; do
     printf 'packages 2000, workers %s: %s ms\n' "$workers" "$(timed "$work/packages" "$dice" run --workers "$workers")"
@@ -155,6 +157,8 @@ for workers in 0 4; do
     printf 'one of 1000 targets in one file edited, all asked, workers %s: %s ms\n' "$workers" "$(timed "$work/file" "$dice" run --workers "$workers")"
     printf 'a chain of 2000 whose end changed, workers %s: %s ms\n' "$workers" "$(timed "$work/chain" "$dice" run --workers "$workers")"
     printf 'a script of 4 MiB of puts, transactions and requests, workers %s: %s ms\n' "$workers" "$(timed "$work/worst" "$dice" run --workers "$workers")"
-    printf 'one path changed and asked 1000 times, workers %s: %s ms\n' "$workers" "$(timed "$work/history1" "$dice" run --workers "$workers")"
-    printf 'one path changed and asked 4000 times, workers %s: %s ms\n' "$workers" "$(timed "$work/history4" "$dice" run --workers "$workers")"
+    for n in 1000 4000 20000; do
+        printf 'one path of two contents changed and asked %s times, workers %s: %s ms\n' "$n" "$workers" "$(timed "$work/two$n" "$dice" run --workers "$workers")"
+        printf 'one path of new contents changed and asked %s times, workers %s: %s ms\n' "$n" "$workers" "$(timed "$work/new$n" "$dice" run --workers "$workers")"
+    done
 done
