@@ -1,8 +1,8 @@
 -- What has become of a batch once it was taken up, as contracts say it.
-use Rattle.std.proofs.Common.{◌≡◌, ◌≢◌, ◌⊎◌, inl, inr, ℕ, Bool, true, false, cond, ◌&&◌, ◌||◌, List, [], ◌∷◌, ◌++◌, length, map, reverse, Option, Some, None, refl, sym, ap, ◌∙◌, subst}
+use Rattle.std.proofs.Common.{◌≡◌, ◌≢◌, inl, inr, ℕ, Bool, true, false, cond, ◌&&◌, ◌||◌, List, [], ◌∷◌, length, map, reverse, Option, Some, None, refl, sym, ap, ◌∙◌, subst}
 use Rattle.std.specs.List.{AllZip, list_any}
 use Rattle.std.specs.Option.{option_map}
-use Rattle.std.proofs.lemmas.Option.{none-some, same_Some}
+use Rattle.std.proofs.lemmas.Option.{none-some}
 use Rattle.dice_key.specs.Meaning.{Meaning}
 use Rattle.dice_key.specs.Lawful.{IsLawful, IsEquality}
 use Rattle.dice_key.specs.declared.universe.Kind.TheVariants.{Injected}
@@ -10,24 +10,23 @@ use Rattle.dice_model.specs.Log.{Has}
 use Rattle.dice_jobs.specs.Jobs.{Assigned, Waits, answered_more}
 use Rattle.task_share.specs.Asked.{By, Tasked, WaitOf, is_by}
 use Rattle.task_share.specs.Seen.{Share, task_at, is_live, asks, asked_of}
-use Rattle.injected.specs.Seen.{Seen, cell_at}
-use Rattle.versioned_graph.specs.Entries.{Stored, entry_at}
-use Rattle.versioned_graph.specs.Looks.{Matches}
-use Rattle.core_laws.specs.Tasks.{IsReady, IsOut, IsWaiting, Ended, WithValue, WithNothing, is_going, value_of, value_in}
+use Rattle.injected.specs.Seen.{Seen}
+use Rattle.versioned_graph.specs.Entries.{Stored}
+use Rattle.core_laws.specs.Tasks.{IsReady, IsOut, IsWaiting, Ended, WithValue, WithNothing, value_of}
 use Rattle.core_laws.specs.Stands.{VersionStands}
 use Rattle.core_laws.specs.Desk.{World}
-use Rattle.core_laws.proofs.Shapes.{same_or_other, not_both}
+use Rattle.core_laws.proofs.Shapes.{same_or_other}
 use Rattle.core_laws.proofs.Turns.{stands_here}
 use Rattle.dice_tasks.specs.Helds.{Held, Ahead, task_of, held_of, works}
 use Rattle.dice_tasks.specs.Hands.{DeskSeen, desk_of, Working, tasks_of}
-use Rattle.dice_tasks.specs.Makings.{IsFree, HasTask, IsMaking, task_by}
+use Rattle.dice_tasks.specs.Makings.{IsFree, IsMaking, task_by}
 use Rattle.dice_tasks.specs.Waitings.{ParksJob, ReturnsJob, waits_so}
 use Rattle.dice_tasks.specs.declared.making.Making.{Making}
 use Rattle.dice_tasks.specs.declared.making.Making.TheVariants.{Join, Match, Run, Check}
 use Rattle.dice_tasks.proofs.WaitLemmas.{key_there, wait_of}
 use Rattle.dice_steps.specs.AtHand.{AtHand}
-use Rattle.dice_steps.specs.Plans.{key_in, wait_for, waits_of, is_awaited, IsPart, AreParts, IsAtHand, IsRoomy, GoesOnSo, WaitsSo}
-use Rattle.dice_steps.specs.Taken.{says, MakesTasks, NeedsTask, IsAwaited, WaitsFor, IsAnswerTo, GoesOnWith}
+use Rattle.dice_steps.specs.Plans.{key_in, wait_for, waits_of, is_awaited, AreParts, IsAtHand, IsRoomy, GoesOnSo, WaitsSo}
+use Rattle.dice_steps.specs.Taken.{MakesTasks, WaitsFor, IsAnswerTo, GoesOnWith}
 use Rattle.dice_steps.specs.Batches.{AreMakable, MakesParted, MakesParts}
 use Rattle.dice_steps.specs.declared.plan.Part.{Part}
 use Rattle.dice_steps.proofs.BatchLemmas.{ended_so}

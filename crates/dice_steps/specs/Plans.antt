@@ -8,7 +8,7 @@ use Rattle.dice_key.specs.declared.universe.Kind.TheVariants.{Injected}
 use Rattle.dice_model.specs.Log.{Has, AreDistinct}
 use Rattle.dice_jobs.specs.Jobs.{Assigned, answered_more}
 use Rattle.task_share.specs.Asked.{WaitOf, Leads}
-use Rattle.task_share.specs.Seen.{Share, task_at, is_live, asked_of, has_place, asker_room, wait_room}
+use Rattle.task_share.specs.Seen.{Share, is_live, asked_of, has_place, asker_room, wait_room}
 use Rattle.injected.specs.Seen.{Seen, cell_at}
 use Rattle.versioned_graph.specs.Entries.{Stored, entry_at}
 use Rattle.versioned_graph.specs.Looks.{Matches, look}
