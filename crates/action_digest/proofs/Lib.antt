@@ -5,5 +5,5 @@ pub mod Labels
 pub mod Asking
 pub mod Mentioned
 pub mod Reached
-pub mod Circles
+pub mod Rounds
 pub mod Turning

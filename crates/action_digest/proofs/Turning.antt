@@ -12,7 +12,7 @@ use Rattle.action_digest.specs.declared.key.Key.{Key}
 use Rattle.action_digest.specs.declared.key.Key.TheVariants as key
 use Rattle.action_digest.specs.declared.value.Value.{Value}
 use Rattle.action_digest.specs.Cycles.{keys_of, labels_of, IsAtMost, BeginsWithLeast, IsLabelCycle, ReachesFirst}
-use Rattle.action_digest.proofs.Circles.{Cycle, turned_many, leads_many, is_in_turn}
+use Rattle.action_digest.proofs.Rounds.{Cycle, turned_many, leads_many, is_in_turn}
 
 -- ---- the order
 

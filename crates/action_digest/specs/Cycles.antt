@@ -11,7 +11,7 @@ use Rattle.action_digest.specs.declared.value.Value.{Value}
 use Rattle.action_digest.specs.Buck.{buck}
 use Rattle.action_digest.specs.Same.{key_equal}
 
--- the keys of these targets, in a circle: each one's digest asks its action, and this the next one's digest
+-- the keys of these targets, in a cycle: each one's digest asks its action, and this the next one's digest
 abbrev pub keys_of : List (List ℕ) → List Key
 keys_of [] = []
 keys_of (l ∷ ls) = key.Digest l ∷ key.Action l ∷ keys_of ls

@@ -130,7 +130,7 @@ module _ {K V : Type 0} (eq : K → K → Bool) (equality : IsEquality eq) (m : 
       waits = λ d j e. h.waits d j (before d (Tasked j) e);
       waiting = λ d j e. (let a = h.waiting d j (before d (Tasked j) e) in (a.0, ap batch_of (others j (asked_by_another eq k s u w.asks d j e)) ∙ a.1, a.2));
       awaited = awaited_on;
-      no_circle = λ a i e l. h.no_circle a i (before i (Tasked a) e) (leads_fewer s u before i a l);
+      no_cycle = λ a i e l. h.no_cycle a i (before i (Tasked a) e) (leads_fewer s u before i a l);
       stuck = λ j ks e. (let a = waits_still j ks e in let d = h.stuck j ks a.1 in (d.0, others_stay eq k s u w.asks d.0 j a.0 d.1));
       batch = batch_on;
       live = live_on;

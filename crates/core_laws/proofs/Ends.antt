@@ -47,7 +47,7 @@ module _ {K V : Type 0} (eq : K → K → Bool) (equality : IsEquality eq) (m : 
     waits = λ q j e. rw f.commits (h.waits q j (fewer q (Tasked j) e));
     waiting = shape.waiting;
     awaited = shape.awaited;
-    no_circle = shape.no_circle;
+    no_cycle = shape.no_cycle;
     stuck = shape.stuck;
     batch = shape.batch;
     live = shape.live;
@@ -62,7 +62,7 @@ module _ {K V : Type 0} (eq : K → K → Bool) (equality : IsEquality eq) (m : 
 
     -- one more key whose askers are to be told
     wider : Shape m W s ts → Shape m (k ∷ W) s ts
-    wider i = record { waiting = i.waiting; awaited = λ q j e. elim (i.awaited q j e) as (λ _. (s.live q ≡ true) ⊎ Has (k ∷ W) q) [ inl a ↦ inl a | inr b ↦ inr (inr b) ]; no_circle = i.no_circle; stuck = i.stuck; batch = i.batch; live = i.live }
+    wider i = record { waiting = i.waiting; awaited = λ q j e. elim (i.awaited q j e) as (λ _. (s.live q ≡ true) ⊎ Has (k ∷ W) q) [ inl a ↦ inl a | inr b ↦ inr (inr b) ]; no_cycle = i.no_cycle; stuck = i.stuck; batch = i.batch; live = i.live }
 
     -- it ends, and its asks are withdrawn
     pub task_ends : (o : Outcome K V) → Withdraws eq k s u → Lives eq k false s u → Puts eq k (Some (record { born = t.born; standing = Ended o })) ts us → OutcomeStands eq m S v k o → is_running eq S v k ≡ false → VersionStands eq m S v (k ∷ W) u us

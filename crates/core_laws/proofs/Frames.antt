@@ -113,7 +113,7 @@ module _ {K V : Type 0} (eq : K → K → Bool) (m : Meaning K V) (R S : List (T
       waits = λ d k e. (let a = sym (same d k) ∙ e in let w = h.waiting d k a in subst (λ C. AsksFor eq m C v k d) (sym c.commits) (asks_stable eq m (commits_of R) c.later v (within k w.0 w.1) k d (h.waits d k a)));
       waiting = λ d k e. h.waiting d k (sym (same d k) ∙ e);
       awaited = λ d k e. rw (lives d) (h.awaited d k (sym (same d k) ∙ e));
-      no_circle = λ k i e l. h.no_circle k i (sym (same i k) ∙ e) (leads_back i k l);
+      no_cycle = λ k i e l. h.no_cycle k i (sym (same i k) ∙ e) (leads_back i k l);
       stuck = λ k ks e. (let r = h.stuck k ks e in (r.0, same r.0 k ∙ r.1));
       batch = λ k ks e d i. rw (same d k) (h.batch k ks e d i);
       live = λ k. lives k ∙ h.live k;

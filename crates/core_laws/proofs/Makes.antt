@@ -131,7 +131,7 @@ module _ {K V : Type 0} (eq : K → K → Bool) (equality : IsEquality eq) (m : 
           waits = λ d q e. h.waits d q (sym (same d (Tasked q)) ∙ e);
           waiting = shape.waiting;
           awaited = shape.awaited;
-          no_circle = shape.no_circle;
+          no_cycle = shape.no_cycle;
           stuck = shape.stuck;
           batch = shape.batch;
           live = shape.live;
@@ -168,7 +168,7 @@ module _ {K V : Type 0} (eq : K → K → Bool) (equality : IsEquality eq) (m : 
           waits = λ d q e. h.waits d q (sym (same d (Tasked q)) ∙ e);
           waiting = shape.waiting;
           awaited = shape.awaited;
-          no_circle = shape.no_circle;
+          no_cycle = shape.no_cycle;
           stuck = shape.stuck;
           batch = shape.batch;
           live = shape.live;
@@ -204,7 +204,7 @@ module _ {K V : Type 0} (eq : K → K → Bool) (equality : IsEquality eq) (m : 
         waits = λ d q e. h.waits d q (sym (same d (Tasked q)) ∙ e);
         waiting = shape.waiting;
         awaited = shape.awaited;
-        no_circle = shape.no_circle;
+        no_cycle = shape.no_cycle;
         stuck = shape.stuck;
         batch = shape.batch;
         live = shape.live;

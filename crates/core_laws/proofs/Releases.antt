@@ -39,7 +39,7 @@ module _ {K V : Type 0} (eq : K → K → Bool) (equality : IsEquality eq) (m : 
         waits = λ c q e. h.waits c q (fewer c (Tasked q) e);
         waiting = λ c q e. h.waiting c q (fewer c (Tasked q) e);
         awaited = λ c q e. elim (h.awaited c q (fewer c (Tasked q) e)) as (λ _. (u.live c ≡ true) ⊎ Has W c) [ inl l ↦ inl (same c ∙ l) | inr g ↦ inr g ];
-        no_circle = λ a i e l. h.no_circle a i (fewer i (Tasked a) e) (leads_fewer s u fewer i a l);
+        no_cycle = λ a i e l. h.no_cycle a i (fewer i (Tasked a) e) (leads_fewer s u fewer i a l);
         stuck = λ q ks e. elim (same_or_other eq equality j q) as (λ _. (c : K) × (u.asks c (Tasked q) ≡ true)) [
           | inl i ↦ (d, subst (λ y. u.asks d (Tasked y) ≡ true) i on)
           | inr n ↦ (let c = h.stuck q ks e in (c.0, left_others eq k (Tasked j) s u left c.0 (Tasked q) n c.1))
@@ -84,7 +84,7 @@ module _ {K V : Type 0} (eq : K → K → Bool) (equality : IsEquality eq) (m : 
       | inr (inl i) ↦ absurd (not_both e (subst (λ y. s.asks y (Tasked q) ≡ false) i (none q)))
       | inr (inr g) ↦ inr g
     ];
-    no_circle = h.no_circle;
+    no_cycle = h.no_cycle;
     stuck = h.stuck;
     batch = h.batch;
     live = h.live;

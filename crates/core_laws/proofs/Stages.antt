@@ -67,7 +67,7 @@ module _ {K V : Type 0} (eq : K → K → Bool) (equality : IsEquality eq) (m : 
         waits = λ d q a. h.waits d q (fewer d (Tasked q) a);
         waiting = shape.waiting;
         awaited = shape.awaited;
-        no_circle = shape.no_circle;
+        no_cycle = shape.no_cycle;
         stuck = shape.stuck;
         batch = shape.batch;
         live = shape.live;

@@ -101,7 +101,7 @@ module _ {K V : Type 0} (eq : K → K → Bool) (equality : IsEquality eq) (m : 
 
     -- likewise in the midst of a call, where each of them has an asker
     pub wanted_stand : IsDone s → (k : K) → s.live k ≡ true → IsWanted eq m R v k
-    wanted_stand done k l = held_wanted eq m R v W s ts here k (climbs eq equality s done here.no_circle (askers_live eq m R v W s ts here) live_stand.0 live_stand.1 k l)
+    wanted_stand done k l = held_wanted eq m R v W s ts here k (climbs eq equality s done here.no_cycle (askers_live eq m R v W s ts here) live_stand.0 live_stand.1 k l)
 
   -- ---- from work on v to rest
 

@@ -5,7 +5,7 @@ use Rattle.dice_key.specs.declared.universe.Kind.TheVariants.{Injected}
 use Rattle.dice_model.specs.Log.{Has}
 use Rattle.dice_model.specs.Eval.{HasValue}
 use Rattle.dice_model.specs.Asks.{Goes, IsTrace, AsksFor, Reaches, IsCycle}
-use Rattle.task_share.specs.Asked.{By, Promised, Tasked, Asked, HasNoCircle, IsDone}
+use Rattle.task_share.specs.Asked.{By, Promised, Tasked, Asked, HasNoCycle, IsDone}
 use Rattle.journal.specs.declared.event.Told.{Told}
 use Rattle.journal.specs.declared.event.Told.TheVariants.{Commit, Open, Close, Ask, Leave, Start, Keep, End, Cyclic, Drop, Lost}
 use Rattle.journal.specs.Events.{Asking, ByValue, ByCycle, names_by, begins, commits_of, opened_at, open_count, live_at, decided, asked_in_epoch, is_running, is_base}
@@ -112,7 +112,7 @@ module _ {K V : Type 0} (eq : K → K → Bool) (m : Meaning K V) where
     pub waiting : (d k : K) → s.asks d (Tasked k) ≡ true → (ks : List K) × (batch_of (ts k) ≡ Some ks) × Has ks d
     -- what is waited for has not ended, or its askers are still to be told
     pub awaited : (d k : K) → s.asks d (Tasked k) ≡ true → (s.live d ≡ true) ⊎ Has W d
-    pub no_circle : HasNoCircle s
+    pub no_cycle : HasNoCycle s
     -- a task that waits has an ask; each key of its batch is injected, or asked for, or has ended with a value
     pub stuck : (k : K) (ks : List K) → batch_of (ts k) ≡ Some ks → (d : K) × (s.asks d (Tasked k) ≡ true)
     pub batch : (k : K) (ks : List K) → batch_of (ts k) ≡ Some ks → (d : K) → Has ks d → (m.kind d ≡ Injected) ⊎ (s.asks d (Tasked k) ≡ true) ⊎ ((x : V) × (value_of (ts d) ≡ Some x))

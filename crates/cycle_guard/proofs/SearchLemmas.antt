@@ -7,7 +7,7 @@ use Rattle.dice_key.specs.Lawful.{IsEquality}
 use Rattle.task_share.specs.Asked.{Tasked, Leads, stays, asks_on}
 use Rattle.task_share.specs.Lists.{Has, AreDistinct}
 use Rattle.task_share.specs.Seen.{Share, asks, waits_at, asked_of, list_for, IsMirrored}
-use Rattle.cycle_guard.specs.Circle.{WouldWait, IsRound, IsSecond, IsCircle}
+use Rattle.cycle_guard.specs.WaitCycle.{WouldWait, IsRound, IsSecond, IsWaitCycle}
 use Rattle.cycle_guard.specs.Search.{Stacked, Pending, IsSearch, unmet}
 
 true_or_false : (b : Bool) → (b ≡ true) ⊎ (b ≡ false)
@@ -103,8 +103,8 @@ module _ {K T : Type 0} (eq : K → K → Bool) (law : IsEquality eq) where
     led k (j ∷ ks) (m ∷ ns) n s = leads_more to j k (led j ks ns m s.1) (wait_asks j k s.0)
 
     -- the last key of the path waits for `from`
-    pub found_circle : (path : List K) (k : K) (ks : List K) (ns : List ℕ) (n : ℕ) (seen : K → Bool) → reverse path ≡ k ∷ ks → IsSearch eq ps from to (k ∷ ks) (n ∷ ns) seen → Has (waits_at eq ps k) from → IsCircle (asked_of eq ps) from to path
-    found_circle path k ks ns n seen e s h =
+    pub found_cycle : (path : List K) (k : K) (ks : List K) (ns : List ℕ) (n : ℕ) (seen : K → Bool) → reverse path ≡ k ∷ ks → IsSearch eq ps from to (k ∷ ks) (n ∷ ns) seen → Has (waits_at eq ps k) from → IsWaitCycle (asked_of eq ps) from to path
+    found_cycle path k ks ns n seen e s h =
         let z = up k ks [] ns n s.stacked (inl (wait_asks k from h)) in
         let p : path ≡ reverse (k ∷ ks) = sym (reverse-reverse path) ∙ ap reverse e in
         record { rest = z.0; begins = p ∙ (sym (append-nil (reverse (k ∷ ks))) ∙ z.1); second = z.2; distinct = subst AreDistinct (sym p) (distinct_reverse (k ∷ ks) s.distinct); round = z.3 }
@@ -113,8 +113,8 @@ module _ {K T : Type 0} (eq : K → K → Bool) (law : IsEquality eq) where
     found_leads k ks ns n seen s h = leads_more to k from (led k ks ns n s.stacked) (wait_asks k from h)
 
     -- `from` and `to` are one key
-    pub own_circle : from ≡ to → IsCircle (asked_of eq ps) from to (from ∷ [])
-    own_circle e = record { rest = []; begins = refl; second = sym e; distinct = ((λ h. h), tt); round = inr (refl, e) }
+    pub own_cycle : from ≡ to → IsWaitCycle (asked_of eq ps) from to (from ∷ [])
+    own_cycle e = record { rest = []; begins = refl; second = sym e; distinct = ((λ h. h), tt); round = inr (refl, e) }
 
     -- a search that is over met all that `to` leads to
     no_pending : (R : List K) (k i : K) → Pending eq ps R [] k i → ⊥

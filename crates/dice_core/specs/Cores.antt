@@ -35,7 +35,7 @@ pub record CoreSeen (K V : Type 0) : Type 0 where
   pub cells : Seen K V
   pub sessions : SessionsSeen K
 
--- what a key has come to at a version: its value; a circle that it reaches; nothing, since memory was refused; not yet anything; or nobody asked
+-- what a key has come to at a version: its value; a cycle that it reaches; nothing, since memory was refused; not yet anything; or nobody asked
 pub data Came (K V : Type 0) : Type 0 where
   ToValue : V → Came K V
   ToCycle : List K → Came K V

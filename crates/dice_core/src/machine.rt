@@ -119,7 +119,7 @@ impl<U: Universe> Core<U> {
     pub fn poll(&self, version: Version, key: &KeyRef<U>) -> Polled<'_, U>
         ensures exact { came_of result ≡ poll_of U.Key.eq U.meaning self.now version (arc_value key.now) }
 
-        // A value is the key's value over the commits, and a circle a cycle there that the key reaches.
+        // A value is the key's value over the commits, and a cycle a cycle there that the key reaches.
         ensures value { (x : U.Value) → came_of result ≡ ToValue x → HasValue U.Key.eq U.meaning (commits_of (past_of self.now)) version (arc_value key.now) x }
         ensures cycle { (p : List U.Key) → came_of result ≡ ToCycle p → CycleStands U.Key.eq U.meaning (commits_of (past_of self.now)) version (arc_value key.now) p }
 
@@ -285,7 +285,7 @@ impl<U: Universe> Core<U> {
 
     /// Takes up a step: a value is kept and ends its task; a check that found all as it was keeps the earlier value; one that found a
     /// change makes its key be computed; and a batch makes its task wait for those of its keys that have not come to a value, or end
-    /// with the circle that it would close.
+    /// with the cycle that it would close.
     ///
     /// `Stale` exactly where it is not the step of the job that is out: by its name, the batches that were answered, what is done, and
     /// of a check the value, trace and base; then nothing changes. Where memory is refused all is as before, and the step comes back.

@@ -9,7 +9,7 @@ use Rattle.dice_key.specs.declared.universe.Kind.{Kind}
 use Rattle.dice_key.specs.declared.universe.Kind.TheVariants.{Injected, Computed, Projection}
 use Rattle.dice_model.specs.Log.{input, Has, AreDistinct}
 use Rattle.dice_model.specs.Eval.{answers, on_step, reached, by_kind, eval, HasValue}
-use Rattle.dice_model.specs.Asks.{Goes, AsksFor, Reaches, here, through, IsCircle, IsCycle, IsClosed, ReachesCycle}
+use Rattle.dice_model.specs.Asks.{Goes, AsksFor, Reaches, here, through, GoesRound, IsCycle, IsClosed, ReachesCycle}
 
 -- ---- lists without repetition
 
@@ -102,15 +102,15 @@ module _ {K V : Type 0} (eq : K → K → Bool) (m : Meaning K V) (law : IsLawfu
   reaches_on a k j here q = through q here
   reaches_on a k j (through p r) q = through p (reaches_on _ k j r q)
 
-  -- the keys up to j are a circle
-  closes : (j i : K) (path acc : List K) → Chain (i ∷ path) → AreDistinct (i ∷ path) → Has (i ∷ path) j → AreDistinct (i ∷ acc) → ((x : K) → Has acc x → Has path x → ⊥) → IsCircle eq m C v j i acc → (rest : List K) × IsCycle eq m C v (j ∷ rest)
-  closes j i path acc ch d (inl e) da apart circle = (acc, (subst AreDistinct (ap (λ x. x ∷ acc) e) da, subst (λ x. IsCircle eq m C v j x acc) e circle))
-  closes j i [] acc ch d (inr h) da apart circle = absurd h
-  closes j i (l ∷ ls) acc ch d (inr h) da apart circle =
+  -- the keys up to j are a cycle
+  closes : (j i : K) (path acc : List K) → Chain (i ∷ path) → AreDistinct (i ∷ path) → Has (i ∷ path) j → AreDistinct (i ∷ acc) → ((x : K) → Has acc x → Has path x → ⊥) → GoesRound eq m C v j i acc → (rest : List K) × IsCycle eq m C v (j ∷ rest)
+  closes j i path acc ch d (inl e) da apart cycle = (acc, (subst AreDistinct (ap (λ x. x ∷ acc) e) da, subst (λ x. GoesRound eq m C v j x acc) e cycle))
+  closes j i [] acc ch d (inr h) da apart cycle = absurd h
+  closes j i (l ∷ ls) acc ch d (inr h) da apart cycle =
       closes j l ls (i ∷ acc) ch.1 d.1 h
       ((λ g. elim g as (λ _. ⊥) [ inl e ↦ d.0 (inl (sym e)) | inr a ↦ apart l a (inl refl) ]), da)
       (λ x g a. elim g as (λ _. ⊥) [ inl e ↦ d.0 (inr (subst (Has ls) (sym e) a)) | inr b ↦ apart x b (inr a) ])
-      (ch.0, circle)
+      (ch.0, cycle)
 
   module _ (equal : IsEquality eq) (all : List K) (closed : IsClosed eq m C v all) where
     walks : (n : ℕ) (a k : K) (path : List K) → Chain (k ∷ path) → AreDistinct (k ∷ path) → ((x : K) → Has (k ∷ path) x → Has all x) → ((x : K) → Has (k ∷ path) x → Reaches eq m C v a x) → length all < length (k ∷ path) + n → eval eq m n C v k ≡ None → ReachesCycle eq m C v a

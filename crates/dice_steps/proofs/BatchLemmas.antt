@@ -14,7 +14,7 @@ use Rattle.dice_jobs.specs.Jobs.{Assigned, Waits, answered_more}
 use Rattle.task_share.specs.Asked.{By, Tasked, WaitOf, Leads, stays, IsDone}
 use Rattle.task_share.specs.Lists as Shared
 use Rattle.task_share.specs.Seen.{Share, task_at, is_live, asks, asked_of, asker_room, wait_room}
-use Rattle.cycle_guard.specs.Circle.{IsRound, WouldWait}
+use Rattle.cycle_guard.specs.WaitCycle.{IsRound, WouldWait}
 use Rattle.injected.specs.Seen.{Seen, cell_at}
 use Rattle.injected.specs.Inputs.{AreOf}
 use Rattle.journal.specs.declared.event.Told.{Told}
@@ -24,14 +24,14 @@ use Rattle.versioned_graph.specs.Looks.{Matches}
 use Rattle.core_laws.specs.Tasks.{IsReady, IsOut, IsWaiting, Standing, Works, Ended, WithValue, WithCycle, WithNothing, is_going, value_of, value_in}
 use Rattle.core_laws.specs.Stands.{AsksNext, TaskStands, IsStanding, VersionStands, CycleStands}
 use Rattle.core_laws.specs.Desk.{World, out_in}
-use Rattle.core_laws.proofs.Cycles.{cycle_above, circle_is_cycle}
+use Rattle.core_laws.proofs.Cycles.{cycle_above, round_is_cycle}
 use Rattle.core_laws.proofs.Held.{wanted_next}
 use Rattle.core_laws.proofs.Parks.{asks_of_next}
 use Rattle.core_laws.proofs.Shapes.{same_or_other, not_both, leads_fewer}
 use Rattle.core_laws.proofs.StepsWanted.{IsOfTask}
 use Rattle.core_laws.proofs.Turns.{stands_here}
 use Rattle.dice_steps.specs.AtHand.{AtHand}
-use Rattle.dice_tasks.specs.Circles.{path_in, path_with}
+use Rattle.dice_tasks.specs.CyclePaths.{path_in, path_with}
 use Rattle.dice_tasks.specs.Helds.{Held, Ahead, task_of, held_of, held_ended, doing}
 use Rattle.dice_tasks.specs.Hands.{DeskSeen, desk_of, Working, tasks_of}
 use Rattle.dice_tasks.specs.Entries.{EntriesStand}
@@ -63,7 +63,7 @@ module _ {K V : Type 0} where
       by_standing (Ended (WithCycle p)) i = absurd (none-some x (sym (ap value_in i) ∙ e))
       by_standing (Ended WithNothing) i = absurd (none-some x (sym (ap value_in i) ∙ e))
 
-  -- a task that has a circle has ended with it
+  -- a task that has a cycle has ended with it
   path_so : (o : Option (Held K V)) (path : List K) → path_with o ≡ Some path → (h : Held K V) × (o ≡ Some h) × (h.standing ≡ Ended (WithCycle path))
   path_so None path e = absurd (none-some path e)
   path_so (Some h) path e = (h, refl, by_standing h.standing refl)
@@ -101,11 +101,11 @@ module _ {K V : Type 0} (eq : K → K → Bool) (equality : IsEquality eq) (m : 
       key_among : (path : List K) (h : IsPathOf eq ps m a.name.key ks path) → Has ks h.key
       key_among path h = subst (λ z. Has z h.key) (sym h.all) (has_right h.before (h.key ∷ h.later) h.key (inl refl))
 
-      -- a circle to which a key comes is a cycle that the task's key reaches
+      -- a cycle to which a key comes is a cycle that the task's key reaches
       pub path_stands : (path : List K) → IsPathOf eq ps m a.name.key ks path → CycleStands eq m (commits_of (reverse d.events)) v a.name.key path
       path_stands path h = elim h.found as (λ _. CycleStands eq m (commits_of (reverse d.events)) v a.name.key path) [
         | inl c ↦ subst (CycleStands eq m (commits_of (reverse d.events)) v a.name.key) (sym c.begins)
-            (circle_is_cycle eq m (commits_of (reverse d.events)) v a.name.key (IsRound (WouldWait (asked_of eq ps) a.name.key h.key) a.name.key) (λ j r. waits_on j a.name.key r) (λ i j js r. (waits_on i j r.0, r.1)) c.rest (subst Shared.AreDistinct c.begins c.distinct) c.round)
+            (round_is_cycle eq m (commits_of (reverse d.events)) v a.name.key (IsRound (WouldWait (asked_of eq ps) a.name.key h.key) a.name.key) (λ j r. waits_on j a.name.key r) (λ i j js r. (waits_on i j r.0, r.1)) c.rest (subst Shared.AreDistinct c.begins c.distinct) c.round)
         | inr g ↦ (let t = path_so (task_at eq ps h.key) path g in let s : IsStanding eq m (reverse d.events) v h.key (Ended (WithCycle path)) = subst (IsStanding eq m (reverse d.events) v h.key) t.2 (here.each h.key (task_of t.0) (ap (option_map task_of) t.1)).standing in
             cycle_above eq m (commits_of (reverse d.events)) v a.name.key h.key path (asked_next h.key (key_among path h)) s.0)
       ]

@@ -34,7 +34,7 @@ use Rattle.dice_steps.proofs.QuietLemmas.{all_both, cells_after, open_after}
 -- ---- the events
 
 module _ {K V : Type 0} (v : ℕ) where
-  -- a task that is given up ends with a circle, or with nothing
+  -- a task that is given up ends with a cycle, or with nothing
   gives_up : (path : Option (List K)) (o : Outcome K V) → ComesOf path o → ((p : List K) × (o ≡ WithCycle p)) ⊎ (o ≡ WithNothing)
   gives_up None o c = inr c
   gives_up (Some p) o (inl e) = inl (p, e)

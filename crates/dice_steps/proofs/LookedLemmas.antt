@@ -11,7 +11,7 @@ use Rattle.versioned_graph.specs.Entries.{Stored, entry_at, seen_at}
 use Rattle.versioned_graph.specs.Looks.{look}
 use Rattle.core_laws.proofs.Counts.{has_append, has_front, has_last}
 use Rattle.core_laws.proofs.Shapes.{same_or_other, not_both}
-use Rattle.dice_tasks.specs.Circles.{path_with}
+use Rattle.dice_tasks.specs.CyclePaths.{path_with}
 use Rattle.dice_tasks.specs.Helds.{Held}
 use Rattle.dice_tasks.specs.Hands.{DeskSeen}
 use Rattle.dice_tasks.specs.Makings.{IsFree, HasTask, IsMaking, IsMade, MakesAlone, task_by, told_by, entry_by}

@@ -19,7 +19,7 @@ use Rattle.core_laws.proofs.Counts.{has_append, has_front, has_last}
 use Rattle.core_laws.proofs.Shapes.{same_or_other, not_both}
 use Rattle.core_laws.proofs.StepsWanted.{IsOfTask}
 use Rattle.core_laws.proofs.Turns.{stands_here}
-use Rattle.dice_tasks.specs.Circles.{path_in, path_with}
+use Rattle.dice_tasks.specs.CyclePaths.{path_in, path_with}
 use Rattle.dice_tasks.specs.Helds.{Held, task_of, held_of}
 use Rattle.dice_tasks.specs.Hands.{DeskSeen, desk_of, Working, tasks_of}
 use Rattle.dice_tasks.specs.Entries.{EntriesStand}
@@ -48,7 +48,7 @@ module _ {K V : Type 0} where
   free_home None f = refl
   free_home (Some h) f = ap out_in f
 
-  -- a task that is there, was not given up, is not at work and has not ended with a circle has ended with a value
+  -- a task that is there, was not given up, is not at work and has not ended with a cycle has ended with a value
   pub value_there : (o : Option (Held K V)) → HasTask o → is_going (option_map task_of o) ≡ false → path_with o ≡ None → (x : V) × (value_of (option_map task_of o) ≡ Some x)
   value_there None t off whole = absurd t
   value_there (Some h) t off whole = by_standing h.standing refl

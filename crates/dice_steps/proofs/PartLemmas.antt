@@ -13,7 +13,7 @@ use Rattle.task_share.specs.Seen.{Share, asked_of, KeepsTasks, KeepsAsks}
 use Rattle.versioned_graph.specs.Entries.{Stored}
 use Rattle.core_laws.proofs.Counts.{has_append, has_front, has_last}
 use Rattle.core_laws.specs.Tasks.{value_of}
-use Rattle.dice_tasks.specs.Circles.{path_with}
+use Rattle.dice_tasks.specs.CyclePaths.{path_with}
 use Rattle.dice_tasks.specs.Helds.{Held, task_of}
 use Rattle.dice_tasks.specs.Makings.{IsFree, HasTask, IsMaking}
 use Rattle.dice_steps.specs.Plans.{key_in, wait_for, waits_of, is_awaited, IsPart, AreParts, IsAtHand}

@@ -56,7 +56,7 @@ module _ {K A : Type 0} (eq : K → K → Bool) (equality : IsEquality eq) where
     unseen e h = not_both (has_any eq equality ks k h) (sym (seen k) ∙ e)
 
 module _ {U K V R A : Type 0} (eq : K → K → Bool) (equality : IsEquality eq) (m : Meaning K V) (v born : ℕ) (ps : List (K × Share K (Held K V))) (es : List (K × Stored K V)) (k : K) (items : List (Arc K A)) (i : ℕ) (x : Arc K A) (l : i < length items) (e : x ≡ get_or items i x) (xs : List (Part U K V R)) (so_far : AreParts eq m v born ps es k (map arc_value (take i items)) xs) where
-  -- those that were looked at come to no circle
+  -- those that were looked at come to no cycle
   pub comes_to_none : (q : K) → Has (map arc_value (take i items)) q → (m.kind q ≡ Injected) ⊎ MayWaitFor eq ps k q
   comes_to_none q h = elim (so_far.all q h) as (λ _. (m.kind q ≡ Injected) ⊎ MayWaitFor eq ps k q) [
     | inl j ↦ inl j

@@ -1,4 +1,4 @@
-//! A batch that a task asks: it waits for the answers, goes on with them, or ends with a circle.
+//! A batch that a task asks: it waits for the answers, goes on with them, or ends with a cycle.
 ghost use Rattle.std.specs.Prelude.{◌≡◌, ◌+◌, ℕ, List, length, reverse, Some, true, OnErr, OnOk, IfErr, IfOk};
 ghost use Rattle.std.specs.Arc.{arc_value};
 ghost use Rattle.std.specs.Option.{option_map};
@@ -29,9 +29,9 @@ use std::alloc::Global;
 use std::sync::Arc;
 use versioned_graph::Graph;
 
-/// Gives up the task at work of a key: it ends as lost, or with a circle that the key reaches, and with it all that ask for it, for
+/// Gives up the task at work of a key: it ends as lost, or with a cycle that the key reaches, and with it all that ask for it, for
 /// one of these, and so on; and what nobody asks for then is dropped. It takes no memory: the task of the key ends with its `own`
-/// circle, and another one for which there is no memory for a copy ends as lost.
+/// cycle, and another one for which there is no memory for a copy ends as lost.
 ///
 /// It costs the number of tasks that it ends and drops, and of the keys that they waited for.
 pub fn give_up<U: Universe>(
@@ -131,7 +131,7 @@ fn take_up<U: Universe>(
 }
 
 /// Takes up the batch that a step of the job of a task asks, which is out: what its keys need is made, and the task waits for it, or
-/// goes on where all keys have values at hand. Where a key comes to a circle nothing is made: the task ends with the circle, and all
+/// goes on where all keys have values at hand. Where a key comes to a cycle nothing is made: the task ends with the cycle, and all
 /// that ask for it.
 ///
 /// Where memory is refused the step is handed back, and all is as before, but for room; there is room for `owed` events beside then

@@ -31,7 +31,7 @@ use task_state::Outcome;
 pub enum How<'a, K: Drop> {
     /// For want of memory.
     Lost,
-    /// Since their keys reach this circle.
+    /// Since their keys reach this cycle.
     Cycle(&'a Arc<Path<K>>),
 }
 
@@ -143,7 +143,7 @@ fn end_lost<U: Universe>(desk: &mut Desk<U>, tasks: &mut Tasks<U>, version: u64,
     desk.push_ended(second);
 }
 
-/// Ends the task at work of a key with a circle, and puts the key on the list of those whose askers are still to be told. It takes
+/// Ends the task at work of a key with a cycle, and puts the key on the list of those whose askers are still to be told. It takes
 /// no memory.
 fn end_cyclic<U: Universe>(
     desk: &mut Desk<U>,
@@ -165,7 +165,7 @@ fn end_cyclic<U: Universe>(
 }
 
 /// Ends the task at work of a key as is said, and puts the key on the list of those whose askers are still to be told. Where there
-/// is no memory for the circle, the task ends as lost.
+/// is no memory for the cycle, the task ends as lost.
 fn end_one<U: Universe>(
     desk: &mut Desk<U>,
     tasks: &mut Tasks<U>,
@@ -186,7 +186,7 @@ fn end_one<U: Universe>(
     }
 }
 
-/// Ends the task at work of a key with its own circle, or as lost where there is none, and puts the key on the list of those whose
+/// Ends the task at work of a key with its own cycle, or as lost where there is none, and puts the key on the list of those whose
 /// askers are still to be told. It takes no memory.
 fn end_own<U: Universe>(
     desk: &mut Desk<U>,
@@ -233,7 +233,7 @@ fn tell_one<U: Universe>(
 }
 
 /// Ends the task at work of a key, each task that asks for it, each that asks for one of these, and so on: as lost, or with a
-/// circle that the key reaches. It takes no memory: the task of the key ends with its `own` circle, and another one for which there
+/// cycle that the key reaches. It takes no memory: the task of the key ends with its `own` cycle, and another one for which there
 /// is no memory for a copy ends as lost.
 ///
 /// It costs the number of tasks that it ends and of the keys that they waited for.

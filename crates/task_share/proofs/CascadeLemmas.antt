@@ -2,7 +2,7 @@
 use Rattle.std.proofs.Common.{◌≡◌, ◌≤◌, ◌<◌, ◌+◌, ◌⊎◌, inl, inr, ℕ, zero, suc, Bool, true, false, not, cond, ◌&&◌, List, [], ◌∷◌, length, Some, refl, sym, ap, ◌∙◌, subst, arith}
 use Rattle.std.specs.Map.{lookup, keys_of}
 use Rattle.dice_key.specs.Lawful.{IsEquality}
-use Rattle.task_share.specs.Asked.{By, Promised, Tasked, is_by, Asked, Held, by_promise, by_task, Leads, stays, asks_on, HasNoCircle, AskersLive, IsDone, Takes, IsSame, Cascade, DropsUnheld}
+use Rattle.task_share.specs.Asked.{By, Promised, Tasked, is_by, Asked, Held, by_promise, by_task, Leads, stays, asks_on, HasNoCycle, AskersLive, IsDone, Takes, IsSame, Cascade, DropsUnheld}
 use Rattle.task_share.specs.Lists.{Has, AreDistinct}
 use Rattle.task_share.specs.Seen.{Share, is_for, has_live, is_live, asked_of}
 use Rattle.task_share.proofs.PlaceLemmas.{true_or_false, and_both}
@@ -97,8 +97,8 @@ module _ {K : Type 0} where
       leads_back a b stays = stays
       leads_back a b (asks_on {i = i} e h) = asks_on (fewer i (Tasked a) e) (leads_back i b h)
 
-      no_circle_on : HasNoCircle s → HasNoCircle t
-      no_circle_on h a i e l = h a i (fewer i (Tasked a) e) (leads_back i a l)
+      no_cycle_on : HasNoCycle s → HasNoCycle t
+      no_cycle_on h a i e l = h a i (fewer i (Tasked a) e) (leads_back i a l)
 
       askers_on : AskersLive s → AskersLive t
       askers_on h i j e = elim (same_or_not j k) as (λ _. t.live j ≡ true) [
@@ -110,7 +110,7 @@ module _ {K : Type 0} where
       live_on q e = (and_both (s.live q) _ (sym (p.live q) ∙ e)).0
 
     -- where nothing is left to drop, each task that lives is held
-    climbs : (s : Asked K) (all : List K) → ((q : K) → s.live q ≡ true → Has all q) → HasNoCircle s → AskersLive s → IsDone s
+    climbs : (s : Asked K) (all : List K) → ((q : K) → s.live q ≡ true → Has all q) → HasNoCycle s → AskersLive s → IsDone s
         → (n : ℕ) (q : K) (path : List K) → ((e : K) → Has (q ∷ path) e → Leads s q e) → ((e : K) → Has (q ∷ path) e → s.live e ≡ true) → AreDistinct (q ∷ path) → length all < length (q ∷ path) + n → Held s q
     climbs s all fin free living done zero q path l v d room = absurd (let z = few (q ∷ path) all d (λ e h. fin e (v e h)) in omega arith)
     climbs s all fin free living done (suc n) q path l v d room = let a = done q (v q (inl refl)) in by_asker (λ j p2. climbs s all fin free living done n j p2) a.0 a.1
@@ -129,7 +129,7 @@ module _ {K : Type 0} where
     held_same s t m q (by_promise n e) = by_promise n (sym (m.asks q (Promised n)) ∙ e)
     held_same s t m q (by_task {j = j} e h) = by_task (sym (m.asks q (Tasked j)) ∙ e) (held_same s t m j h)
 
-    drops : (s : Asked K) (ks : List K) (t : Asked K) (all : List K) → ((q : K) → s.live q ≡ true → Has all q) → HasNoCircle s → AskersLive s → Cascade eq s ks t → IsDone t
+    drops : (s : Asked K) (ks : List K) (t : Asked K) (all : List K) → ((q : K) → s.live q ≡ true → Has all q) → HasNoCycle s → AskersLive s → Cascade eq s ks t → IsDone t
         → (q : K) → (Has ks q → (s.live q ≡ true) × (Held s q → ⊥)) × (s.live q ≡ true → (Has ks q → ⊥) → Held s q × (t.live q ≡ true))
     drops s [] t all fin free living c done q = (
       λ h. absurd h,
@@ -142,7 +142,7 @@ module _ {K : Type 0} where
     drops s (k ∷ ks) t all fin free living c done q =
         let u = c.0 in
         let p = c.1 in
-        let r = drops u ks t all (λ x e. fin x (live_on s u k p x e)) (no_circle_on s u k p free) (askers_on s u k p living) c.2 done q in (
+        let r = drops u ks t all (λ x e. fin x (live_on s u k p x e)) (no_cycle_on s u k p free) (askers_on s u k p living) c.2 done q in (
           λ h. elim h as (λ _. (s.live q ≡ true) × (Held s q → ⊥)) [
             | inl i ↦ (subst (λ x. s.live x ≡ true) i p.taken, λ g. let a = has_asker s q g in let z : s.asks k a.0 ≡ true = subst (λ x. s.asks x a.0 ≡ true) (sym i) a.1 in let f : true ≡ false = sym z ∙ p.unasked a.0 in cc)
             | inr g ↦ (live_on s u k p q (r.0 g).0, λ w. (r.0 g).1 (held_on s u k p q w))
@@ -159,7 +159,7 @@ module _ {K : Type 0} where
         by_test false t e again = inr (again e)
 
     -- the cascade drops exactly the tasks that have not ended and that no promise holds
-    pub drops_all : {T : Type 0} (ps : List (K × Share K T)) (ks : List K) (t : Asked K) → HasNoCircle (asked_of eq ps) → AskersLive (asked_of eq ps) → Cascade eq (asked_of eq ps) ks t → IsDone t → DropsUnheld (asked_of eq ps) ks t
+    pub drops_all : {T : Type 0} (ps : List (K × Share K T)) (ks : List K) (t : Asked K) → HasNoCycle (asked_of eq ps) → AskersLive (asked_of eq ps) → Cascade eq (asked_of eq ps) ks t → IsDone t → DropsUnheld (asked_of eq ps) ks t
     drops_all ps ks t free living c done = record {
       dropped = λ q. (r q).0;
       unheld = λ q v n. elim (has_or_not ks q) as (λ _. Has ks q) [ inl h ↦ h | inr m ↦ absurd (n ((r q).1 v m).0) ];

@@ -1,7 +1,7 @@
 -- Cycles that begin elsewhere, and what stands on one.
 use Rattle.std.proofs.Common.{◌≡◌, inl, inr, ℕ, Bool, true, false, List, [], ◌∷◌, ◌++◌, refl, sym, ap, ◌∙◌, subst, append_assoc, append-nil}
 use Rattle.dice_model.specs.Log.{Has, AreDistinct}
-use Rattle.dice_model.specs.Asks.{AsksFor, Reaches, here, through, IsCircle, IsCycle}
+use Rattle.dice_model.specs.Asks.{AsksFor, Reaches, here, through, GoesRound, IsCycle}
 use Rattle.buck_label.specs.Labels.{package_of, target_file_of}
 use Rattle.target_file.specs.declared.source.Source.{Source}
 use Rattle.target_file.specs.declared.source.Source.TheVariants as source
@@ -27,21 +27,21 @@ module _ (C : List (List (Key × Value))) (v : ℕ) where
   abbrev Asks : Key → Key → Type 0
   Asks k j = AsksFor key_equal buck C v k j
 
-  abbrev Circle : Key → Key → List Key → Type 0
-  Circle f k ks = IsCircle key_equal buck C v f k ks
+  abbrev Round : Key → Key → List Key → Type 0
+  Round f k ks = GoesRound key_equal buck C v f k ks
 
   abbrev pub Cycle : List Key → Type 0
   Cycle ks = IsCycle key_equal buck C v ks
 
   -- ---- a cycle from another of its keys on
 
-  circle_end : (first k i : Key) (ks : List Key) → Circle k i ks → Asks k first → Circle first i (ks ++ k ∷ [])
-  circle_end first k i [] c a = (c, a)
-  circle_end first k i (l ∷ ls) c a = (c.0, circle_end first k l ls c.1 a)
+  round_end : (first k i : Key) (ks : List Key) → Round k i ks → Asks k first → Round first i (ks ++ k ∷ [])
+  round_end first k i [] c a = (c, a)
+  round_end first k i (l ∷ ls) c a = (c.0, round_end first k l ls c.1 a)
 
   turned : (k : Key) (ks : List Key) → Cycle (k ∷ ks) → Cycle (ks ++ k ∷ [])
   turned k [] c = c
-  turned k (j ∷ js) c = (distinct_end (j ∷ js) k c.0.1 c.0.0, circle_end j k j js c.1.1 c.1.0)
+  turned k (j ∷ js) c = (distinct_end (j ∷ js) k c.0.1 c.0.0, round_end j k j js c.1.1 c.1.0)
 
   reaches_on : (a k j : Key) → Reaches key_equal buck C v a k → Asks k j → Reaches key_equal buck C v a j
   reaches_on a k j here q = through q here
@@ -63,15 +63,15 @@ module _ (C : List (List (Key × Value))) (v : ℕ) where
 
   -- ---- what stands on a cycle
 
-  circle_asks : (first k : Key) (rest : List Key) (P : Key → Type 0) → Circle first k rest → P first → ((j : Key) → Has rest j → P j) → (j : Key) → Has (k ∷ rest) j → (i : Key) × Asks j i × P i
-  circle_asks first k [] P c p q j (inl e) = (first, subst (λ i. Asks i first) e c, p)
-  circle_asks first k [] P c p q j (inr h) = absurd h
-  circle_asks first k (i ∷ is) P c p q j (inl e) = (i, subst (λ l. Asks l i) e c.0, q i (inl refl))
-  circle_asks first k (i ∷ is) P c p q j (inr h) = circle_asks first i is P c.1 p (λ l z. q l (inr z)) j h
+  round_asks : (first k : Key) (rest : List Key) (P : Key → Type 0) → Round first k rest → P first → ((j : Key) → Has rest j → P j) → (j : Key) → Has (k ∷ rest) j → (i : Key) × Asks j i × P i
+  round_asks first k [] P c p q j (inl e) = (first, subst (λ i. Asks i first) e c, p)
+  round_asks first k [] P c p q j (inr h) = absurd h
+  round_asks first k (i ∷ is) P c p q j (inl e) = (i, subst (λ l. Asks l i) e c.0, q i (inl refl))
+  round_asks first k (i ∷ is) P c p q j (inr h) = round_asks first i is P c.1 p (λ l z. q l (inr z)) j h
 
   asks_on_it : (ks : List Key) → Cycle ks → (j : Key) → Has ks j → (i : Key) × Asks j i × Has ks i
   asks_on_it [] c j h = absurd c
-  asks_on_it (k ∷ ks) c j h = circle_asks k k ks (Has (k ∷ ks)) c.1 (inl refl) (λ l z. inr z) j h
+  asks_on_it (k ∷ ks) c j h = round_asks k k ks (Has (k ∷ ks)) c.1 (inl refl) (λ l z. inr z) j h
 
   no_source : (ks : List Key) → Cycle ks → (p : List ℕ) → Has ks (key.Source p) → ⊥
   no_source ks c p h = let a = asks_on_it ks c (key.Source p) h in asks_may C v (key.Source p) a.0 a.1
@@ -122,7 +122,7 @@ module _ (C : List (List (Key × Value))) (v : ℕ) where
   following true l ks = key.Action l ∷ keys_of (labels_of ks)
   following false l ks = keys_of (labels_of ks)
 
-  in_turn : (digest : Bool) (f l : List ℕ) (ks : List Key) → Circle (key.Digest f) (key_at digest l) ks → ((j : Key) → Has ks j → IsOfTarget j) → ks ≡ following digest l ks
+  in_turn : (digest : Bool) (f l : List ℕ) (ks : List Key) → Round (key.Digest f) (key_at digest l) ks → ((j : Key) → Has ks j → IsOfTarget j) → ks ≡ following digest l ks
   in_turn true f l [] c g = absurd (no_digest l f (asks_may C v (key.Digest l) (key.Digest f) c))
   in_turn true f l (key.Source p ∷ ks) c g = absurd (g (key.Source p) (inl refl))
   in_turn true f l (key.Package p ∷ ks) c g = absurd (g (key.Package p) (inl refl))

@@ -1,10 +1,10 @@
--- The circles with which tasks have ended.
+-- The cycles with which tasks have ended.
 use Rattle.std.specs.Prelude.{List, Option, Some, None}
 use Rattle.core_laws.specs.Tasks.{Standing, Works, Ended, WithValue, WithCycle, WithNothing}
 use Rattle.dice_tasks.specs.Helds.{Held}
 
 module _ {K V : Type 0} where
-  -- the circle with which a task has ended
+  -- the cycle with which a task has ended
   abbrev pub path_in : Standing K V → Option (List K)
   path_in (Works w p A) = None
   path_in (Ended (WithValue x)) = None

@@ -1,7 +1,7 @@
--- What one more wait, or fewer asks, make of circles.
+-- What one more wait, or fewer asks, make of cycles.
 use Rattle.std.proofs.Common.{◌≡◌, ◌⊎◌, inl, inr, Bool, true, false, ◌&&◌, ◌||◌, refl, sym, ◌∙◌, subst}
 use Rattle.dice_key.specs.Lawful.{IsEquality}
-use Rattle.task_share.specs.Asked.{Asked, By, Tasked, is_by, Leads, stays, asks_on, HasNoCircle}
+use Rattle.task_share.specs.Asked.{Asked, By, Tasked, is_by, Leads, stays, asks_on, HasNoCycle}
 
 one_of : (x b c : Bool) → (x || (b && c)) ≡ true → (x ≡ true) ⊎ ((b ≡ true) × (c ≡ true))
 one_of true b c e = inl refl
@@ -21,7 +21,7 @@ module _ {K : Type 0} where
   leads_fewer s t f a b stays = stays
   leads_fewer s t f a b (asks_on {i = i} e l) = asks_on (f i (Tasked a) e) (leads_fewer s t f i b l)
 
-  pub fewer_asks : (s t : Asked K) → HasNoCircle s → ((q : K) (a : By K) → t.asks q a ≡ true → s.asks q a ≡ true) → HasNoCircle t
+  pub fewer_asks : (s t : Asked K) → HasNoCycle s → ((q : K) (a : By K) → t.asks q a ≡ true → s.asks q a ≡ true) → HasNoCycle t
   fewer_asks s t free f k i e l = free k i (f i (Tasked k) e) (leads_fewer s t f i k l)
 
   -- the asks of tasks are as before, but that k may ask for i too
@@ -42,14 +42,14 @@ module _ {K : Type 0} where
         ]
       ]
 
-  wait_closes_none : (s t : Asked K) (k i : K) → IsOneMore s t k i → HasNoCircle s → (Leads s i k → ⊥) → HasNoCircle t
+  wait_closes_none : (s t : Asked K) (k i : K) → IsOneMore s t k i → HasNoCycle s → (Leads s i k → ⊥) → HasNoCycle t
   wait_closes_none s t k i o free n a b e l =
       elim (leads_split s t k i o b a l) as (λ _. ⊥) [
         | inl p ↦ elim (o.only b a e) as (λ _. ⊥) [ inl q ↦ free a b q p | inr q ↦ n (subst (λ x. Leads s i x) q.1 (subst (λ x. Leads s x a) q.0 p)) ]
         | inr p ↦ elim (o.only b a e) as (λ _. ⊥) [ inl q ↦ n (leads_on s i b k (leads_more s i a b p.1 q) p.0) | inr q ↦ n (subst (λ x. Leads s x k) q.0 p.0) ]
       ]
 
-  pub more_waits : (eq : K → K → Bool) → IsEquality eq → (s t : Asked K) (from to : K) → HasNoCircle s → (Leads s to from → ⊥) → ((q : K) (a : By K) → t.asks q a ≡ (s.asks q a || (eq to q && is_by eq (Tasked from) a))) → HasNoCircle t
+  pub more_waits : (eq : K → K → Bool) → IsEquality eq → (s t : Asked K) (from to : K) → HasNoCycle s → (Leads s to from → ⊥) → ((q : K) (a : By K) → t.asks q a ≡ (s.asks q a || (eq to q && is_by eq (Tasked from) a))) → HasNoCycle t
   more_waits eq law s t from to free none asks = wait_closes_none s t from to (record {
     only = λ q a e. elim (one_of (s.asks q (Tasked a)) (eq to q) (eq from a) (sym (asks q (Tasked a)) ∙ e)) as (λ _. (s.asks q (Tasked a) ≡ true) ⊎ ((q ≡ to) × (a ≡ from))) [
       | inl h ↦ inl h
