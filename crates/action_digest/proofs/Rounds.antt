@@ -1,6 +1,5 @@
 -- Cycles that begin elsewhere, and what stands on one.
 use Rattle.std.proofs.Common.{◌≡◌, inl, inr, ℕ, Bool, true, false, List, [], ◌∷◌, ◌++◌, refl, sym, ap, ◌∙◌, subst, append_assoc, append-nil}
-use Rattle.dice_model.specs.Log.{Has, AreDistinct}
 use Rattle.dice_model.specs.Asks.{AsksFor, Reaches, here, through, GoesRound, IsCycle}
 use Rattle.buck_label.specs.Labels.{package_of, target_file_of}
 use Rattle.target_file.specs.declared.source.Source.{Source}
@@ -13,15 +12,10 @@ use Rattle.action_digest.specs.Written.{key_in}
 use Rattle.action_digest.specs.Buck.{buck}
 use Rattle.action_digest.specs.Same.{key_equal}
 use Rattle.action_digest.specs.Cycles.{keys_of, labels_of, ReachesFirst}
-use Rattle.action_digest.proofs.Lists.{of_append, of_map}
 use Rattle.action_digest.proofs.Asking.{May, asks_may}
-
-distinct_end : {X : Type 0} (xs : List X) (x : X) → AreDistinct xs → (Has xs x → ⊥) → AreDistinct (xs ++ x ∷ [])
-distinct_end [] x d n = ((λ h. h), tt)
-distinct_end (y ∷ ys) x d n = (
-  λ h. elim (of_append ys (x ∷ []) y h) as (λ _. ⊥) [ inl a ↦ d.0 a | inr b ↦ elim b as (λ _. ⊥) [ inl e ↦ n (inl (sym e)) | inr z ↦ z ] ],
-  distinct_end ys x d.1 (λ h. n (inr h)),
-)
+use Rattle.lists.proofs.Distinct.{distinct_end}
+use Rattle.lists.proofs.Members.{has_either, has_mapped}
+use Rattle.lists.specs.Lists.{AreDistinct, Has}
 
 module _ (C : List (List (Key × Value))) (v : ℕ) where
   abbrev Asks : Key → Key → Type 0
@@ -105,7 +99,7 @@ module _ (C : List (List (Key × Value))) (v : ℕ) where
 
   no_action : (l m : List ℕ) → May C v (key.Action l) (key.Action m) → ⊥
   no_action l m (inl e) = cc
-  no_action l m (inr i) = let r = of_map (key_in (package_of l)) (wanted_by i.target.action) (key.Action m) i.among in not_wanted (package_of l) r.0 m r.2
+  no_action l m (inr i) = let r = has_mapped (key_in (package_of l)) (wanted_by i.target.action) (key.Action m) i.among in not_wanted (package_of l) r.0 m r.2
 
   no_digest : (l m : List ℕ) → May C v (key.Digest l) (key.Digest m) → ⊥
   no_digest l m e = cc

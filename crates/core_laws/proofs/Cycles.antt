@@ -2,7 +2,6 @@
 use Rattle.std.proofs.Common.{◌≡◌, inl, inr, ℕ, Bool, true, false, cond, not, ◌&&◌, List, [], ◌∷◌, Option, Some, refl, ap}
 use Rattle.dice_key.specs.Meaning.{Meaning}
 use Rattle.dice_key.specs.Lawful.{IsEquality}
-use Rattle.dice_model.specs.Log.{Has, AreDistinct}
 use Rattle.dice_model.specs.Asks.{AsksFor, Reaches, here, through, GoesRound}
 use Rattle.task_share.specs.Asked.{Asked}
 use Rattle.task_share.specs.Lists as Shared
@@ -15,6 +14,7 @@ use Rattle.core_laws.specs.Stands.{CycleStands, VersionStands}
 use Rattle.core_laws.specs.Changes.{Puts, Lives, Withdraws}
 use Rattle.core_laws.proofs.OfKey.{named, cyclic_leaves}
 use Rattle.core_laws.proofs.Ends.{undecided_at_work, task_ends}
+use Rattle.lists.specs.Lists.{AreDistinct, Has}
 
 module _ {X : Type 0} where
   has_there : (xs : List X) (x : X) → Has xs x → Shared.Has xs x

@@ -4,8 +4,7 @@ use Rattle.std.proofs.lemmas.Bool.{both_ways, false_from_ne_true}
 use Rattle.std.proofs.lemmas.Option.{none-some}
 use Rattle.dice_key.specs.Lawful.{IsEquality, IsLawful}
 use Rattle.dice_key.specs.Meaning.{Meaning}
-use Rattle.dice_model.specs.Log.{Has, AreDistinct}
-use Rattle.dice_model.proofs.Finite.{few, has_or_not}
+use Rattle.dice_model.proofs.Finite.{has_or_not}
 use Rattle.task_share.specs.Asked.{By, Promised, Tasked, Asked, Leads, stays, asks_on, HasNoCycle, IsDone}
 use Rattle.journal.specs.declared.event.Told.{Told}
 use Rattle.journal.specs.Events.{Asking, opened_at, open_count, live_at, decided, is_running}
@@ -15,6 +14,8 @@ use Rattle.journal.proofs.Counts.{none_open}
 use Rattle.core_laws.specs.Tasks.{Task, Standing, Works, Ended, goes_on, computes, waits_for, is_going, is_computing, batch_of}
 use Rattle.core_laws.specs.Stands.{VersionStands, IsAtRest}
 use Rattle.core_laws.specs.Promises.{nobody}
+use Rattle.lists.proofs.Distinct.{few}
+use Rattle.lists.specs.Lists.{AreDistinct, Has}
 
 module _ {K : Type 0} (eq : K → K → Bool) (equality : IsEquality eq) (s : Asked K) (all : List K) (finite : (q : K) → s.live q ≡ true → Has all q) (free : HasNoCycle s)
     (asked : (q : K) → s.live q ≡ true → (j : K) × (s.asks q (Tasked j) ≡ true) × (s.live j ≡ true)) where

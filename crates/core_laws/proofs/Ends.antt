@@ -5,7 +5,6 @@ use Rattle.std.proofs.lemmas.Option.{none-some}
 use Rattle.dice_key.specs.Meaning.{Meaning, Answered, Ends}
 use Rattle.dice_key.specs.Lawful.{IsLawful, IsEquality}
 use Rattle.dice_key.specs.declared.universe.Kind.TheVariants.{Injected}
-use Rattle.dice_model.specs.Log.{Has}
 use Rattle.dice_model.specs.Eval.{HasValue}
 use Rattle.dice_model.specs.Asks.{AllTrue, Goes, IsTrace}
 use Rattle.dice_model.proofs.Traces.{trace_value}
@@ -21,6 +20,7 @@ use Rattle.core_laws.specs.Stands.{GoesAlong, IsNextOf, lost_in_epoch, WasSeen, 
 use Rattle.core_laws.specs.Changes.{Puts, SameAsks, SameLives, Lives, Withdraws, ChangesFirst}
 use Rattle.core_laws.proofs.Shapes.{not_both, same_or_other, put_each, put_fact, put_none, Shape, shape_of, asks_nothing, eased}
 use Rattle.core_laws.proofs.OfKey.{asked_before, asked_by_another, promise_stays, others_stay, LeavesOthers, named, start_leaves, keep_leaves, end_leaves, lost_leaves, task_with, task_on}
+use Rattle.lists.specs.Lists.{Has}
 
 -- a task at work has no value yet
 pub no_value_at_work : {K V : Type 0} (d : Standing K V) → goes_on d ≡ true → value_in d ≡ None

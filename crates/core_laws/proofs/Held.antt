@@ -2,9 +2,8 @@
 use Rattle.std.proofs.Common.{◌≡◌, ◌<◌, ◌+◌, inl, inr, ℕ, zero, suc, Bool, true, cond, List, [], ◌∷◌, length, Option, Some, None, refl, ap, ◌∙◌, subst, arith, eq-eqb}
 use Rattle.dice_key.specs.Meaning.{Meaning}
 use Rattle.dice_key.specs.Lawful.{IsEquality}
-use Rattle.dice_model.specs.Log.{Has, AreDistinct}
 use Rattle.dice_model.specs.Asks.{AsksFor, Reaches, here, through}
-use Rattle.dice_model.proofs.Finite.{few, has_or_not}
+use Rattle.dice_model.proofs.Finite.{has_or_not}
 use Rattle.task_share.specs.Asked.{By, Promised, Tasked, Asked, Held, by_promise, by_task, Leads, stays, asks_on, HasNoCycle, AskersLive, IsDone}
 use Rattle.journal.specs.declared.event.Told.{Told}
 use Rattle.journal.specs.declared.event.Told.TheVariants.{Ask, Start, Keep, End, Cyclic, Drop, Lost}
@@ -14,6 +13,8 @@ use Rattle.journal.specs.Law.{IsWanted, IsLawfulBack}
 use Rattle.core_laws.specs.Tasks.{Task, Standing, Works, Ended, is_going, batch_of}
 use Rattle.core_laws.specs.Stands.{VersionStands, IsAtRest}
 use Rattle.core_laws.proofs.Indices.{live_asked, live_counts}
+use Rattle.lists.proofs.Distinct.{few}
+use Rattle.lists.specs.Lists.{AreDistinct, Has}
 
 module _ {K : Type 0} (eq : K → K → Bool) (equality : IsEquality eq) (s : Asked K) (done : IsDone s) (free : HasNoCycle s) (living : AskersLive s) (all : List K) (finite : (q : K) → s.live q ≡ true → Has all q) where
   rises : (n : ℕ) (q : K) (path : List K) → ((e : K) → Has (q ∷ path) e → Leads s q e) → ((e : K) → Has (q ∷ path) e → s.live e ≡ true) → AreDistinct (q ∷ path) → length all < length (q ∷ path) + n → Held s q

@@ -4,7 +4,6 @@ use Rattle.std.proofs.lemmas.Option.{same_Some, none-some}
 use Rattle.dice_key.specs.Meaning.{Meaning, Answered, Asks}
 use Rattle.dice_key.specs.Lawful.{IsLawful, IsEquality}
 use Rattle.dice_key.specs.declared.universe.Kind.TheVariants.{Injected}
-use Rattle.dice_model.specs.Log.{Has}
 use Rattle.dice_model.specs.Eval.{HasValue}
 use Rattle.dice_model.specs.Asks.{AllTrue, Goes, AsksFor}
 use Rattle.dice_model.proofs.Alike.{goes_alike}
@@ -17,6 +16,7 @@ use Rattle.core_laws.specs.Stands.{AsksNext, WorkStands, TaskStands, VersionStan
 use Rattle.core_laws.specs.Changes.{Puts, SameLives, Parks}
 use Rattle.core_laws.proofs.Shapes.{leads_after, same_or_other, put_here, put_other, put_each, put_fact, put_none}
 use Rattle.core_laws.proofs.Stages.{at_work}
+use Rattle.lists.specs.Lists.{Has}
 
 -- ---- what a task asks next
 

@@ -4,7 +4,6 @@ use Rattle.std.specs.List.{AllZip}
 use Rattle.dice_key.specs.Meaning.{Meaning, Answered}
 use Rattle.dice_key.specs.Lawful.{IsLawful, IsEquality}
 use Rattle.dice_key.specs.declared.universe.Kind.TheVariants.{Injected}
-use Rattle.dice_model.specs.Log.{Has}
 use Rattle.dice_model.specs.Eval.{HasValue}
 use Rattle.task_share.specs.Asked.{By, Promised, Tasked, is_by, Asked}
 use Rattle.journal.specs.declared.event.Told.{Told}
@@ -12,12 +11,14 @@ use Rattle.journal.specs.Events.{commits_of}
 use Rattle.core_laws.specs.Tasks.{Works, Work, IsReady, IsWaiting, Task, value_of}
 use Rattle.core_laws.specs.Stands.{VersionStands}
 use Rattle.core_laws.specs.Changes.{Puts, SameLives, Leaves}
-use Rattle.core_laws.proofs.Shapes.{same_or_other, leads_fewer, and_none, both_parts, not_both}
+use Rattle.core_laws.proofs.Shapes.{same_or_other, leads_fewer, and_none, not_both}
 use Rattle.core_laws.proofs.Stages.{at_work, work_next, turned}
+use Rattle.lists.specs.Lists.{Has}
+use Rattle.std.proofs.lemmas.Bool.{and_parts}
 
 module _ {K : Type 0} (eq : K → K → Bool) (k : K) (b : By K) (s u : Asked K) (left : Leaves eq k b s u) where
   pub left_fewer : (q : K) (a : By K) → u.asks q a ≡ true → s.asks q a ≡ true
-  left_fewer q a e = (both_parts (s.asks q a) (not (eq k q && is_by eq b a)) (sym (left q a) ∙ e)).0
+  left_fewer q a e = (and_parts (s.asks q a) (not (eq k q && is_by eq b a)) (sym (left q a) ∙ e)).0
 
   -- other askers stay
   pub left_others : (q : K) (a : By K) → is_by eq b a ≡ false → s.asks q a ≡ true → u.asks q a ≡ true

@@ -4,8 +4,7 @@ use Rattle.std.proofs.lemmas.Bool.{and_parts, and_from, and_left, or_left, or_ri
 use Rattle.dice_key.specs.Meaning.{Meaning, Answered}
 use Rattle.dice_key.specs.Lawful.{IsEquality}
 use Rattle.dice_key.specs.declared.universe.Kind.TheVariants.{Injected}
-use Rattle.dice_model.specs.Log.{Has, AreDistinct}
-use Rattle.dice_model.proofs.Finite.{few, has_or_not}
+use Rattle.dice_model.proofs.Finite.{has_or_not}
 use Rattle.task_share.specs.Asked.{By, Promised, Tasked, is_by, Asked, Leads, stays, asks_on, HasNoCycle, IsDone, Takes}
 use Rattle.journal.specs.declared.event.Told.{Told}
 use Rattle.journal.specs.Events.{Asking, live_at, opened_at, open_count}
@@ -15,6 +14,8 @@ use Rattle.core_laws.specs.Changes.{Puts, SameLives, Lives, Joins, Leaves, Withd
 use Rattle.core_laws.proofs.Shapes.{not_both, same_or_other, put_here, put_other, lives_here, lives_other, asks_nothing}
 use Rattle.core_laws.proofs.OfKey.{asked_before, promise_stays, others_stay}
 use Rattle.core_laws.proofs.Drops.{going_task, asked_stays}
+use Rattle.lists.proofs.Distinct.{few}
+use Rattle.lists.specs.Lists.{AreDistinct, Has}
 
 -- whoever is asked for has a task
 abbrev pub AreTasked : {K V : Type 0} → Asked K → (K → Option (Task K V)) → Type 0

@@ -3,7 +3,6 @@ use Rattle.std.proofs.Common.{◌≡◌, ◌≤◌, ◌+◌, ◌*◌, inl, inr, 
 use Rattle.std.proofs.lemmas.Bool.{eqb-true, eq-eqb}
 use Rattle.dice_key.specs.Meaning.{Meaning, Answered}
 use Rattle.dice_key.specs.Lawful.{IsLawful, IsEquality}
-use Rattle.dice_model.specs.Log.{Has}
 use Rattle.task_share.specs.Asked.{Asked, IsDone}
 use Rattle.journal.specs.declared.event.Told.{Told}
 use Rattle.journal.specs.declared.event.Told.TheVariants.{Open, Commit}
@@ -20,6 +19,7 @@ use Rattle.core_laws.proofs.Commits.{committed_rests}
 use Rattle.core_laws.proofs.Empties.{idle, emptied, first_rests}
 use Rattle.core_laws.proofs.Held.{climbs, askers_live, held_wanted, all_wanted}
 use Rattle.core_laws.proofs.Rest.{AreTasked, rests, quiet}
+use Rattle.lists.specs.Lists.{Has}
 
 -- ---- the tasks at work of one version are finitely many
 

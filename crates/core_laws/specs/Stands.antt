@@ -2,7 +2,6 @@
 use Rattle.std.specs.Prelude.{◌≡◌, ◌≢◌, ◌≤◌, ◌<◌, ◌⊎◌, ℕ, Bool, true, false, cond, ◌||◌, List, [], ◌∷◌, ◌++◌, length, Option, Some, None}
 use Rattle.dice_key.specs.Meaning.{Meaning, Answered, Asks}
 use Rattle.dice_key.specs.declared.universe.Kind.TheVariants.{Injected}
-use Rattle.dice_model.specs.Log.{Has}
 use Rattle.dice_model.specs.Eval.{HasValue}
 use Rattle.dice_model.specs.Asks.{Goes, IsTrace, AsksFor, Reaches, IsCycle}
 use Rattle.task_share.specs.Asked.{By, Promised, Tasked, Asked, HasNoCycle, IsDone}
@@ -11,6 +10,7 @@ use Rattle.journal.specs.declared.event.Told.TheVariants.{Commit, Open, Close, A
 use Rattle.journal.specs.Events.{Asking, ByValue, ByCycle, names_by, begins, commits_of, opened_at, open_count, live_at, decided, asked_in_epoch, is_running, is_base}
 use Rattle.journal.specs.Law.{AreValues}
 use Rattle.core_laws.specs.Tasks.{Work, Computes, Checks, Phase, IsReady, IsOut, IsWaiting, Outcome, WithValue, WithCycle, WithNothing, Standing, Works, Ended, Task, is_going, is_computing, batch_of, value_of}
+use Rattle.lists.specs.Lists.{Has}
 
 -- these batches have the keys of the first batches of a trace, in order
 abbrev pub GoesAlong : {K V : Type 0} → List (Answered K V) → List (Answered K V) → Type 0

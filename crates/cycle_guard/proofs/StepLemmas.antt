@@ -10,11 +10,11 @@ use Rattle.std.proofs.lemmas.List.{reverse-append, reverse-reverse, map-append, 
 use Rattle.std.proofs.lemmas.Option.{none-some, same_Some, slice_get-map, slice_get_past, slice_get_read}
 use Rattle.dice_key.specs.Lawful.{IsEquality}
 use Rattle.task_share.specs.Asked.{Leads}
-use Rattle.task_share.specs.Lists.{Has}
 use Rattle.task_share.specs.Seen.{Share, waits_at, asked_of, IsMirrored}
 use Rattle.cycle_guard.specs.WaitCycle.{IsWaitCycle}
 use Rattle.cycle_guard.specs.Search.{Stacked, left_of, IsSearch, next_wait, steps_left, is_met}
 use Rattle.cycle_guard.proofs.SearchLemmas.{search_begins, search_popped, search_passed, search_met, found_cycle, found_leads, over, unmet_less, unmet_same}
+use Rattle.lists.specs.Lists.{Has}
 
 drop_at : {X : Type 0} (xs : List X) (n : ℕ) (x : X) → slice_get xs n ≡ Some x → drop n xs ≡ x ∷ drop (suc n) xs
 drop_at [] n x e = absurd (none-some x e)

@@ -1,7 +1,7 @@
 -- The cycle that a wait would close.
 use Rattle.std.specs.Prelude.{◌≡◌, ◌⊎◌, true, List, [], ◌∷◌}
 use Rattle.task_share.specs.Asked.{Asked, Tasked}
-use Rattle.task_share.specs.Lists.{AreDistinct}
+use Rattle.lists.specs.Lists.{AreDistinct}
 
 -- each waits by W for the next, and the last for `first`
 abbrev pub IsRound : {K : Type 0} → (K → K → Type 0) → K → K → List K → Type 0

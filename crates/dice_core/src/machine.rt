@@ -1,7 +1,7 @@
 //! The core.
 ghost use Rattle.std.specs.Prelude.{◌≡◌, ◌≢◌, ◌<◌, ◌+◌, ◌++◌, ◌∷◌, ◌↔◌, IsTrue, ℕ, nat_eq, List, [], true, false, length, map, reverse, Some, None, is_some, IfOk, IfErr, IfSome, IfNone, OnOk, OnErr, MatchResult};
 ghost use Rattle.std.specs.Map.{keys_of};
-ghost use Rattle.dice_model.specs.Log.{Has, pairs_of};
+ghost use Rattle.dice_model.specs.Log.{pairs_of};
 ghost use Rattle.journal.specs.declared.event.Told.TheVariants.{Open, Close, Leave, Drop, Lost};
 ghost use Rattle.std.specs.Arc.{arc_value};
 ghost use Rattle.dice_key.specs.declared.universe.Kind.TheVariants.{Injected};
@@ -23,6 +23,7 @@ ghost use Rattle.dice_core.specs.Givings.{stale_of, Gives, IsTakenUp};
 ghost use Rattle.dice_core.specs.Joinings.{AsksForKey};
 ghost use Rattle.dice_core.specs.Sessions.{transaction_at, ask_at};
 ghost use Rattle.dice_core.specs.Cores.{CoreSeen, Came, ToValue, ToCycle, ToNothing, Pending, Absent, came_of, decision_of, events_of, past_of, table_at, held_to, injected_to, held_in, poll_of, Turned, IsAsBefore, KeepsTasksOf, DropsThese, IsJobOut, IsNameOut, TakesOut, GivesUpOnly};
+ghost use Rattle.lists.specs.Lists.{Has};
 
 use crate::commit::{CommitRefusal, commit};
 use crate::giving::{Gave, give_in};

@@ -1,6 +1,5 @@
 //! What callers keep of a seat from one call to the next, as contracts. None of these functions does any work.
 ghost use Rattle.std.specs.Prelude.{◌≡◌, ◌≢◌, ◌<◌, ◌⊎◌, ◌∷◌, ◌++◌, ℕ, List, [], reverse, Some};
-ghost use Rattle.dice_model.specs.Log.{Has};
 ghost use Rattle.dice_key.specs.declared.universe.Kind.TheVariants.{Injected};
 ghost use Rattle.journal.specs.declared.event.Told.{Told};
 ghost use Rattle.journal.specs.declared.event.Told.TheVariants.{Open, Close};
@@ -14,6 +13,7 @@ ghost use Rattle.dice_engine.specs.Turns.{log_of, Later, Turn, Works};
 ghost use Rattle.dice_engine.specs.Conditions.{StandsAt, NotLeft, HasOpen, HasAsk, SawAsk};
 ghost use Rattle.dice_engine.specs.Calls.{Closes};
 ghost use Rattle.dice_engine.specs.Replies.{Reply, TheValue, TheCycle, NoRoom, NotYet, NotLive, IsReply, IsLiveIn, IsValued};
+ghost use Rattle.lists.specs.Lists.{Has};
 
 use dice_key::{Universe, laws_of};
 

@@ -8,14 +8,11 @@ use Rattle.std.proofs.Math.Nat.{suc-add}
 use Rattle.dice_key.specs.Meaning.{Meaning, Answered, Step, Asks, Ends}
 use Rattle.dice_key.specs.declared.universe.Kind.{Kind}
 use Rattle.dice_key.specs.declared.universe.Kind.TheVariants.{Injected, Computed, Projection}
-use Rattle.dice_model.specs.Log.{input, Has}
+use Rattle.dice_model.specs.Log.{input}
 use Rattle.dice_model.specs.Eval.{answers, on_step, reached, by_kind, eval, HasValue}
 use Rattle.dice_model.specs.Asks.{Goes, AsksFor, Reaches, here, through, GoesRound, IsCycle, ReachesCycle}
-
--- what a chain of two needs
-pub chained : {A B : Type 0} (f : A → Option B) (o : Option A) (y : B) → option_and_then f o ≡ Some y → (x : A) × (o ≡ Some x) × (f x ≡ Some y)
-chained f None y e = absurd (none-some y e)
-chained f (Some x) y e = (x, refl, e)
+use Rattle.lists.proofs.Options.{chained}
+use Rattle.lists.specs.Lists.{Has}
 
 pub mapped : {A B : Type 0} (f : A → B) (o : Option A) (y : B) → option_map f o ≡ Some y → (x : A) × (o ≡ Some x) × (f x ≡ y)
 mapped f None y e = absurd (none-some y e)

@@ -7,9 +7,11 @@ use Rattle.dice_key.specs.Meaning.{Meaning, Answered, Step, Asks, Ends}
 use Rattle.dice_key.specs.Lawful.{IsLawful, IsEquality}
 use Rattle.dice_key.specs.declared.universe.Kind.{Kind}
 use Rattle.dice_key.specs.declared.universe.Kind.TheVariants.{Injected, Computed, Projection}
-use Rattle.dice_model.specs.Log.{input, Has, AreDistinct}
+use Rattle.dice_model.specs.Log.{input}
 use Rattle.dice_model.specs.Eval.{answers, on_step, reached, by_kind, eval, HasValue}
 use Rattle.dice_model.specs.Asks.{Goes, AsksFor, Reaches, here, through, GoesRound, IsCycle, IsClosed, ReachesCycle}
+use Rattle.lists.proofs.Distinct.{few}
+use Rattle.lists.specs.Lists.{AreDistinct, Has}
 
 -- ---- lists without repetition
 
@@ -21,16 +23,6 @@ module _ {X : Type 0} where
   without x (z ∷ zs) (inr h) =
       let r = without x zs h in
       (z ∷ r.0, ap suc r.1, λ y h n. elim h as (λ _. (z ≡ y) ⊎ Has r.0 y) [ inl f ↦ inl f | inr g ↦ inr (r.2 y g n) ])
-
-  -- distinct elements of a list are no more than it has
-  pub few : (xs all : List X) → AreDistinct xs → ((x : X) → Has xs x → Has all x) → length xs ≤ length all
-  few [] all d h = omega arith
-  few (x ∷ xs) all d h =
-      let r = without x all (h x (inl refl)) in
-      let i : length xs ≤ length r.0 = few xs r.0 d.1 (λ y p. r.2 y (h y (inr p)) (λ e. d.0 (subst (Has xs) e p))) in
-      let j : length all ≡ suc (length r.0) = r.1 in
-      let k : length (x ∷ xs) ≡ suc (length xs) = refl in
-      omega arith
 
 module _ {K : Type 0} (eq : K → K → Bool) (law : IsEquality eq) where
   by_answer : (x y : K) (r : Bool) → eq x y ≡ r → (x ≡ y) ⊎ (x ≡ y → ⊥)

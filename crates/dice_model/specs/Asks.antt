@@ -3,8 +3,8 @@ use Rattle.std.specs.Prelude.{◌≡◌, ◌≢◌, ℕ, List, [], ◌∷◌, �
 use Rattle.std.specs.List.{AllZip}
 use Rattle.dice_key.specs.Meaning.{Meaning, Answered, Asks, Ends}
 use Rattle.dice_key.specs.declared.universe.Kind.TheVariants.{Injected}
-use Rattle.dice_model.specs.Log.{Has, AreDistinct}
 use Rattle.dice_model.specs.Eval.{HasValue}
+use Rattle.lists.specs.Lists.{AreDistinct, Has}
 
 -- each answer of these batches is allowed by R
 abbrev pub AllTrue : {K V : Type 0} → (K → V → Type 0) → List (Answered K V) → Type 0

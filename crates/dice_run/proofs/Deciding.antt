@@ -14,10 +14,10 @@ use Rattle.action_digest.specs.declared.key.Key.{Key}
 use Rattle.action_digest.specs.declared.value.Value.{Value}
 use Rattle.action_digest.specs.Buck.{buck}
 use Rattle.action_digest.specs.Same.{key_equal}
-use Rattle.dice_model.specs.Log.{Has}
 use Rattle.dice_run.specs.Events.{Events, IsDecidedIn}
 use Rattle.dice_run.specs.Recording.{WasDecided}
 use Rattle.dice_run.proofs.Seating.{stands_below}
+use Rattle.lists.specs.Lists.{Has}
 
 some_same : {X : Type 0} {x y : X} → Some x ≡ Some y → x ≡ y
 some_same e = cc

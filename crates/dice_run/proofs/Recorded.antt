@@ -7,7 +7,6 @@ use Rattle.std.specs.Arc.{arc_value}
 use Rattle.std.specs.Cmp.Lexicographic.{pointwise}
 use Rattle.atomic_table.specs.Seated.{TableId}
 use Rattle.dice_key.specs.declared.universe.Kind.TheVariants.{Injected}
-use Rattle.dice_model.specs.Log.{Has}
 use Rattle.journal.specs.declared.event.Told.{Told}
 use Rattle.journal.specs.declared.event.Told.TheVariants as told
 use Rattle.journal.specs.Events.{NotClosed}
@@ -18,7 +17,7 @@ use Rattle.dice_engine.specs.Calls.{differing_from}
 use Rattle.dice_engine.specs.Conditions.{StandsAt}
 use Rattle.dice_engine.specs.declared.promise.Transaction.{Transaction}
 use Rattle.dice_engine.proofs.Callers.{stands_longer}
-use Rattle.dice_engine.proofs.Indices.{has_left, closed_free, free_closed}
+use Rattle.dice_engine.proofs.Indices.{closed_free, free_closed}
 use Rattle.script.specs.declared.line.Line.{Line}
 use Rattle.script.specs.declared.line.Line.TheVariants as line
 use Rattle.script.specs.declared.line.Request.{Request}
@@ -43,6 +42,8 @@ use Rattle.dice_run.specs.declared.driver.Driver.{Driver}
 use Rattle.dice_run.proofs.Changing.{differing_same}
 use Rattle.dice_run.proofs.Seating.{stands_below}
 use Rattle.dice_run.proofs.Steps.{own_name, at_name, past_name, other_name, by_name, other_request, live_there}
+use Rattle.lists.proofs.Members.{has_left}
+use Rattle.lists.specs.Lists.{Has}
 
 some_same : {X : Type 0} {x y : X} → Some x ≡ Some y → x ≡ y
 some_same e = cc

@@ -7,7 +7,7 @@ use Rattle.std.proofs.lemmas.Option.{none-some, same_Some}
 use Rattle.dice_key.specs.Meaning.{Meaning}
 use Rattle.dice_key.specs.Lawful.{IsLawful, IsEquality}
 use Rattle.dice_key.specs.declared.universe.Kind.TheVariants.{Injected}
-use Rattle.dice_model.specs.Log.{Has, input}
+use Rattle.dice_model.specs.Log.{input}
 use Rattle.dice_model.specs.Eval.{HasValue, by_kind, reached, eval}
 use Rattle.dice_model.specs.Asks.{AsksFor}
 use Rattle.dice_jobs.specs.Jobs.{Assigned, Waits, answered_more}
@@ -42,12 +42,13 @@ use Rattle.dice_steps.specs.Plans.{key_in, wait_for, waits_of, AreParts, ArePlac
 use Rattle.dice_steps.specs.Batches.{IsOfMakes, ending_events, GivesUp, LeavesOut, MakesOn, IsBeside, HasRoomToMake, MakesParts, TakesUp}
 use Rattle.dice_steps.specs.declared.plan.Part.{Part}
 use Rattle.dice_tasks.proofs.EndsLemmas.{working_knows}
-use Rattle.dice_tasks.proofs.Lists.{has_right}
 use Rattle.dice_tasks.proofs.LooksLemmas.{look_stands}
 use Rattle.dice_steps.proofs.MakesLemmas.{makes_more_keys, makes_tasks}
-use Rattle.dice_steps.proofs.PartLemmas.{has_mapped, there_waits, wait_there, zip_on}
+use Rattle.dice_steps.proofs.PartLemmas.{there_waits, wait_there, zip_on}
 use Rattle.dice_steps.proofs.QuietLemmas.{commits_after, cells_after, open_after}
 use Rattle.dice_tasks.proofs.WaitLemmas.{waits_there, waits_only, key_there, wait_of}
+use Rattle.lists.proofs.Members.{has_mapped, has_right}
+use Rattle.lists.specs.Lists.{Has}
 
 -- ---- what is true of the keys of the batch
 

@@ -7,7 +7,6 @@ use Rattle.std.proofs.lemmas.Bool.{eqb-true}
 use Rattle.std.proofs.lemmas.Option.{none-some, same_Some}
 use Rattle.dice_key.specs.Meaning.{Meaning}
 use Rattle.dice_key.specs.Lawful.{IsEquality}
-use Rattle.dice_model.specs.Log.{Has}
 use Rattle.dice_jobs.specs.Jobs.{Assigned, Waits, Outcome, Wanting, waiting_after, answered_more}
 use Rattle.task_share.specs.Asked.{Tasked, WaitOf, is_by}
 use Rattle.task_share.specs.Seen.{Share, task_at, is_live, asked_of, wait_room, KeepsTasks, KeepsAsks}
@@ -38,8 +37,10 @@ use Rattle.dice_steps.specs.declared.plan.Plan.TheVariants as plan
 use Rattle.dice_tasks.proofs.CascadeLemmas.{done_same}
 use Rattle.dice_tasks.proofs.EndsLemmas.{same_table}
 use Rattle.dice_steps.proofs.MakesLemmas.{value_there}
-use Rattle.dice_steps.proofs.PartLemmas.{parts_same, wait_there, zip_count}
+use Rattle.dice_steps.proofs.PartLemmas.{parts_same, wait_there}
 use Rattle.dice_tasks.proofs.TaskedLemmas.{tasked_same}
+use Rattle.lists.proofs.Each.{zip_length}
+use Rattle.lists.specs.Lists.{Has}
 
 -- nothing is there
 pub none_there : (b : Bool) (n : ℕ) → b ≡ (n == 0) → b ≡ true → n ≡ 0
@@ -163,7 +164,7 @@ module _ {U K V R : Type 0} (eq : K → K → Bool) (equality : IsEquality eq) (
       roomy = roomy_so;
       known = λ p h. by_test p h p.awaited refl;
       job = (λ z. (is z).job) ∙ (λ z. answered_more a ks ((sym is z).values));
-      count = (λ z. length ((is z).values)) ∙ zip_count (IsAtHand eq m v qs es s) ks ys zip;
+      count = (λ z. length ((is z).values)) ∙ zip_length (IsAtHand eq m v qs es s) ks ys zip;
       answers = subst (AllZip (IsAtHand eq m v qs es s) ks) (λ z. (sym is z).values) zip;
     }
       where

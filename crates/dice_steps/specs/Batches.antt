@@ -2,7 +2,6 @@
 use Rattle.std.specs.Prelude.{◌≡◌, ◌⊎◌, ◌≤◌, ◌+◌, ◌*◌, ℕ, Bool, true, false, List, ◌++◌, length, map, reverse, Option, Some}
 use Rattle.std.specs.List.{AllZip, AllByRecursion}
 use Rattle.dice_key.specs.Meaning.{Meaning}
-use Rattle.dice_model.specs.Log.{Has, AreDistinct}
 use Rattle.dice_model.specs.Eval.{HasValue}
 use Rattle.dice_jobs.specs.Jobs.{Assigned, answered_more}
 use Rattle.task_share.specs.Seen.{Share, task_at, is_live, has_place, asker_room, wait_room, KeepsAsks}
@@ -20,6 +19,7 @@ use Rattle.dice_tasks.specs.Makings.{IsFree, MayMake}
 use Rattle.dice_steps.specs.Plans.{key_in, IsPart}
 use Rattle.dice_steps.specs.Taken.{MakesThese}
 use Rattle.dice_steps.specs.declared.plan.Part.{Part}
+use Rattle.lists.specs.Lists.{AreDistinct, Has}
 
 module _ {K V : Type 0} (v : ℕ) (ks : List K) where
   -- an event of a task that is made for a key of these at v

@@ -5,7 +5,6 @@ use Rattle.std.specs.Arc.{arc_value}
 use Rattle.std.specs.List.{AllZip}
 use Rattle.dice_key.specs.Meaning.{Meaning}
 use Rattle.dice_key.specs.declared.universe.Kind.TheVariants.{Injected}
-use Rattle.dice_model.specs.Log.{Has, AreDistinct}
 use Rattle.dice_jobs.specs.Jobs.{Assigned, answered_more}
 use Rattle.task_share.specs.Asked.{WaitOf, Leads}
 use Rattle.task_share.specs.Seen.{Share, is_live, asked_of, has_place, asker_room, wait_room}
@@ -24,6 +23,7 @@ use Rattle.dice_steps.specs.declared.plan.Survey.{Survey}
 use Rattle.dice_steps.specs.declared.plan.Survey.TheVariants as survey
 use Rattle.dice_steps.specs.declared.plan.Plan.{Plan}
 use Rattle.dice_steps.specs.declared.plan.Plan.TheVariants as plan
+use Rattle.lists.specs.Lists.{AreDistinct, Has}
 
 module _ {U K V R : Type 0} where
   -- the key of a part

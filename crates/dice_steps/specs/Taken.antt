@@ -4,7 +4,6 @@ use Rattle.std.specs.Prelude.{◌≡◌, ◌≢◌, ◌⊎◌, ◌&&◌, ◌||�
 use Rattle.std.specs.List.{AllZip, list_any}
 use Rattle.dice_key.specs.Meaning.{Meaning}
 use Rattle.dice_key.specs.declared.universe.Kind.TheVariants.{Injected}
-use Rattle.dice_model.specs.Log.{Has, AreDistinct}
 use Rattle.dice_jobs.specs.Jobs.{Assigned, answered_more}
 use Rattle.task_share.specs.Asked.{By, Tasked, Leads, is_by}
 use Rattle.task_share.specs.Seen.{Share, task_at, asks, asked_of, KeepsAsks}
@@ -20,6 +19,7 @@ use Rattle.dice_tasks.specs.Endings.{GivesUpAll}
 use Rattle.dice_tasks.specs.Helds.{Held, held_of}
 use Rattle.dice_tasks.specs.Hands.{DeskSeen, tasks_of}
 use Rattle.dice_tasks.specs.Makings.{IsFree, task_by, told_by, entry_by}
+use Rattle.lists.specs.Lists.{AreDistinct, Has}
 
 module _ {K V : Type 0} (eq : K → K → Bool) (ps : List (K × Share K (Held K V))) where
   -- the task of q has not ended with a cycle

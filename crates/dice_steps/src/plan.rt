@@ -4,7 +4,6 @@ ghost use Rattle.std.specs.Arc.{arc_value};
 ghost use Rattle.std.specs.List.{list_any, AllZip};
 ghost use Rattle.std.specs.Option.{option_map};
 ghost use Rattle.dice_key.specs.declared.universe.Kind.TheVariants.{Injected};
-ghost use Rattle.dice_model.specs.Log.{Has};
 ghost use Rattle.task_share.specs.Asked.{Leads};
 ghost use Rattle.task_share.specs.Seen.{task_at, asked_of, has_place, asker_room, wait_room, KeepsTasks, KeepsAsks, KeepsRoom};
 ghost use Rattle.versioned_graph.specs.Entries.{entry_at};
@@ -16,6 +15,7 @@ ghost use Rattle.dice_tasks.specs.CyclePaths.{path_with};
 ghost use Rattle.dice_tasks.specs.Hands.{KeepsHands, KeepsDeskRoom, tasks_of};
 ghost use Rattle.dice_steps.specs.Plans.{key_in, waits_of, is_awaited, IsAtHand, HasNone, IsPart, IsSurvey, ArePlaced, IsPlan, IfEnds};
 ghost use Rattle.dice_steps.specs.Taken.{HasNoPath, IsPathAt};
+ghost use Rattle.lists.specs.Lists.{Has};
 
 use crate::noted::note;
 use cycle_guard::would_close;

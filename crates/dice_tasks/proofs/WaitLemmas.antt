@@ -1,11 +1,10 @@
 -- What holds while a call works on a version is kept where a task is taken, put back, waits or goes on.
 use Rattle.std.proofs.Common.{◌≡◌, ◌≤◌, ◌⊎◌, inl, inr, ◌+◌, ◌*◌, ℕ, Bool, true, false, cond, ◌&&◌, ◌||◌, List, [], ◌∷◌, map, reverse, Option, Some, refl, sym, ap, ◌∙◌, subst, arith}
-use Rattle.std.proofs.lemmas.Bool.{eq-eqb}
+use Rattle.std.proofs.lemmas.Bool.{eq-eqb, and_parts, or_cases}
 use Rattle.std.specs.Option.{option_map}
 use Rattle.std.specs.List.{AllZip}
 use Rattle.dice_key.specs.Lawful.{IsEquality, IsLawful}
 use Rattle.dice_key.specs.Meaning.{Meaning}
-use Rattle.dice_model.specs.Log.{Has, AreDistinct}
 use Rattle.dice_model.specs.Eval.{HasValue}
 use Rattle.dice_jobs.specs.Jobs.{Name, Assigned, Waits, answered_more}
 use Rattle.dice_model.specs.Asks.{AsksFor}
@@ -23,12 +22,12 @@ use Rattle.core_laws.proofs.Counts.{all_fewer}
 use Rattle.core_laws.proofs.Turns.{pair_test, task_there, with_twice, stands_here}
 use Rattle.core_laws.proofs.StepsWaits.{taken_stand, brought_back_stand, goes_on_at_once_stand, parks_stand}
 use Rattle.core_laws.proofs.Parks.{asks_of_next}
-use Rattle.core_laws.proofs.Shapes.{both_parts}
 use Rattle.dice_tasks.specs.Helds.{Held, task_of, held_of, doing}
 use Rattle.dice_tasks.specs.Hands.{DeskSeen, desk_of, tasks_of, seen_world, Gains, Stays, Takes, Working}
 use Rattle.dice_tasks.specs.Waitings.{OutTurns, IsTurned, KeepsTable, TakesJob, ReturnsJob, waits_so, ParksJob, MayPark}
 use Rattle.dice_tasks.proofs.Lists.{Same, loses_last}
 use Rattle.dice_tasks.proofs.EndsLemmas.{puts_of, named_put}
+use Rattle.lists.specs.Lists.{AreDistinct, Has}
 
 -- ---- the tasks that are out
 
@@ -185,10 +184,6 @@ or_true : (a : Bool) → (a || true) ≡ true
 or_true true = refl
 or_true false = refl
 
-either_part : (a b : Bool) → (a || b) ≡ true → (a ≡ true) ⊎ (b ≡ true)
-either_part true b e = inl refl
-either_part false b e = inr e
-
 module _ {K : Type 0} where
   pub key_there : (xs : List (WaitOf K)) (x : WaitOf K) → Has xs x → Has (map (λ y. y.key) xs) x.key
   key_there [] x h = h
@@ -215,8 +210,8 @@ module _ {K : Type 0} (eq : K → K → Bool) (equality : IsEquality eq) (k : K)
 
   pub waits_only : (xs : List (WaitOf K)) → ((x : WaitOf K) → Has xs x → x.asker ≡ k) → (q : K) (a : By K) → waits_so eq xs q a ≡ true → Has (map (λ y. y.key) xs) q × (a ≡ Tasked k)
   waits_only [] own q a e = let c : false ≡ true = e in cc
-  waits_only (y ∷ xs) own q a e = elim (either_part (eq y.key q && is_by eq (Tasked y.asker) a) (waits_so eq xs q a) e) as (λ _. Has (map (λ z. z.key) (y ∷ xs)) q × (a ≡ Tasked k)) [
-    | inl i ↦ let b = both_parts (eq y.key q) (is_by eq (Tasked y.asker) a) i in (inl (equality.same y.key q b.0), by_only y.asker (own y (inl refl)) a b.1)
+  waits_only (y ∷ xs) own q a e = elim (or_cases (eq y.key q && is_by eq (Tasked y.asker) a) (waits_so eq xs q a) e) as (λ _. Has (map (λ z. z.key) (y ∷ xs)) q × (a ≡ Tasked k)) [
+    | inl i ↦ let b = and_parts (eq y.key q) (is_by eq (Tasked y.asker) a) i in (inl (equality.same y.key q b.0), by_only y.asker (own y (inl refl)) a b.1)
     | inr i ↦ let r = waits_only xs (λ x h. own x (inr h)) q a i in (inr r.0, r.1)
   ]
 
@@ -264,7 +259,7 @@ module _ {K V : Type 0} (eq : K → K → Bool) (equality : IsEquality eq) (m : 
       parked = record {
         kept = λ q b on. to.asks q b ∙ ap (λ c. c || waits_so eq xs q b) on;
         asked = λ q h. to.asks q (Tasked k) ∙ (ap (λ c. asks eq ps q (Tasked k) || c) (waits_there eq equality k xs may.own q h) ∙ or_true (asks eq ps q (Tasked k)));
-        only = λ q b on. elim (either_part (asks eq ps q b) (waits_so eq xs q b) (sym (to.asks q b) ∙ on)) as (λ _. (asks eq ps q b ≡ true) ⊎ (Has ds q × (b ≡ Tasked k))) [
+        only = λ q b on. elim (or_cases (asks eq ps q b) (waits_so eq xs q b) (sym (to.asks q b) ∙ on)) as (λ _. (asks eq ps q b ≡ true) ⊎ (Has ds q × (b ≡ Tasked k))) [
           | inl i ↦ inl i
           | inr i ↦ inr (waits_only eq equality k xs may.own q b i)
         ];

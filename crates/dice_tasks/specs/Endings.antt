@@ -3,7 +3,6 @@ use Rattle.std.specs.Prelude.{◌≡◌, ◌≤◌, ◌*◌, ◌<◌, ◌⊎◌,
 use Rattle.std.specs.Arc.{arc_value}
 use Rattle.std.specs.List.{list_any}
 use Rattle.dice_key.specs.Meaning.{Meaning}
-use Rattle.dice_model.specs.Log.{Has, AreDistinct}
 use Rattle.task_share.specs.Asked.{By, Promised, Tasked, is_by, Takes, Cascade}
 use Rattle.task_share.specs.Seen.{Share, task_at, is_live, asks, asked_of, KeepsTasks, KeepsAsks, KeepsRoom, KeepsOtherRoom}
 use Rattle.journal.specs.declared.event.Told.{Told}
@@ -18,6 +17,7 @@ use Rattle.dice_tasks.specs.declared.end.How.TheVariants.{Lost, Cycle}
 use Rattle.dice_jobs.specs.Jobs.{Name, Assigned}
 use Rattle.dice_tasks.specs.Helds.{Held, held_of, held_ended}
 use Rattle.dice_tasks.specs.Hands.{DeskSeen, tasks_of, AreNamed, with_event, with_ended, with_told_next, Unreadies, Leaves, Returns, Working}
+use Rattle.lists.specs.Lists.{AreDistinct, Has}
 
 -- a task that stood so, of this version and key, is no more among those that are ready or out
 abbrev pub Quits : {K V : Type 0} → Standing K V → ℕ × K → DeskSeen K V → DeskSeen K V → Type 0

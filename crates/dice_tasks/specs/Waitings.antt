@@ -3,7 +3,6 @@ use Rattle.std.specs.Prelude.{◌≡◌, ◌⊎◌, ◌<◌, ◌≤◌, ℕ, Boo
 use Rattle.std.specs.List.{list_any, AllZip}
 use Rattle.dice_key.specs.Meaning.{Meaning}
 use Rattle.dice_key.specs.declared.universe.Kind.TheVariants.{Injected}
-use Rattle.dice_model.specs.Log.{Has, AreDistinct}
 use Rattle.dice_model.specs.Eval.{HasValue}
 use Rattle.dice_jobs.specs.Jobs.{Assigned, Waits}
 use Rattle.task_share.specs.Asked.{By, Tasked, WaitOf, Leads, is_by}
@@ -15,6 +14,7 @@ use Rattle.core_laws.specs.Stands.{AsksNext}
 use Rattle.core_laws.specs.Desk.{Loses}
 use Rattle.dice_tasks.specs.Helds.{Held, Ahead, FollowsOn, held_of, doing}
 use Rattle.dice_tasks.specs.Hands.{DeskSeen, tasks_of, Gains, Stays, Takes, Returns, Leaves, Readies}
+use Rattle.lists.specs.Lists.{AreDistinct, Has}
 
 -- a list of out tasks follows its task p: it was out or not, and is
 abbrev pub OutTurns : {X : Type 0} → Bool → Bool → X → List X → List X → Type 0

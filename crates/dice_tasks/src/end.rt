@@ -3,7 +3,6 @@ ghost use Rattle.std.specs.Prelude.{◌≡◌, ◌⊎◌, ℕ, List, [], ◌∷�
 ghost use Rattle.std.specs.Arc.{arc_value};
 ghost use Rattle.std.specs.Option.{option_map};
 ghost use Rattle.dice_key.specs.Meaning.{Answered, Ends};
-ghost use Rattle.dice_model.specs.Log.{Has};
 ghost use Rattle.dice_model.specs.Asks.{IsTrace};
 ghost use Rattle.task_share.specs.Asked.{IsDone};
 ghost use Rattle.task_share.specs.Seen.{asked_of, task_at, is_live, KeepsTasks, KeepsAsks, KeepsRoom};
@@ -16,6 +15,7 @@ ghost use Rattle.dice_tasks.specs.Helds.{Held, came};
 ghost use Rattle.dice_tasks.specs.Loads.{AreCopies};
 ghost use Rattle.dice_tasks.specs.Hands.{Working, Cleaning};
 ghost use Rattle.dice_tasks.specs.Endings.{Quits, Knows, DropsTask, DropsTasks, EndsTask, TellsEnd, ListsEnd, ComesOf, path_of, told_end, ReachesPath, EndsAsker, HasTold, EndsTasks, EndWithAskers, AreTasked, ends_so};
+ghost use Rattle.lists.specs.Lists.{Has};
 
 use crate::Tasks;
 use crate::desk::Desk;

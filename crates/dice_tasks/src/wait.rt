@@ -11,10 +11,10 @@ ghost use Rattle.core_laws.specs.Tasks.{IsReady, IsOut, IsWaiting};
 ghost use Rattle.core_laws.specs.Stands.{AsksNext};
 ghost use Rattle.core_laws.specs.Desk.{World, is_ready};
 ghost use Rattle.dice_tasks.specs.Helds.{held_of, doing};
-ghost use Rattle.dice_model.specs.Log.{Has};
 ghost use Rattle.dice_tasks.specs.Hands.{Returns, Working, tasks_of};
 ghost use Rattle.dice_tasks.specs.Endings.{Knows};
 ghost use Rattle.dice_tasks.specs.Waitings.{IsTurned, KeepsTable, TakesJob, ReturnsJob, HasRoomFor, waits_so, ParksJob, MayPark};
+ghost use Rattle.lists.specs.Lists.{Has};
 
 use crate::Tasks;
 use crate::desk::Desk;

@@ -10,12 +10,13 @@ use Rattle.target_file.specs.Files.{names, IsWritten, IsDead, line_feeds, IsFaul
 use Rattle.target_file.specs.Machine.{State, StepAt, Steps, Runs, first}
 use Rattle.target_file.proofs.Runs.{one_run, runs_split, runs_join}
 use Rattle.target_file.proofs.Complete.{accepted}
-use Rattle.target_file.proofs.Fresh.{doubled, bool_cases}
+use Rattle.target_file.proofs.Fresh.{doubled}
 use Rattle.target_file.proofs.Prefixes.{scan_append, shift, blank, next_front}
 use Rattle.target_file.proofs.Faults.{IsLive, dead_byte, dead_token, stuck, live_prefix, file_of}
 use Rattle.target_file.proofs.Lines.{told, told_end, dead_text, feeds_append}
 use Rattle.target_file.specs.Code.{Refuses, IsOpen, IsEnd}
 use borrow.Author.Tests.{eqb-true}
+use Rattle.std.proofs.lemmas.Bool.{cases_Bool}
 
 -- a live prefix, and no LF behind it
 pub record Near (p : List ℕ) : Type 0 where
@@ -99,7 +100,7 @@ took r p s t m e b h k g few =
     let n : next s b ≡ Some (shift s.tokens t) = next_front s b ∙ ap (option_map (shift s.tokens)) k in
     let sc = scanned_more p s (shift s.tokens t) b h.scanned n in
     let rs = runs_join s.tokens t.tokens (first r) m e h.runs g in
-    elim (bool_cases (nat_eq b 10)) [
+    elim (cases_Bool (nat_eq b 10)) [
       | inl w ↦
           let z : b ≡ 10 = eqb-true b 10 w in
           let l = new_line s.line (next s b) (shift s.tokens t) n (subst (λ (x : ℕ). NewLine s.line (next s x)) (sym z) (feed_in s.mode s)) in

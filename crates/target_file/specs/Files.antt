@@ -10,15 +10,7 @@ use Rattle.target_file.specs.declared.table.Attribute.{Attribute}
 use Rattle.target_file.specs.declared.table.Attribute.TheVariants.{Name}
 use Rattle.target_file.specs.declared.table.Form.{Form}
 use Rattle.target_file.specs.declared.table.Form.TheVariants.{Path, Text, Command, Sources, Texts}
-
--- x is one of them
-abbrev pub Has : {X : Type 0} → List X → X → Type 0
-Has [] x = ⊥
-Has (y ∷ ys) x = (y ≡ x) ⊎ Has ys x
-
-abbrev pub AreDistinct : {X : Type 0} → List X → Type 0
-AreDistinct [] = Unit {0}
-AreDistinct (x ∷ xs) = (Has xs x → ⊥) × AreDistinct xs
+use Rattle.lists.specs.Lists.{AreDistinct, Has}
 
 -- the value has the form
 abbrev pub HasForm : Form → Value → Type 0

@@ -3,9 +3,10 @@ use Rattle.std.proofs.Common.{◌≡◌, ◌≤◌, ◌<◌, ◌+◌, ◌⊎◌,
 use Rattle.std.specs.Map.{lookup, keys_of}
 use Rattle.dice_key.specs.Lawful.{IsEquality}
 use Rattle.task_share.specs.Asked.{By, Promised, Tasked, is_by, Asked, Held, by_promise, by_task, Leads, stays, asks_on, HasNoCycle, AskersLive, IsDone, Takes, IsSame, Cascade, DropsUnheld}
-use Rattle.task_share.specs.Lists.{Has, AreDistinct}
 use Rattle.task_share.specs.Seen.{Share, is_for, has_live, is_live, asked_of}
-use Rattle.task_share.proofs.PlaceLemmas.{true_or_false, and_both}
+use Rattle.lists.proofs.Distinct.{few}
+use Rattle.lists.specs.Lists.{AreDistinct, Has}
+use Rattle.std.proofs.lemmas.Bool.{and_parts, cases_Bool}
 
 module _ {K : Type 0} where
   abbrev without : (y : K) → (xs : List K) → Has xs y → List K
@@ -25,23 +26,13 @@ module _ {K : Type 0} where
   still_has y (x ∷ xs) (inr h) q n (inl f) = inl f
   still_has y (x ∷ xs) (inr h) q n (inr g) = inr (still_has y xs h q n g)
 
-  -- distinct things of a list are no more than it has
-  pub few : (ds all : List K) → AreDistinct ds → ((q : K) → Has ds q → Has all q) → length ds ≤ length all
-  few [] all d f = omega arith
-  few (x ∷ ds) all d f =
-      let h = f x (inl refl) in
-      let r = few ds (without x all h) d.1 (λ q g. still_has x all h q (λ e. d.0 (subst (Has ds) (sym e) g)) (f q (inr g))) in
-      let l = without_length x all h in
-      let m : length (x ∷ ds) ≡ suc (length ds) = refl in
-      omega arith
-
   has_asker : (s : Asked K) (k : K) → Held s k → (a : By K) × (s.asks k a ≡ true)
   has_asker s k (by_promise n e) = (Promised n, e)
   has_asker s k (by_task {j = j} e h) = (Tasked j, e)
 
   module _ (eq : K → K → Bool) (law : IsEquality eq) where
     same_or_not : (x y : K) → (x ≡ y) ⊎ (x ≡ y → ⊥)
-    same_or_not x y = elim (true_or_false (eq x y)) as (λ _. (x ≡ y) ⊎ (x ≡ y → ⊥)) [
+    same_or_not x y = elim (cases_Bool (eq x y)) as (λ _. (x ≡ y) ⊎ (x ≡ y → ⊥)) [
       | inl t ↦ inl (law.same x y t)
       | inr n ↦ inr (λ e. (let t : eq x y ≡ true = subst (λ z. eq x z ≡ true) e (law.itself x) in let f : true ≡ false = sym t ∙ n in cc))
     ]
@@ -58,20 +49,20 @@ module _ {K : Type 0} where
 
     module _ (s t : Asked K) (k : K) (p : Takes eq s k t) where
       fewer : (q : K) (a : By K) → t.asks q a ≡ true → s.asks q a ≡ true
-      fewer q a e = (and_both (s.asks q a) _ (sym (p.asks q a) ∙ e)).0
+      fewer q a e = (and_parts (s.asks q a) _ (sym (p.asks q a) ∙ e)).0
 
       others : (q : K) (a : By K) → s.asks q a ≡ true → (a ≡ Tasked k → ⊥) → t.asks q a ≡ true
       others q a e n = p.asks q a ∙ (ap (λ b. b && not (is_by eq (Tasked k) a)) e ∙ ap not (by_asker a n))
         where
           by_asker : (a : By K) → (a ≡ Tasked k → ⊥) → is_by eq (Tasked k) a ≡ false
           by_asker (Promised n) m = refl
-          by_asker (Tasked j) m = elim (true_or_false (eq k j)) as (λ _. eq k j ≡ false) [ inl h ↦ absurd (m (ap Tasked (sym (law.same k j h)))) | inr h ↦ h ]
+          by_asker (Tasked j) m = elim (cases_Bool (eq k j)) as (λ _. eq k j ≡ false) [ inl h ↦ absurd (m (ap Tasked (sym (law.same k j h)))) | inr h ↦ h ]
 
       withdrawn : (q : K) → t.asks q (Tasked k) ≡ true → ⊥
-      withdrawn q e = let b = (and_both (s.asks q (Tasked k)) _ (sym (p.asks q (Tasked k)) ∙ e)).1 in let f : not (eq k k) ≡ false = ap not (law.itself k) in let c : true ≡ false = sym b ∙ f in cc
+      withdrawn q e = let b = (and_parts (s.asks q (Tasked k)) _ (sym (p.asks q (Tasked k)) ∙ e)).1 in let f : not (eq k k) ≡ false = ap not (law.itself k) in let c : true ≡ false = sym b ∙ f in cc
 
       lives : (q : K) → (q ≡ k → ⊥) → t.live q ≡ s.live q
-      lives q n = p.live q ∙ elim (true_or_false (eq k q)) as (λ _. (s.live q && not (eq k q)) ≡ s.live q) [
+      lives q n = p.live q ∙ elim (cases_Bool (eq k q)) as (λ _. (s.live q && not (eq k q)) ≡ s.live q) [
         | inl h ↦ absurd (n (sym (law.same k q h)))
         | inr h ↦ ap (λ b. s.live q && not b) h ∙ and_true (s.live q)
       ]
@@ -107,7 +98,7 @@ module _ {K : Type 0} where
       ]
 
       live_on : (q : K) → t.live q ≡ true → s.live q ≡ true
-      live_on q e = (and_both (s.live q) _ (sym (p.live q) ∙ e)).0
+      live_on q e = (and_parts (s.live q) _ (sym (p.live q) ∙ e)).0
 
     -- where nothing is left to drop, each task that lives is held
     climbs : (s : Asked K) (all : List K) → ((q : K) → s.live q ≡ true → Has all q) → HasNoCycle s → AskersLive s → IsDone s

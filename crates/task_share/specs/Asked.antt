@@ -1,6 +1,6 @@
 -- Tasks and who asks for them, and what the cascade drops.
 use Rattle.std.specs.Prelude.{◌≡◌, ℕ, Bool, true, false, not, ◌&&◌, nat_eq, List, [], ◌∷◌}
-use Rattle.task_share.specs.Lists.{Has}
+use Rattle.lists.specs.Lists.{Has}
 
 -- who asks for a task: a promise by its number, or another task by its key
 pub data By (K : Type 0) : Type 0 where
