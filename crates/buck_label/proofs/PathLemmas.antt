@@ -42,7 +42,7 @@ longer (c ∷ d ∷ u) b s p = record {
   no_dots = λ e. not_empty u b [] cc;
 }
 
-off : (b : ℕ) → nat_eq b 46 ≡ false → b ≡ 46 → ⊥
+pub off : (b : ℕ) → nat_eq b 46 ≡ false → b ≡ 46 → ⊥
 off b f e = let g : nat_eq 46 46 ≡ false = subst (λ (n : ℕ). nat_eq n 46 ≡ false) e f in cc
 
 dot_or_good : (b : ℕ) → IsSegmentByte b → Stands (if nat_eq b 46 then Dot else Good) (b ∷ [])
@@ -133,7 +133,13 @@ found (b ∷ bs) Good u h e = elim (cases_Bool (nat_eq b 47)) [
   | inr f ↦ stepped bs Good u b (found bs) h (rw f at e)
 ]
 
-no_slash : (c : ℕ) → IsSegmentByte c → nat_eq c 47 ≡ false
+-- one segment is a path
+pub one_segment : (s : List ℕ) → IsSegment s → length s ≤ 255 → IsPath s
+one_segment s h f =
+    let t : IsPathText s = record { segments = s ∷ []; some = λ e. cc; each = (h, tt); text_is = refl } in
+    record { text_is = t; fits = f }
+
+pub no_slash : (c : ℕ) → IsSegmentByte c → nat_eq c 47 ≡ false
 no_slash c p = elim (cases_Bool (nat_eq c 47)) [
   | inl t ↦ let h : is_segment_byte 47 ≡ true = subst IsSegmentByte (eqb-true c 47 t) p in cc
   | inr f ↦ f

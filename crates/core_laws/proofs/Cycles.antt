@@ -4,7 +4,6 @@ use Rattle.dice_key.specs.Meaning.{Meaning}
 use Rattle.dice_key.specs.Lawful.{IsEquality}
 use Rattle.dice_model.specs.Asks.{AsksFor, Reaches, here, through, GoesRound}
 use Rattle.task_share.specs.Asked.{Asked}
-use Rattle.task_share.specs.Lists as Shared
 use Rattle.journal.specs.declared.event.Told.{Told}
 use Rattle.journal.specs.declared.event.Told.TheVariants.{Cyclic}
 use Rattle.journal.specs.Events.{ByCycle, commits_of, decided, is_running}
@@ -15,16 +14,6 @@ use Rattle.core_laws.specs.Changes.{Puts, Lives, Withdraws}
 use Rattle.core_laws.proofs.OfKey.{named, cyclic_leaves}
 use Rattle.core_laws.proofs.Ends.{undecided_at_work, task_ends}
 use Rattle.lists.specs.Lists.{AreDistinct, Has}
-
-module _ {X : Type 0} where
-  has_there : (xs : List X) (x : X) → Has xs x → Shared.Has xs x
-  has_there [] x h = h
-  has_there (y ∷ ys) x (inl e) = inl e
-  has_there (y ∷ ys) x (inr h) = inr (has_there ys x h)
-
-  distinct_here : (xs : List X) → Shared.AreDistinct xs → AreDistinct xs
-  distinct_here [] d = tt
-  distinct_here (x ∷ xs) d = (λ h. d.0 (has_there xs x h), distinct_here xs d.1)
 
 module _ {K V : Type 0} (eq : K → K → Bool) (m : Meaning K V) (C : List (List (K × V))) (v : ℕ) where
   -- what asks a key that reaches a cycle reaches it too
@@ -42,8 +31,8 @@ module _ {K V : Type 0} (eq : K → K → Bool) (m : Meaning K V) (C : List (Lis
     goes_round k (j ∷ js) r = let a = next k j js r in (a.0, goes_round j js a.1)
 
     -- distinct keys in a round are a cycle
-    pub round_is_cycle : (rest : List K) → Shared.AreDistinct (first ∷ rest) → Round first rest → CycleStands eq m C v first (first ∷ rest)
-    round_is_cycle rest d r = record { first = first; rest = rest; path_is = refl; cycle = (distinct_here (first ∷ rest) d, goes_round first rest r); reaches = here }
+    pub round_is_cycle : (rest : List K) → AreDistinct (first ∷ rest) → Round first rest → CycleStands eq m C v first (first ∷ rest)
+    round_is_cycle rest d r = record { first = first; rest = rest; path_is = refl; cycle = (d, goes_round first rest r); reaches = here }
 
 -- a task at work whose key reaches a cycle: its Cyclic is allowed, and its task ends with the cycle
 pub cycles : {K V : Type 0} (eq : K → K → Bool) (equality : IsEquality eq) (m : Meaning K V) (R : List (Told K V)) (v : ℕ)

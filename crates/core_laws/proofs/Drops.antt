@@ -13,11 +13,12 @@ use Rattle.journal.specs.Law.{IsAllowed}
 use Rattle.core_laws.specs.Tasks.{Task, goes_on, is_going, is_computing, batch_of, value_of}
 use Rattle.core_laws.specs.Stands.{TaskStands, VersionStands}
 use Rattle.core_laws.specs.Changes.{Puts}
-use Rattle.core_laws.proofs.Shapes.{and_none, not_both, leads_fewer, same_or_other, put_here, put_other}
+use Rattle.core_laws.proofs.Shapes.{and_none, not_both, same_or_other, put_here, put_other}
 use Rattle.core_laws.proofs.OfKey.{asked_before, asked_by_another, promise_stays, others_stay, named, drop_leaves, task_on}
 use Rattle.core_laws.proofs.Ends.{no_value_at_work, undecided_at_work}
 use Rattle.lists.specs.Lists.{Has}
 use Rattle.std.proofs.Math.Bool.{and-true}
+use Rattle.task_share.proofs.Leads.{leads_fewer}
 
 -- what is at work is a task
 pub going_task : {K V : Type 0} (o : Option (Task K V)) → is_going o ≡ true → (t : Task K V) × (o ≡ Some t) × (goes_on t.standing ≡ true)

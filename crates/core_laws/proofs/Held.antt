@@ -3,7 +3,7 @@ use Rattle.std.proofs.Common.{◌≡◌, ◌<◌, ◌+◌, inl, inr, ℕ, zero, 
 use Rattle.dice_key.specs.Meaning.{Meaning}
 use Rattle.dice_key.specs.Lawful.{IsEquality}
 use Rattle.dice_model.specs.Asks.{AsksFor, Reaches, here, through}
-use Rattle.dice_model.proofs.Finite.{has_or_not}
+use Rattle.dice_key.proofs.KeySets.{has_or_not}
 use Rattle.task_share.specs.Asked.{By, Promised, Tasked, Asked, Held, by_promise, by_task, Leads, stays, asks_on, HasNoCycle, AskersLive, IsDone}
 use Rattle.journal.specs.declared.event.Told.{Told}
 use Rattle.journal.specs.declared.event.Told.TheVariants.{Ask, Start, Keep, End, Cyclic, Drop, Lost}

@@ -11,12 +11,13 @@ use Rattle.journal.specs.declared.event.Told.TheVariants.{Start, Keep}
 use Rattle.journal.specs.declared.event.Reason.{Reason}
 use Rattle.journal.specs.Events.{ByValue, names_by, commits_of, decided, asked_in_epoch, is_running, is_base}
 use Rattle.journal.specs.Law.{IsWanted, IsTrueCause, KeepsValue, IsAllowed}
-use Rattle.core_laws.specs.Tasks.{Standing, Works, Ended, WithValue, WithCycle, WithNothing, Work, Computes, Checks, IsReady, Task, goes_on, value_in, is_going, is_computing, batch_of, value_of}
+use Rattle.core_laws.specs.Tasks.{Standing, Works, Ended, WithValue, WithCycle, WithNothing, IsReady, Task, goes_on, value_in, is_going, is_computing, batch_of, value_of}
 use Rattle.core_laws.specs.Stands.{VersionStands, TaskStands, IsStanding, WorkStands, WasSeen}
 use Rattle.core_laws.specs.Changes.{Puts, SameAsks, Lives}
 use Rattle.core_laws.proofs.Shapes.{Shape, shape_of, other_way, asks_nothing, eased, put_each, put_fact, put_none, idle_batch, idle_computes, and_none, not_both}
 use Rattle.lists.specs.Lists.{Has}
 use Rattle.std.proofs.lemmas.Bool.{or_right}
+use Rattle.dice_jobs.specs.Jobs.{Checks, Computes, Work}
 
 module _ {K : Type 0} (eq : K → K → Bool) where
   names_here : IsEquality eq → (v : ℕ) (k : K) → names_by eq v k v k ≡ true

@@ -10,13 +10,14 @@ use Rattle.dice_model.proofs.Alike.{goes_alike}
 use Rattle.task_share.specs.Asked.{Promised, Tasked, Asked, Leads, stays, asks_on, HasNoCycle}
 use Rattle.journal.specs.declared.event.Told.{Told}
 use Rattle.journal.specs.Events.{Asking, commits_of, live_at, opened_at, is_running}
-use Rattle.journal.specs.Law.{AreValues}
-use Rattle.core_laws.specs.Tasks.{Works, Work, Computes, Checks, IsOut, IsWaiting, Task, computes, waits_for, value_in, is_going, is_computing, batch_of, value_of}
+use Rattle.core_laws.specs.Tasks.{Works, IsOut, IsWaiting, Task, computes, waits_for, value_in, is_going, is_computing, batch_of, value_of}
 use Rattle.core_laws.specs.Stands.{AsksNext, WorkStands, TaskStands, VersionStands}
 use Rattle.core_laws.specs.Changes.{Puts, SameLives, Parks}
-use Rattle.core_laws.proofs.Shapes.{leads_after, same_or_other, put_here, put_other, put_each, put_fact, put_none}
+use Rattle.core_laws.proofs.Shapes.{same_or_other, put_here, put_other, put_each, put_fact, put_none}
 use Rattle.core_laws.proofs.Stages.{at_work}
 use Rattle.lists.specs.Lists.{Has}
+use Rattle.dice_jobs.specs.Jobs.{Checks, Computes, Work}
+use Rattle.task_share.proofs.Leads.{leads_after}
 
 -- ---- what a task asks next
 
@@ -28,9 +29,6 @@ module _ {K V : Type 0} (eq : K → K → Bool) (m : Meaning K V) (C : List (Lis
       let r = goes_first k (before ++ a ∷ []) A b later g.2 in
       ((g.0, g.1, r.0), subst (λ B. m.next k B v ≡ Asks b.keys) (append_assoc before (a ∷ []) A) r.1)
 
-  all_true : (A : List (Answered K V)) → AreValues eq m C v A → AllTrue (HasValue eq m C v) A
-  all_true [] h = tt
-  all_true (b ∷ A) h = (h.0, all_true A h.1)
 
 module _ {K V : Type 0} (eq : K → K → Bool) (equality : IsEquality eq) (m : Meaning K V) (law : IsLawful m) (R : List (Told K V)) (v : ℕ) where
   -- each key of the next batch, of a run or of a check, is one that the task's key asks
@@ -42,7 +40,7 @@ module _ {K V : Type 0} (eq : K → K → Bool) (equality : IsEquality eq) (m : 
       record {
         computed = computed;
         before = A;
-        goes = goes_alike eq m law (commits_of R) (commits_of R) was v k [] A f.0 (all_true eq m (commits_of R) v A g.2);
+        goes = goes_alike eq m law (commits_of R) (commits_of R) was v k [] A f.0 g.2;
         keys = ks;
         asks = law.asks_alike k A was v ks (subst (λ l. m.next k A was ≡ Asks l) n.keys_are f.1);
         among = h;

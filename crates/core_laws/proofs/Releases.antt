@@ -8,13 +8,15 @@ use Rattle.dice_model.specs.Eval.{HasValue}
 use Rattle.task_share.specs.Asked.{By, Promised, Tasked, is_by, Asked}
 use Rattle.journal.specs.declared.event.Told.{Told}
 use Rattle.journal.specs.Events.{commits_of}
-use Rattle.core_laws.specs.Tasks.{Works, Work, IsReady, IsWaiting, Task, value_of}
+use Rattle.core_laws.specs.Tasks.{Works, IsReady, IsWaiting, Task, value_of}
 use Rattle.core_laws.specs.Stands.{VersionStands}
 use Rattle.core_laws.specs.Changes.{Puts, SameLives, Leaves}
-use Rattle.core_laws.proofs.Shapes.{same_or_other, leads_fewer, and_none, not_both}
+use Rattle.core_laws.proofs.Shapes.{same_or_other, and_none, not_both}
 use Rattle.core_laws.proofs.Stages.{at_work, work_next, turned}
 use Rattle.lists.specs.Lists.{Has}
 use Rattle.std.proofs.lemmas.Bool.{and_parts}
+use Rattle.dice_jobs.specs.Jobs.{Work}
+use Rattle.task_share.proofs.Leads.{leads_fewer}
 
 module _ {K : Type 0} (eq : K → K → Bool) (k : K) (b : By K) (s u : Asked K) (left : Leaves eq k b s u) where
   pub left_fewer : (q : K) (a : By K) → u.asks q a ≡ true → s.asks q a ≡ true

@@ -4,11 +4,11 @@ use Rattle.std.proofs.lemmas.Bool.{and_parts, and_from, and_left, or_left, or_ri
 use Rattle.dice_key.specs.Meaning.{Meaning, Answered}
 use Rattle.dice_key.specs.Lawful.{IsEquality}
 use Rattle.dice_key.specs.declared.universe.Kind.TheVariants.{Injected}
-use Rattle.dice_model.proofs.Finite.{has_or_not}
+use Rattle.dice_key.proofs.KeySets.{has_or_not}
 use Rattle.task_share.specs.Asked.{By, Promised, Tasked, is_by, Asked, Leads, stays, asks_on, HasNoCycle, IsDone, Takes}
 use Rattle.journal.specs.declared.event.Told.{Told}
 use Rattle.journal.specs.Events.{Asking, live_at, opened_at, open_count}
-use Rattle.core_laws.specs.Tasks.{Outcome, Work, IsReady, IsOut, IsWaiting, Standing, Works, Ended, Task, goes_on, waits_for, is_going, batch_of}
+use Rattle.core_laws.specs.Tasks.{Outcome, IsReady, IsOut, IsWaiting, Standing, Works, Ended, Task, goes_on, waits_for, is_going, batch_of}
 use Rattle.core_laws.specs.Stands.{VersionStands, IsAtRest}
 use Rattle.core_laws.specs.Changes.{Puts, SameLives, Lives, Joins, Leaves, Withdraws, Parks}
 use Rattle.core_laws.proofs.Shapes.{not_both, same_or_other, put_here, put_other, lives_here, lives_other, asks_nothing}
@@ -16,6 +16,8 @@ use Rattle.core_laws.proofs.OfKey.{asked_before, promise_stays, others_stay}
 use Rattle.core_laws.proofs.Drops.{going_task, asked_stays}
 use Rattle.lists.proofs.Distinct.{few}
 use Rattle.lists.specs.Lists.{AreDistinct, Has}
+use Rattle.dice_jobs.specs.Jobs.{Work}
+use Rattle.task_share.proofs.Leads.{leads_more}
 
 -- whoever is asked for has a task
 abbrev pub AreTasked : {K V : Type 0} → Asked K → (K → Option (Task K V)) → Type 0
@@ -126,10 +128,6 @@ module _ {K V : Type 0} (eq : K → K → Bool) (equality : IsEquality eq) (m : 
   }
 
 module _ {K : Type 0} where
-  leads_more : (s : Asked K) (a b c : K) → Leads s a b → s.asks c (Tasked b) ≡ true → Leads s a c
-  leads_more s a b c stays e = asks_on e stays
-  leads_more s a b c (asks_on {i = i} d l) e = asks_on d (leads_more s i b c l e)
-
   module _ (eq : K → K → Bool) (equality : IsEquality eq) (s : Asked K) (all : List K) (finite : (q : K) → s.live q ≡ true → Has all q) (free : HasNoCycle s)
       (waits : (q : K) → s.live q ≡ true → (i : K) × (s.asks i (Tasked q) ≡ true) × (s.live i ≡ true)) where
     descends : (n : ℕ) (q : K) (path : List K) → ((e : K) → Has (q ∷ path) e → Leads s e q) → ((e : K) → Has (q ∷ path) e → s.live e ≡ true) → AreDistinct (q ∷ path) → length all < length (q ∷ path) + n → ⊥

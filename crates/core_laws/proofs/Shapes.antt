@@ -11,6 +11,7 @@ use Rattle.core_laws.specs.Stands.{VersionStands}
 use Rattle.core_laws.specs.Changes.{Puts, Lives}
 use Rattle.lists.specs.Lists.{Has}
 use Rattle.std.proofs.lemmas.Bool.{and_parts}
+use Rattle.task_share.proofs.Leads.{leads_after, leads_fewer}
 
 pub and_none : (a : Bool) → (a && false) ≡ false
 and_none true = refl
@@ -41,16 +42,6 @@ module _ {K V : Type 0} where
       of_standing (Ended o) f = refl
 
 -- ---- chains of asks
-
-module _ {K : Type 0} where
-  pub leads_after : (s : Asked K) (a b c : K) → Leads s a b → Leads s b c → Leads s a c
-  leads_after s a b c stays m = m
-  leads_after s a b c (asks_on {i = i} e l) m = asks_on e (leads_after s i b c l m)
-
-  -- a chain over fewer asks is one over all
-  pub leads_fewer : (s u : Asked K) → ((q : K) (a : By K) → u.asks q a ≡ true → s.asks q a ≡ true) → (a b : K) → Leads u a b → Leads s a b
-  leads_fewer s u f a b stays = stays
-  leads_fewer s u f a b (asks_on {i = i} e l) = asks_on (f i (Tasked a) e) (leads_fewer s u f i b l)
 
 -- ---- one task that is put
 

@@ -8,7 +8,7 @@ use Rattle.journal.specs.declared.event.Told.{Told}
 use Rattle.journal.specs.declared.event.Told.TheVariants.{Open, Commit}
 use Rattle.journal.specs.Events.{commits_of, open_count}
 use Rattle.journal.specs.Law.{IsAllowed, IsLawfulBack, IsWanted}
-use Rattle.core_laws.specs.Tasks.{Work, IsReady, IsOut, Standing, Works, Ended, Task, goes_on, is_going}
+use Rattle.core_laws.specs.Tasks.{IsReady, IsOut, Standing, Works, Ended, Task, goes_on, is_going}
 use Rattle.core_laws.specs.Stands.{VersionStands, IsAtRest}
 use Rattle.core_laws.specs.Promises.{nobody}
 use Rattle.core_laws.specs.Desk.{World, Desk, DeskStays, AreAll, IsCount, Stand, Rests, with_version, ready_in, out_in, is_ready, is_out}
@@ -20,6 +20,7 @@ use Rattle.core_laws.proofs.Empties.{idle, emptied, first_rests}
 use Rattle.core_laws.proofs.Held.{climbs, askers_live, held_wanted, all_wanted}
 use Rattle.core_laws.proofs.Rest.{AreTasked, rests, quiet}
 use Rattle.lists.specs.Lists.{Has}
+use Rattle.dice_jobs.specs.Jobs.{Work}
 
 -- ---- the tasks at work of one version are finitely many
 

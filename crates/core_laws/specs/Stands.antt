@@ -3,20 +3,15 @@ use Rattle.std.specs.Prelude.{◌≡◌, ◌≢◌, ◌≤◌, ◌<◌, ◌⊎�
 use Rattle.dice_key.specs.Meaning.{Meaning, Answered, Asks}
 use Rattle.dice_key.specs.declared.universe.Kind.TheVariants.{Injected}
 use Rattle.dice_model.specs.Eval.{HasValue}
-use Rattle.dice_model.specs.Asks.{Goes, IsTrace, AsksFor, Reaches, IsCycle}
+use Rattle.dice_model.specs.Asks.{Goes, IsTrace, AsksFor, Reaches, IsCycle, AllTrue}
 use Rattle.task_share.specs.Asked.{By, Promised, Tasked, Asked, HasNoCycle, IsDone}
 use Rattle.journal.specs.declared.event.Told.{Told}
 use Rattle.journal.specs.declared.event.Told.TheVariants.{Commit, Open, Close, Ask, Leave, Start, Keep, End, Cyclic, Drop, Lost}
 use Rattle.journal.specs.Events.{Asking, ByValue, ByCycle, names_by, begins, commits_of, opened_at, open_count, live_at, decided, asked_in_epoch, is_running, is_base}
-use Rattle.journal.specs.Law.{AreValues}
-use Rattle.core_laws.specs.Tasks.{Work, Computes, Checks, Phase, IsReady, IsOut, IsWaiting, Outcome, WithValue, WithCycle, WithNothing, Standing, Works, Ended, Task, is_going, is_computing, batch_of, value_of}
+use Rattle.core_laws.specs.Tasks.{Phase, IsReady, IsOut, IsWaiting, Outcome, WithValue, WithCycle, WithNothing, Standing, Works, Ended, Task, is_going, is_computing, batch_of, value_of}
 use Rattle.lists.specs.Lists.{Has}
-
--- these batches have the keys of the first batches of a trace, in order
-abbrev pub GoesAlong : {K V : Type 0} → List (Answered K V) → List (Answered K V) → Type 0
-GoesAlong T [] = Unit {0}
-GoesAlong [] (a ∷ A) = ⊥
-GoesAlong (t ∷ T) (a ∷ A) = (a.keys ≡ t.keys) × GoesAlong T A
+use Rattle.dice_jobs.specs.Jobs.{Checks, Computes, Work}
+use Rattle.dice_jobs.specs.Truths.{Follows}
 
 module _ {K V : Type 0} (eq : K → K → Bool) where
   -- a Lost of (v, k) stands in the epoch of v
@@ -80,7 +75,7 @@ module _ {K V : Type 0} (eq : K → K → Bool) (m : Meaning K V) where
   -- of its trace's first batches
   abbrev pub WorkStands : List (Told K V) → ℕ → K → Work K V → List (Answered K V) → Type 0
   WorkStands R v k Computes A = Goes eq m (commits_of R) v k [] A
-  WorkStands R v k (Checks x T b) A = WasSeen R k x T b × GoesAlong T A × AreValues eq m (commits_of R) v A
+  WorkStands R v k (Checks x T b) A = WasSeen R k x T b × Follows T A × AllTrue (HasValue eq m (commits_of R) v) A
 
   pub record AtWork (R : List (Told K V)) (v : ℕ) (k : K) (w : Work K V) (p : Phase K) (A : List (Answered K V)) : Type 0 where
     pub undecided : decided eq R v k ≡ None

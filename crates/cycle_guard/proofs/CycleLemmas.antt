@@ -2,6 +2,7 @@
 use Rattle.std.proofs.Common.{◌≡◌, ◌⊎◌, inl, inr, Bool, true, false, ◌&&◌, ◌||◌, refl, sym, ◌∙◌, subst}
 use Rattle.dice_key.specs.Lawful.{IsEquality}
 use Rattle.task_share.specs.Asked.{Asked, By, Tasked, is_by, Leads, stays, asks_on, HasNoCycle}
+use Rattle.task_share.proofs.Leads.{leads_after, leads_fewer, leads_more}
 
 one_of : (x b c : Bool) → (x || (b && c)) ≡ true → (x ≡ true) ⊎ ((b ≡ true) × (c ≡ true))
 one_of true b c e = inl refl
@@ -9,18 +10,6 @@ one_of false true c e = inr (refl, e)
 one_of false false c e = cc
 
 module _ {K : Type 0} where
-  leads_more : (s : Asked K) (a b c : K) → Leads s a b → s.asks c (Tasked b) ≡ true → Leads s a c
-  leads_more s a b c stays e = asks_on e stays
-  leads_more s a b c (asks_on {i = i} d l) e = asks_on d (leads_more s i b c l e)
-
-  leads_on : (s : Asked K) (a b c : K) → Leads s a b → Leads s b c → Leads s a c
-  leads_on s a b c stays m = m
-  leads_on s a b c (asks_on {i = i} d l) m = asks_on d (leads_on s i b c l m)
-
-  leads_fewer : (s t : Asked K) → ((q : K) (a : By K) → t.asks q a ≡ true → s.asks q a ≡ true) → (a b : K) → Leads t a b → Leads s a b
-  leads_fewer s t f a b stays = stays
-  leads_fewer s t f a b (asks_on {i = i} e l) = asks_on (f i (Tasked a) e) (leads_fewer s t f i b l)
-
   pub fewer_asks : (s t : Asked K) → HasNoCycle s → ((q : K) (a : By K) → t.asks q a ≡ true → s.asks q a ≡ true) → HasNoCycle t
   fewer_asks s t free f k i e l = free k i (f i (Tasked k) e) (leads_fewer s t f i k l)
 
@@ -46,7 +35,7 @@ module _ {K : Type 0} where
   wait_closes_none s t k i o free n a b e l =
       elim (leads_split s t k i o b a l) as (λ _. ⊥) [
         | inl p ↦ elim (o.only b a e) as (λ _. ⊥) [ inl q ↦ free a b q p | inr q ↦ n (subst (λ x. Leads s i x) q.1 (subst (λ x. Leads s x a) q.0 p)) ]
-        | inr p ↦ elim (o.only b a e) as (λ _. ⊥) [ inl q ↦ n (leads_on s i b k (leads_more s i a b p.1 q) p.0) | inr q ↦ n (subst (λ x. Leads s x k) q.0 p.0) ]
+        | inr p ↦ elim (o.only b a e) as (λ _. ⊥) [ inl q ↦ n (leads_after s i b k (leads_more s i a b p.1 q) p.0) | inr q ↦ n (subst (λ x. Leads s x k) q.0 p.0) ]
       ]
 
   pub more_waits : (eq : K → K → Bool) → IsEquality eq → (s t : Asked K) (from to : K) → HasNoCycle s → (Leads s to from → ⊥) → ((q : K) (a : By K) → t.asks q a ≡ (s.asks q a || (eq to q && is_by eq (Tasked from) a))) → HasNoCycle t

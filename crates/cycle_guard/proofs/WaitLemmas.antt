@@ -11,11 +11,7 @@ use Rattle.lists.proofs.Members.{has_either, has_left, has_right}
 use Rattle.lists.proofs.Options.{was_new, was_seen}
 use Rattle.lists.specs.Lists.{Has}
 use Rattle.std.proofs.lemmas.List.{nil_from_length}
-
--- a chain goes on by one more ask
-leads_on : {K : Type 0} (s : Asked K) (k i j : K) → Leads s k i → s.asks j (Tasked i) ≡ true → Leads s k j
-leads_on s k i j stays a = asks_on a stays
-leads_on s k i j (asks_on p r) a = asks_on p (leads_on s _ i j r a)
+use Rattle.task_share.proofs.Leads.{leads_more}
 
 module _ {K T : Type 0} (eq : K → K → Bool) (ps : List (K × Share K T)) (start : K) where
   -- what was seen waits for what was seen or is to do; and the start leads to all that was seen or is to do
@@ -85,7 +81,7 @@ module _ {K T : Type 0} (eq : K → K → Bool) (law : IsEquality eq) (ps : List
       seen_led = λ a s. elim (was a s) as (λ _. Leads (asked_of eq ps) start a) [ inl p ↦ subst (Leads (asked_of eq ps) start) p key_led | inr p ↦ w.seen_led a p ];
       todo_led = λ a h. elim (has_either rest (waits_at eq ps key) a h) as (λ _. Leads (asked_of eq ps) start a) [
         | inl i ↦ w.todo_led a (subst (λ t. Has t a) (sym split) (has_left rest (key ∷ []) a i))
-        | inr j ↦ leads_on (asked_of eq ps) start key a key_led (mirrored a key ∙ has_any eq law (waits_at eq ps key) a j)
+        | inr j ↦ leads_more (asked_of eq ps) start key a key_led (mirrored a key ∙ has_any eq law (waits_at eq ps key) a j)
       ];
     })
 

@@ -18,6 +18,7 @@ use Rattle.lists.proofs.Distinct.{distinct_after, distinct_before, distinct_end}
 use Rattle.lists.proofs.Each.{all_end, all_middle}
 use Rattle.lists.proofs.Members.{has_last, has_right}
 use Rattle.lists.specs.Lists.{AreDistinct, Has}
+use Rattle.dice_model.proofs.Inputs.{lookup_unset}
 
 -- ---- lists
 
@@ -103,10 +104,6 @@ module _ {K V A B : Type 0} where
       ∙ append_assoc (keys_of (pairs_of (take i ps))) (arc_value p.0 ∷ []) (keys_of (pairs_of (drop (i + 1) ps))))))
 
 module _ {K V : Type 0} (eq : K → K → Bool) (law : IsEquality eq) where
-  lookup_unset : (c : List (K × V)) (k : K) → (Has (keys_of c) k → ⊥) → lookup (eq k) c ≡ None
-  lookup_unset [] k n = refl
-  lookup_unset (p ∷ c) k n = let e = unequal eq law k p.0 (λ q. n (inl (sym q))) in rw e (lookup_unset c k (λ h. n (inr h)))
-
   lookup_other : (c : List (K × V)) (k q : K) (x : V) → eq q k ≡ false → lookup (eq q) (c ++ (k, x) ∷ []) ≡ lookup (eq q) c
   lookup_other [] k q x e = rw e refl
   lookup_other (p ∷ c) k q x e = ap (cond (eq q p.0) (Some p.1)) (lookup_other c k q x e)

@@ -15,7 +15,7 @@ use Rattle.dice_jobs.proofs.Followed.{same_front, changed_front, follows_next, t
 use Rattle.lists.specs.Lists.{Has}
 
 module _ {K V : Type 0} where
-  asked : (s : Step K V) (ks : List K) → of_move s ≡ Wanting ks → s ≡ Asks ks
+  pub asked : (s : Step K V) (ks : List K) → of_move s ≡ Wanting ks → s ≡ Asks ks
   asked (Asks js) ks e = cc
   asked (Ends x) ks e = cc
 

@@ -1,5 +1,5 @@
 -- Keys in lists, by a test that is true exactly of what is the same; and sets of pointers to keys, read without the pointers.
-use Rattle.std.proofs.Common.{◌≡◌, ◌||◌, ◌++◌, inl, inr, Bool, true, false, cond, List, [], ◌∷◌, refl, sym, ap, ◌∙◌}
+use Rattle.std.proofs.Common.{◌≡◌, ◌⊎◌, ◌||◌, ◌++◌, inl, inr, Bool, true, false, cond, List, [], ◌∷◌, refl, sym, ap, ◌∙◌}
 use Rattle.std.specs.Arc.{arc_value, arc_with_value}
 use Rattle.std.specs.declared.sync.Arc.{Arc}
 use Rattle.std.specs.List.{list_any}
@@ -25,6 +25,24 @@ module _ {K : Type 0} (eq : K → K → Bool) (law : IsEquality eq) where
       by_test : (r : Bool) → eq a b ≡ r → eq a b ≡ false
       by_test true e = absurd (n (law.same a b e))
       by_test false e = e
+
+  pub same_or_not : (a b : K) → (a ≡ b) ⊎ (a ≡ b → ⊥)
+  same_or_not a b = by_test (eq a b) refl
+    where
+      by_test : (r : Bool) → eq a b ≡ r → (a ≡ b) ⊎ (a ≡ b → ⊥)
+      by_test true e = inl (law.same a b e)
+      by_test false e = inr (λ p. let f : false ≡ true = sym e ∙ (ap (eq a) (sym p) ∙ law.itself a) in cc)
+
+  -- whether a key is one of these
+  pub has_or_not : (ks : List K) (k : K) → Has ks k ⊎ (Has ks k → ⊥)
+  has_or_not [] k = inr (λ h. h)
+  has_or_not (q ∷ ks) k = elim (same_or_not q k) as (λ _. Has (q ∷ ks) k ⊎ (Has (q ∷ ks) k → ⊥)) [
+    | inl e ↦ inl (inl e)
+    | inr n ↦ elim (has_or_not ks k) as (λ _. Has (q ∷ ks) k ⊎ (Has (q ∷ ks) k → ⊥)) [
+      | inl h ↦ inl (inr h)
+      | inr m ↦ inr (λ h. elim h as (λ _. ⊥) [ inl e ↦ n e | inr g ↦ m g ])
+    ]
+  ]
 
   pub any_has : (ks : List K) (k : K) → list_any (eq k) ks ≡ true → Has ks k
   any_has [] k e = cc

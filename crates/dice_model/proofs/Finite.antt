@@ -5,6 +5,7 @@ use Rattle.std.specs.List.{AllZip}
 use Rattle.std.proofs.lemmas.Option.{none-some}
 use Rattle.dice_key.specs.Meaning.{Meaning, Answered, Step, Asks, Ends}
 use Rattle.dice_key.specs.Lawful.{IsLawful, IsEquality}
+use Rattle.dice_key.proofs.KeySets.{has_or_not}
 use Rattle.dice_key.specs.declared.universe.Kind.{Kind}
 use Rattle.dice_key.specs.declared.universe.Kind.TheVariants.{Injected, Computed, Projection}
 use Rattle.dice_model.specs.Log.{input}
@@ -12,34 +13,6 @@ use Rattle.dice_model.specs.Eval.{answers, on_step, reached, by_kind, eval, HasV
 use Rattle.dice_model.specs.Asks.{Goes, AsksFor, Reaches, here, through, GoesRound, IsCycle, IsClosed, ReachesCycle}
 use Rattle.lists.proofs.Distinct.{few}
 use Rattle.lists.specs.Lists.{AreDistinct, Has}
-
--- ---- lists without repetition
-
-module _ {X : Type 0} where
-  -- a list without one element that it has
-  without : (x : X) (all : List X) → Has all x → (rest : List X) × (length all ≡ suc (length rest)) × ((y : X) → Has all y → (y ≡ x → ⊥) → Has rest y)
-  without x [] h = absurd h
-  without x (z ∷ zs) (inl e) = (zs, refl, λ y h n. elim h as (λ _. Has zs y) [ inl f ↦ absurd (n (sym f ∙ e)) | inr g ↦ g ])
-  without x (z ∷ zs) (inr h) =
-      let r = without x zs h in
-      (z ∷ r.0, ap suc r.1, λ y h n. elim h as (λ _. (z ≡ y) ⊎ Has r.0 y) [ inl f ↦ inl f | inr g ↦ inr (r.2 y g n) ])
-
-module _ {K : Type 0} (eq : K → K → Bool) (law : IsEquality eq) where
-  by_answer : (x y : K) (r : Bool) → eq x y ≡ r → (x ≡ y) ⊎ (x ≡ y → ⊥)
-  by_answer x y true e = inl (law.same x y e)
-  by_answer x y false e = inr (λ p. let a : false ≡ true = sym e ∙ (ap (eq x) (sym p) ∙ law.itself x) in cc)
-
-  -- whether a key is one of these
-  pub has_or_not : (xs : List K) (k : K) → Has xs k ⊎ (Has xs k → ⊥)
-  has_or_not [] k = inr (λ h. h)
-  has_or_not (x ∷ xs) k =
-      elim (by_answer x k (eq x k) refl) as (λ _. Has (x ∷ xs) k ⊎ (Has (x ∷ xs) k → ⊥)) [
-        | inl e ↦ inl (inl e)
-        | inr n ↦ elim (has_or_not xs k) as (λ _. Has (x ∷ xs) k ⊎ (Has (x ∷ xs) k → ⊥)) [
-          | inl h ↦ inl (inr h)
-          | inr q ↦ inr (λ h. elim h as (λ _. ⊥) [ inl e ↦ n e | inr g ↦ q g ])
-        ]
-      ]
 
 -- ---- what has no value asks something that has none
 

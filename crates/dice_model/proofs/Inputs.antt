@@ -8,7 +8,7 @@ use Rattle.dice_key.specs.declared.universe.Kind.TheVariants.{Injected}
 use Rattle.dice_model.specs.Log.{IsLog, IsCommit, input, version_of, last_value_of}
 use Rattle.dice_model.specs.Eval.{HasValue}
 use Rattle.dice_model.specs.Newest.{IsNewest, IsUnset}
-use Rattle.dice_model.proofs.Finite.{has_or_not}
+use Rattle.dice_key.proofs.KeySets.{has_or_not}
 use Rattle.lists.proofs.Each.{all_take}
 use Rattle.lists.proofs.Members.{has_middle}
 use Rattle.lists.specs.Lists.{AreDistinct, Has}
@@ -44,7 +44,7 @@ module _ {K V : Type 0} (eq : K → K → Bool) (law : IsEquality eq) where
       at true e r = absurd (d.0 (subst (Has (keys_of c)) (law.same k p.0 e) (key_has c k x h)))
       at false e r = rw e r
 
-  lookup_unset : (c : List (K × V)) (k : K) → (Has (keys_of c) k → ⊥) → lookup (eq k) c ≡ None
+  pub lookup_unset : (c : List (K × V)) (k : K) → (Has (keys_of c) k → ⊥) → lookup (eq k) c ≡ None
   lookup_unset [] k n = refl
   lookup_unset (p ∷ c) k n = at (eq k p.0) refl (lookup_unset c k (λ h. n (inr h)))
     where

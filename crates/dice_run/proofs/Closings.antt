@@ -25,12 +25,7 @@ use Rattle.dice_run.proofs.Ending.{closed_fate}
 use Rattle.dice_run.proofs.Recorded.{begins_on, begins_itself, decided_on, knows_closed}
 use Rattle.dice_run.proofs.Deciding.{decided_at_close}
 use Rattle.lists.specs.Lists.{Has}
-
-some_same : {X : Type 0} {x y : X} → Some x ≡ Some y → x ≡ y
-some_same e = cc
-
-none_some : {X : Type 0} {x : X} → None ≡ Some x → ⊥
-none_some e = cc
+use Rattle.lists.proofs.Options.{none_some, some_same}
 
 -- ---- the end, before all lines
 

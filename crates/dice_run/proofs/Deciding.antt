@@ -18,12 +18,7 @@ use Rattle.dice_run.specs.Events.{Events, IsDecidedIn}
 use Rattle.dice_run.specs.Recording.{WasDecided}
 use Rattle.dice_run.proofs.Seating.{stands_below}
 use Rattle.lists.specs.Lists.{Has}
-
-some_same : {X : Type 0} {x y : X} → Some x ≡ Some y → x ≡ y
-some_same e = cc
-
-none_some : {X : Type 0} {x : X} → None ≡ Some x → ⊥
-none_some e = cc
+use Rattle.lists.proofs.Options.{none_some, some_same}
 
 abbrev IsDecidedBack : Events → ℕ → Key → Type 0
 IsDecidedBack R v k = (d : Decision) × (decided key_equal R v k ≡ Some d)

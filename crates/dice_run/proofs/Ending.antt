@@ -27,12 +27,7 @@ use Rattle.dice_run.proofs.Recorded.{records_first}
 use Rattle.lists.proofs.Members.{has_end, has_last, has_more}
 use Rattle.lists.proofs.Places.{drop_item}
 use Rattle.lists.specs.Lists.{Has}
-
-some_same : {X : Type 0} {x y : X} → Some x ≡ Some y → x ≡ y
-some_same e = cc
-
-none_some : {X : Type 0} {x : X} → None ≡ Some x → ⊥
-none_some e = cc
+use Rattle.lists.proofs.Options.{none_some, some_same}
 
 -- ---- the lines
 

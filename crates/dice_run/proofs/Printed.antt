@@ -28,6 +28,7 @@ use Rattle.dice_run.specs.declared.printer.Printer.{Printer}
 use Rattle.dice_run.proofs.Ending.{had_later}
 use Rattle.lists.proofs.Members.{has_end}
 use Rattle.lists.specs.Lists.{Has}
+use Rattle.lists.proofs.Options.{none_some}
 
 some_false : Some false ≡ Some true → ⊥
 some_false e = cc
@@ -236,9 +237,6 @@ pub record Printing (ls rest : List Line) (d : Driver) (t : Printer) : Type 0 wh
   pub stands : Stands ls rest d t plan past
   pub order : InOrder past rest
   pub goes_on : (more : List ℕ) → IsOutputFrom (log_of (plan_of ls).log) (is_cancelled ls) plan rest more → IsOutput ls (t.out.items ++ more)
-
-none_some : {X : Type 0} {x : X} → None ≡ Some x → ⊥
-none_some e = cc
 
 pub printing_first : (ls : List Line) (d : Driver) (t : Printer) → IsDone ls d → InOrder nothing ls → t.out.items ≡ [] → t.told ≡ 0 → t.newest ≡ 0 → ((q : List ℕ) → get (pointwise nat_eq) t.versions q ≡ None) → Printing ls ls d t
 printing_first ls d t done o eo et en ev = record {

@@ -44,12 +44,8 @@ use Rattle.dice_run.proofs.Seating.{Onward, onward, onward_same, still_open, sti
 use Rattle.lists.proofs.Distinct.{distinct_end}
 use Rattle.lists.proofs.Members.{has_last}
 use Rattle.lists.specs.Lists.{AreDistinct, Has}
-
-some_same : {X : Type 0} {x y : X} → Some x ≡ Some y → x ≡ y
-some_same e = cc
-
-none_some : {X : Type 0} {x : X} → None ≡ Some x → ⊥
-none_some e = cc
+use Rattle.bulk_script.proofs.Blocks.{differ}
+use Rattle.lists.proofs.Options.{none_some, some_same}
 
 -- what is told of a key is so over each log that goes on
 pub told_on : (C D : List (List (Key × Value))) (v : ℕ) (k : Key) (text : List ℕ) → v ≤ length C → IsToldOf C v k text → IsToldOf (C ++ D) v k text
@@ -221,13 +217,6 @@ at_name t x f = ap (λ b. cond b x (f t)) (own_name t)
 pub past_name : {X : Type 0} (t q : List ℕ) (x : Option X) (f : List ℕ → Option X) → bytes_eq t q ≡ false → with_named t x f q ≡ f q
 past_name t q x f e = ap (λ b. cond b x (f q)) e
 
-pub other_name : (t q : List ℕ) → (t ≡ q → ⊥) → bytes_eq t q ≡ false
-other_name t q n = by_test (bytes_eq t q) refl
-  where
-    by_test : (b : Bool) → bytes_eq t q ≡ b → bytes_eq t q ≡ false
-    by_test true e = absurd (n (same_name t q e))
-    by_test false e = e
-
 -- either it is the name, or it is another
 pub by_name : (t q : List ℕ) (G : Type 0) → (t ≡ q → G) → (bytes_eq t q ≡ false → G) → G
 by_name t q G f g = by_test (bytes_eq t q) refl
@@ -263,7 +252,7 @@ module _ (id : TableId) (ends : Ends) (d e : Driver) (p : Plan) (past : Past) (t
 
   -- an open transaction has another name than the new one
   other : (q : List ℕ) (y : Transaction) → transaction_of d q ≡ Some y → bytes_eq t q ≡ false
-  other q y h = other_name t q (λ s. none_some (sym new ∙ (ap past.opened s ∙ (m.open_ q y h).2)))
+  other q y h = differ t q (λ s. none_some (sym new ∙ (ap past.opened s ∙ (m.open_ q y h).2)))
 
   opens_kept : (q : List ℕ) (y : Transaction) → transaction_of d q ≡ Some y → transaction_of e q ≡ Some y
   opens_kept q y h = x.transactions q ∙ (past_name t q (Some x.transaction) (transaction_of d) (other q y h) ∙ h)
@@ -335,7 +324,7 @@ module _ (id : TableId) (ends : Ends) (d e : Driver) (p : Plan) (past : Past) (t
 
 -- a request that was made before has another name than a new one
 pub other_request : (id : TableId) (d : Driver) (p : Plan) (past : Past) (q : List ℕ) (r : Planned) → Matches id d p past → past.asked q ≡ None → Has p.requests r → bytes_eq q r.name ≡ false
-other_request id d p past q r m new h = other_name q r.name (λ s. none_some (sym new ∙ (ap past.asked s ∙ (m.requests r h).made)))
+other_request id d p past q r m new h = differ q r.name (λ s. none_some (sym new ∙ (ap past.asked s ∙ (m.requests r h).made)))
 
 module _ (id : TableId) (ends : Ends) (d e : Driver) (p : Plan) (past : Past) (r : Request) (w : Wish) (m : Matches id d p past) (new : IsNew past r) (x : DidAsk id r (key_of w) d e) where
   abbrev pub asks_own : List (Told Key Value)

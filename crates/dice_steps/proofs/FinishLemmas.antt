@@ -24,7 +24,7 @@ use Rattle.core_laws.specs.Changes.{ChangesFirst}
 use Rattle.core_laws.specs.Desk.{World, ready_in}
 use Rattle.core_laws.proofs.Shapes.{same_or_other}
 use Rattle.core_laws.proofs.Turns.{stands_here}
-use Rattle.dice_tasks.specs.Helds.{Held, Ahead, task_of, held_of, held_ended, doing}
+use Rattle.dice_tasks.specs.Helds.{Held, Ahead, task_of, held_of, held_ended}
 use Rattle.dice_tasks.specs.Hands.{DeskSeen, desk_of, tasks_of, KeepsHands, KeepsDeskRoom, Working}
 use Rattle.dice_tasks.specs.Endings.{TellsEnd, BeginsAnew, AreTasked}
 use Rattle.dice_tasks.specs.Entries.{EntriesStand}
@@ -166,11 +166,11 @@ module _ {K V : Type 0} (eq : K → K → Bool) (equality : IsEquality eq) (m : 
       | inl i ↦ (
           let z = valued m veq a x (sym step.outcome ∙ i.0) in
           let n = work.named k (held_of a IsOut) out in
-          value_on eq equality m law v k h ps qs d e x t tells W w owed work i.1 (held_of a IsOut) a.answered out (ap (λ o. Works (doing o) IsOut a.answered) z.0)
+          value_on eq equality m law v k h ps qs d e x t tells W w owed work i.1 (held_of a IsOut) a.answered out (ap (λ o. Works o IsOut a.answered) z.0)
           (subst (λ q. m.next q a.answered v ≡ Ends x) n.1 (subst (λ u. m.next a.name.key a.answered u ≡ Ends x) n.0 z.1)))
       | inr i ↦ (
           let work_is : a.work ≡ Checks x i.1 i.2 = subst (λ (z : Assigned K V). z.work ≡ Checks x i.1 i.2) job i.3 in
-          kept_on eq equality m law v k h ps qs d e x t tells W w owed work i.2 i.4 (held_of a IsOut) i.1 a.answered out (ap (λ o. Works (doing o) IsOut a.answered) work_is)
+          kept_on eq equality m law v k h ps qs d e x t tells W w owed work i.2 i.4 (held_of a IsOut) i.1 a.answered out (ap (λ o. Works o IsOut a.answered) work_is)
           (unchanged m veq a s step x i.1 i.2 work_is i.0))
     ]
 

@@ -12,7 +12,7 @@ use Rattle.journal.specs.declared.event.Told.{Told}
 use Rattle.core_laws.specs.Tasks.{IsReady, IsWaiting, Task, value_of}
 use Rattle.core_laws.specs.Desk.{World, DeskTurns, Stand, AreAll, with_version, is_ready, is_out}
 use Rattle.core_laws.proofs.StepsWaits.{released_ready_stand, released_on_stand, told_stand}
-use Rattle.dice_tasks.specs.Helds.{Held, FollowsOn, task_of, held_of, doing}
+use Rattle.dice_tasks.specs.Helds.{Held, FollowsOn, task_of, held_of}
 use Rattle.dice_tasks.specs.Hands.{DeskSeen, desk_of, tasks_of, seen_world, Readies, Working}
 use Rattle.dice_tasks.specs.Waitings.{IsTurned, Wakes, WakesOne, IsWoken, MayWake, WaitsOn}
 use Rattle.dice_tasks.proofs.EndsLemmas.{puts_of, same_tasks, same_table}
@@ -60,7 +60,7 @@ module _ {K V : Type 0} (eq : K → K → Bool) (equality : IsEquality eq) where
     wakes_here : (u : ℕ) → IsWoken eq m (reverse d.events) u k y ps → (W : List K) (w : World K V) (owed : ℕ) → Working eq m y.place.0 W w owed ps d → Working eq m y.place.0 W w owed qs e
     wakes_here u i W w owed work =
         works_on eq equality m v j (held_of a (IsWaiting ks)) (held_of b IsReady) ps qs was tasks one.live refl d e false false refl refl one.desk.out one.desk.rest.events W W w owed owed work
-        (released_ready_stand eq equality m law (reverse d.events) v w W (asked_of eq ps) (asked_of eq qs) (tasks_of eq ps) (tasks_of eq qs) k j (task_of (held_of a (IsWaiting ks))) (doing a.work) a.answered ks y.ahead.values (desk_of d) (desk_of e) owed owed work.stand
+        (released_ready_stand eq equality m law (reverse d.events) v w W (asked_of eq ps) (asked_of eq qs) (tasks_of eq ps) (tasks_of eq qs) k j (task_of (held_of a (IsWaiting ks))) a.work a.answered ks y.ahead.values (desk_of d) (desk_of e) owed owed work.stand
         one.asks one.live none there refl i.truly (puts_of eq j (Some (held_of b IsReady)) ps qs tasks) turns room)
       where
         v : ℕ

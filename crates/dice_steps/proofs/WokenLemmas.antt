@@ -12,12 +12,11 @@ use Rattle.dice_model.proofs.Traces.{zip_map}
 use Rattle.dice_jobs.specs.Jobs.{Assigned, Waits, Computes, Checks}
 use Rattle.task_share.specs.Asked.{By, Tasked, is_by}
 use Rattle.task_share.specs.Seen.{Share, task_at, asks, asked_of}
-use Rattle.task_share.specs.Lists as shared
 use Rattle.injected.specs.Seen.{Seen}
 use Rattle.injected.proofs.LogLemmas.{log_inputs}
 use Rattle.journal.specs.declared.event.Told.{Told}
 use Rattle.journal.specs.Events.{commits_of}
-use Rattle.core_laws.specs.Tasks.{Computes as DoesCompute, Checks as DoesCheck, IsReady, IsOut, IsWaiting, WithValue, Standing, Works, Ended, batch_of, value_of, waits_for}
+use Rattle.core_laws.specs.Tasks.{IsReady, IsOut, IsWaiting, WithValue, Standing, Works, Ended, batch_of, value_of, waits_for}
 use Rattle.core_laws.specs.Stands.{VersionStands}
 use Rattle.core_laws.proofs.Answered.{ended_value}
 use Rattle.core_laws.proofs.Shapes.{same_or_other, other_way}
@@ -34,17 +33,6 @@ use Rattle.lists.specs.Lists.{AreDistinct, Has}
 use Rattle.std.proofs.lemmas.Bool.{and_parts}
 
 -- ---- lists
-
-module _ {X : Type 0} where
-  -- things that stand once each, in the other words for it
-  has_again : (xs : List X) (x : X) → Has xs x → shared.Has xs x
-  has_again [] x h = h
-  has_again (y ∷ xs) x (inl e) = inl e
-  has_again (y ∷ xs) x (inr h) = inr (has_again xs x h)
-
-  distinct_again : (xs : List X) → shared.AreDistinct xs → AreDistinct xs
-  distinct_again [] d = tt
-  distinct_again (x ∷ xs) d = (λ h. d.0 (has_again xs x h), distinct_again xs d.1)
 
 module _ {X Y : Type 0} (f : X → Y) (xs : List X) (i : ℕ) (x : X) (within : i < length xs) (is : x ≡ get_or xs i x) where
   -- the first of a list with one more
@@ -179,9 +167,6 @@ module _ {K V : Type 0} (eq : K → K → Bool) (m : Meaning K V) (cells : Seen 
     others = λ j on. so.others j (has_any eq equality askers j (are j ∙ on));
   }
 
-pub distinct_askers : {K : Type 0} (ks : List K) → shared.AreDistinct ks → AreDistinct ks
-distinct_askers ks d = distinct_again ks d
-
 -- ---- each that waits for one key alone has answers to its batch
 
 module _ {K V : Type 0} where
@@ -190,8 +175,8 @@ module _ {K V : Type 0} where
   waits_of h ks e = by_standing h.standing refl e
     where
       by_standing : (s : Standing K V) → h.standing ≡ s → waits_for s ≡ Some ks → (a : Assigned K V) × (h ≡ held_of a (IsWaiting ks))
-      by_standing (Works DoesCompute (IsWaiting ls) A) i f = (record { name = h.name; answered = A; work = Computes }, ap (λ s. record { name = h.name; standing = s }) (i ∙ ap (λ z. Works DoesCompute (IsWaiting z) A) (same_Some ls ks f)))
-      by_standing (Works (DoesCheck x T b) (IsWaiting ls) A) i f = (record { name = h.name; answered = A; work = Checks x T b }, ap (λ s. record { name = h.name; standing = s }) (i ∙ ap (λ z. Works (DoesCheck x T b) (IsWaiting z) A) (same_Some ls ks f)))
+      by_standing (Works Computes (IsWaiting ls) A) i f = (record { name = h.name; answered = A; work = Computes }, ap (λ s. record { name = h.name; standing = s }) (i ∙ ap (λ z. Works Computes (IsWaiting z) A) (same_Some ls ks f)))
+      by_standing (Works (Checks x T b) (IsWaiting ls) A) i f = (record { name = h.name; answered = A; work = Checks x T b }, ap (λ s. record { name = h.name; standing = s }) (i ∙ ap (λ z. Works (Checks x T b) (IsWaiting z) A) (same_Some ls ks f)))
       by_standing (Works w IsReady A) i f = absurd (none-some ks f)
       by_standing (Works w IsOut A) i f = absurd (none-some ks f)
       by_standing (Ended o) i f = absurd (none-some ks f)

@@ -11,7 +11,7 @@ use Rattle.journal.specs.declared.event.Told.{Told}
 use Rattle.journal.specs.declared.event.Told.TheVariants.{Keep, End, Cyclic, Lost}
 use Rattle.journal.specs.Events.{commits_of}
 use Rattle.journal.specs.Law.{IsWanted}
-use Rattle.core_laws.specs.Tasks.{IsOut, Outcome, WithValue, WithCycle, WithNothing, Works, Ended, Computes, Checks, Task, goes_on, is_going}
+use Rattle.core_laws.specs.Tasks.{IsOut, Outcome, WithValue, WithCycle, WithNothing, Works, Ended, Task, goes_on, is_going}
 use Rattle.core_laws.specs.Stands.{CycleStands}
 use Rattle.core_laws.specs.Changes.{Puts, Lives, Withdraws}
 use Rattle.core_laws.specs.Desk.{World, DeskTurns, Stand, is_ready, is_out}
@@ -22,6 +22,7 @@ use Rattle.dice_tasks.specs.Hands.{DeskSeen, desk_of, tasks_of, seen_world, with
 use Rattle.dice_tasks.specs.Endings.{Quits, Knows, EndsTask, TellsEnd, ListsEnd}
 use Rattle.dice_tasks.proofs.EndsLemmas.{back_more, quits_keeps, quits_turns, outs_after, puts_of, named_put, working_knows}
 use Rattle.std.proofs.lemmas.Bool.{and_parts}
+use Rattle.dice_jobs.specs.Jobs.{Checks, Computes}
 
 -- ---- how a task ends in code
 

@@ -9,13 +9,14 @@ ghost use Rattle.task_share.specs.Seen.{asked_of, task_at, is_live, KeepsTasks, 
 ghost use Rattle.journal.specs.declared.event.Told.TheVariants.{Keep, End, Cyclic, Lost};
 ghost use Rattle.journal.specs.Events.{commits_of, ended_at};
 ghost use Rattle.journal.specs.Tell.{told};
-ghost use Rattle.core_laws.specs.Tasks.{Outcome as Came, WithValue, WithCycle, WithNothing, Works, Computes, Checks, IsOut};
+ghost use Rattle.core_laws.specs.Tasks.{Outcome as Came, WithValue, WithCycle, WithNothing, Works, IsOut};
 ghost use Rattle.core_laws.specs.Desk.{World, ready_in, out_in};
 ghost use Rattle.dice_tasks.specs.Helds.{Held, came};
 ghost use Rattle.dice_tasks.specs.Loads.{AreCopies};
 ghost use Rattle.dice_tasks.specs.Hands.{Working, Cleaning};
 ghost use Rattle.dice_tasks.specs.Endings.{Quits, Knows, DropsTask, DropsTasks, EndsTask, TellsEnd, ListsEnd, ComesOf, path_of, told_end, ReachesPath, EndsAsker, HasTold, EndsTasks, EndWithAskers, AreTasked, ends_so};
 ghost use Rattle.lists.specs.Lists.{Has};
+ghost use Rattle.dice_jobs.specs.Jobs.{Checks, Computes};
 
 use crate::Tasks;
 use crate::desk::Desk;

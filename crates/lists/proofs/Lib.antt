@@ -3,3 +3,4 @@ pub mod Distinct
 pub mod Each
 pub mod Places
 pub mod Options
+pub mod Lines

@@ -7,6 +7,12 @@ module _ {X : Type 0} where
   is_missing None e = refl
   is_missing (Some x) e = cc
 
+pub some_same : {X : Type 0} {x y : X} → Some x ≡ Some y → x ≡ y
+some_same e = cc
+
+pub none_some : {X : Type 0} {x : X} → None ≡ Some x → ⊥
+none_some e = cc
+
 module _ {X Y : Type 0} (f : X → Option Y) where
   pub chained : (o : Option X) (y : Y) → option_and_then f o ≡ Some y → (x : X) × (o ≡ Some x) × (f x ≡ Some y)
   chained None y e = cc

@@ -5,7 +5,7 @@ use Rattle.std.proofs.Math.Seq.{take-suc, take-length}
 use Rattle.std.proofs.lemmas.List.{take-append-drop}
 use Rattle.target_file.specs.declared.table.Rule.TheVariants.{WriteFile}
 use Rattle.target_file.specs.Tokens.{Scan, start, next}
-use Rattle.target_file.specs.Files.{names, line_feeds, IsBad, IsWritten}
+use Rattle.target_file.specs.Files.{names, IsBad, IsWritten}
 use Rattle.target_file.specs.Calls.{Call}
 use Rattle.target_file.specs.Machine.{State, first}
 use Rattle.target_file.specs.Code.{Refuses, Takes, IsEnd}
@@ -14,6 +14,7 @@ use Rattle.target_file.proofs.Prefixes.{blank, shift}
 use Rattle.target_file.proofs.Reached.{Reached, took, bad_byte, bad_end, good_end, end_only, reached_first}
 use Rattle.target_file.proofs.Counting.{weight, run_weight, out_few}
 use Rattle.std.proofs.lemmas.Bool.{cases_Bool}
+use Rattle.lists.specs.Lines.{line_feeds}
 
 -- behind these bytes: the bare scan, and the machine's state
 pub record Held (p : List ℕ) (b : Scan) (m : State) : Type 0 where

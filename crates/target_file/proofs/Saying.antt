@@ -7,6 +7,7 @@ use Rattle.std.specs.Cmp.Lexicographic.{bytes_decides}
 use Rattle.buck_label.specs.Paths.{IsPath, IsPathText, IsSegment, IsSegmentByte, is_segment_byte, joined}
 use Rattle.target_file.specs.Contents.{is_path, is_segment, parts, longer_first}
 use Rattle.std.proofs.lemmas.Bool.{eqb-true, leb-true, le-leb, cases_Bool}
+use Rattle.buck_label.proofs.PathLemmas.{no_slash}
 
 -- a test says whether the fact holds
 abbrev pub Says : Bool → Type 0 → Type 0
@@ -93,13 +94,6 @@ joined_parts [] = refl
 joined_parts (b ∷ x) = elim (cases_Bool (nat_eq b 47)) [
   | inl t ↦ let e : b ≡ 47 = eqb-true b 47 t in rw t (join_empty (parts x) (parts_some x) ∙ ap (λ (r : List ℕ). 47 ∷ r) (joined_parts x) ∙ ap (λ (c : ℕ). c ∷ x) (sym e))
   | inr f ↦ rw f (join_first b (parts x) (parts_some x) ∙ ap (λ (r : List ℕ). b ∷ r) (joined_parts x))
-]
-
--- segments, joined, have themselves as parts
-no_slash : (b : ℕ) → IsSegmentByte b → nat_eq b 47 ≡ false
-no_slash b h = elim (cases_Bool (nat_eq b 47)) [
-  | inl t ↦ let k : is_segment_byte 47 ≡ true = subst IsSegmentByte (eqb-true b 47 t) h in cc
-  | inr f ↦ f
 ]
 
 last_part : (s : List ℕ) → AllByRecursion IsSegmentByte s → parts s ≡ s ∷ []

@@ -2,6 +2,7 @@
 use Rattle.std.proofs.Common.{◌≡◌, ◌≤◌, ◌<◌, ◌+◌, ◌⊎◌, inl, inr, ℕ, zero, suc, Bool, true, false, not, cond, ◌&&◌, List, [], ◌∷◌, length, Some, refl, sym, ap, ◌∙◌, subst, arith}
 use Rattle.std.specs.Map.{lookup, keys_of}
 use Rattle.dice_key.specs.Lawful.{IsEquality}
+use Rattle.dice_key.proofs.KeySets.{same_or_not, has_or_not}
 use Rattle.task_share.specs.Asked.{By, Promised, Tasked, is_by, Asked, Held, by_promise, by_task, Leads, stays, asks_on, HasNoCycle, AskersLive, IsDone, Takes, IsSame, Cascade, DropsUnheld}
 use Rattle.task_share.specs.Seen.{Share, is_for, has_live, is_live, asked_of}
 use Rattle.lists.proofs.Distinct.{few}
@@ -9,44 +10,11 @@ use Rattle.lists.specs.Lists.{AreDistinct, Has}
 use Rattle.std.proofs.lemmas.Bool.{and_parts, cases_Bool}
 
 module _ {K : Type 0} where
-  abbrev without : (y : K) → (xs : List K) → Has xs y → List K
-  without y [] h = absurd h
-  without y (x ∷ xs) (inl e) = xs
-  without y (x ∷ xs) (inr h) = x ∷ without y xs h
-
-  without_length : (y : K) (xs : List K) (h : Has xs y) → suc (length (without y xs h)) ≡ length xs
-  without_length y [] h = absurd h
-  without_length y (x ∷ xs) (inl e) = refl
-  without_length y (x ∷ xs) (inr h) = ap suc (without_length y xs h)
-
-  still_has : (y : K) (xs : List K) (h : Has xs y) (q : K) → (y ≡ q → ⊥) → Has xs q → Has (without y xs h) q
-  still_has y [] h q n g = absurd h
-  still_has y (x ∷ xs) (inl e) q n (inl f) = absurd (n (sym e ∙ f))
-  still_has y (x ∷ xs) (inl e) q n (inr g) = g
-  still_has y (x ∷ xs) (inr h) q n (inl f) = inl f
-  still_has y (x ∷ xs) (inr h) q n (inr g) = inr (still_has y xs h q n g)
-
   has_asker : (s : Asked K) (k : K) → Held s k → (a : By K) × (s.asks k a ≡ true)
   has_asker s k (by_promise n e) = (Promised n, e)
   has_asker s k (by_task {j = j} e h) = (Tasked j, e)
 
   module _ (eq : K → K → Bool) (law : IsEquality eq) where
-    same_or_not : (x y : K) → (x ≡ y) ⊎ (x ≡ y → ⊥)
-    same_or_not x y = elim (cases_Bool (eq x y)) as (λ _. (x ≡ y) ⊎ (x ≡ y → ⊥)) [
-      | inl t ↦ inl (law.same x y t)
-      | inr n ↦ inr (λ e. (let t : eq x y ≡ true = subst (λ z. eq x z ≡ true) e (law.itself x) in let f : true ≡ false = sym t ∙ n in cc))
-    ]
-
-    pub has_or_not : (xs : List K) (y : K) → Has xs y ⊎ (Has xs y → ⊥)
-    has_or_not [] y = inr (λ h. h)
-    has_or_not (x ∷ xs) y = elim (same_or_not x y) as (λ _. Has (x ∷ xs) y ⊎ (Has (x ∷ xs) y → ⊥)) [
-      | inl e ↦ inl (inl e)
-      | inr n ↦ elim (has_or_not xs y) as (λ _. Has (x ∷ xs) y ⊎ (Has (x ∷ xs) y → ⊥)) [
-        | inl h ↦ inl (inr h)
-        | inr m ↦ inr (λ h. elim h as (λ _. ⊥) [ inl e ↦ n e | inr g ↦ m g ])
-      ]
-    ]
-
     module _ (s t : Asked K) (k : K) (p : Takes eq s k t) where
       fewer : (q : K) (a : By K) → t.asks q a ≡ true → s.asks q a ≡ true
       fewer q a e = (and_parts (s.asks q a) _ (sym (p.asks q a) ∙ e)).0
@@ -92,7 +60,7 @@ module _ {K : Type 0} where
       no_cycle_on h a i e l = h a i (fewer i (Tasked a) e) (leads_back i a l)
 
       askers_on : AskersLive s → AskersLive t
-      askers_on h i j e = elim (same_or_not j k) as (λ _. t.live j ≡ true) [
+      askers_on h i j e = elim (same_or_not eq law j k) as (λ _. t.live j ≡ true) [
         | inl q ↦ absurd (withdrawn i (subst (λ x. t.asks i (Tasked x) ≡ true) q e))
         | inr n ↦ lives j n ∙ h i j (fewer i (Tasked j) e)
       ]
@@ -108,7 +76,7 @@ module _ {K : Type 0} where
       where
         by_asker : ((j : K) (p2 : List K) → ((e : K) → Has (j ∷ p2) e → Leads s j e) → ((e : K) → Has (j ∷ p2) e → s.live e ≡ true) → AreDistinct (j ∷ p2) → length all < length (j ∷ p2) + n → Held s j) → (a : By K) → s.asks q a ≡ true → Held s q
         by_asker again (Promised p) e = by_promise p e
-        by_asker again (Tasked j) e = elim (has_or_not (q ∷ path) j) as (λ _. Held s q) [
+        by_asker again (Tasked j) e = elim (has_or_not eq law (q ∷ path) j) as (λ _. Held s q) [
           | inl found ↦ absurd (free j q e (l j found))
           | inr fresh ↦ by_task e (again j (q ∷ path)
               (λ x h. elim h as (λ _. Leads s j x) [ inl i ↦ subst (Leads s j) i stays | inr g ↦ asks_on e (l x g) ])
@@ -153,8 +121,8 @@ module _ {K : Type 0} where
     pub drops_all : {T : Type 0} (ps : List (K × Share K T)) (ks : List K) (t : Asked K) → HasNoCycle (asked_of eq ps) → AskersLive (asked_of eq ps) → Cascade eq (asked_of eq ps) ks t → IsDone t → DropsUnheld (asked_of eq ps) ks t
     drops_all ps ks t free living c done = record {
       dropped = λ q. (r q).0;
-      unheld = λ q v n. elim (has_or_not ks q) as (λ _. Has ks q) [ inl h ↦ h | inr m ↦ absurd (n ((r q).1 v m).0) ];
-      held = λ q v h. elim (has_or_not ks q) as (λ _. t.live q ≡ true) [ inl g ↦ absurd (((r q).0 g).1 h) | inr m ↦ ((r q).1 v m).1 ];
+      unheld = λ q v n. elim (has_or_not eq law ks q) as (λ _. Has ks q) [ inl h ↦ h | inr m ↦ absurd (n ((r q).1 v m).0) ];
+      held = λ q v h. elim (has_or_not eq law ks q) as (λ _. t.live q ≡ true) [ inl g ↦ absurd (((r q).0 g).1 h) | inr m ↦ ((r q).1 v m).1 ];
     }
       where
         r : (q : K) → (Has ks q → (is_live eq ps q ≡ true) × (Held (asked_of eq ps) q → ⊥)) × (is_live eq ps q ≡ true → (Has ks q → ⊥) → Held (asked_of eq ps) q × (t.live q ≡ true))
