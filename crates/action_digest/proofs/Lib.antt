@@ -1,4 +1,3 @@
-pub mod One
 pub mod Lists
 pub mod Endings
 pub mod Labels

@@ -7,6 +7,3 @@ mod walk;
 
 pub use guard::would_close;
 pub use laws::no_cycle_stays;
-
-#[cfg(test)]
-mod tests;
