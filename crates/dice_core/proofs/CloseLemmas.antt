@@ -19,7 +19,7 @@ use Rattle.core_laws.specs.Desk.{World, Rests, AreAll, with_version, is_out, out
 use Rattle.core_laws.proofs.Counts.{all_alike}
 use Rattle.core_laws.proofs.Empties.{idle}
 use Rattle.core_laws.proofs.StepsAsks.{closed_stand}
-use Rattle.core_laws.proofs.StepsRests.{live_stand, rests_emptied}
+use Rattle.core_laws.proofs.StepsRests.{idle_out, live_stand, rests_emptied}
 use Rattle.core_laws.proofs.Turns.{stands_here}
 use Rattle.dice_core.specs.Askings.{DropsAfter}
 use Rattle.dice_steps.specs.AtHand.{AtHand}
@@ -39,7 +39,6 @@ use Rattle.dice_tasks.proofs.Dropped.{cascade_distinct}
 use Rattle.dice_core.proofs.SessionLemmas.{closing_end, eqb_flips}
 use Rattle.lists.specs.Lists.{Has}
 use Rattle.std.proofs.Math.Bool.{and-true}
-use Rattle.core_laws.proofs.StepsRests.{idle_out}
 
 -- ---- the asks of a transaction that go
 

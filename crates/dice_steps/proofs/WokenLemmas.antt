@@ -128,7 +128,7 @@ module _ {K V : Type 0} (eq : K → K → Bool) (m : Meaning K V) (cells : Seen 
       answered = so.answered;
       within = λ y h. has_more done j y.place.1 (so.within y h);
       distinct = so.distinct;
-      others = λ i h. elim (has_end done j i h) as (λ _. ((y : Wakes K V) × Has ys y × (y.place.1 ≡ i)) ⊎ AsksMore eq k ps i) [
+      others = λ i h. elim (has_last done j i h) as (λ _. ((y : Wakes K V) × Has ys y × (y.place.1 ≡ i)) ⊎ AsksMore eq k ps i) [
         | inl o ↦ so.others i o
         | inr q ↦ inr (subst (AsksMore eq k ps) q more)
       ];
@@ -137,12 +137,12 @@ module _ {K V : Type 0} (eq : K → K → Bool) (m : Meaning K V) (cells : Seen 
     -- one that is woken
     pub woken_more : (j : K) (all : List K) (y : Wakes K V) (zs : List (Wakes K V)) → all ≡ done ++ j ∷ [] → zs ≡ ys ++ y ∷ [] → (Has done j → ⊥) → y.place ≡ (v, j) → AsksAlone eq k ps j → IsAnswered eq m cells v k x ps j y.ahead → SoFar all zs
     woken_more j all y zs d e new is alone answered = subst (λ z. SoFar z zs) (sym d) (subst (SoFar (done ++ j ∷ [])) (sym e) (record {
-      version = λ z h. elim (has_end ys y z h) as (λ _. z.place.0 ≡ v) [ inl o ↦ so.version z o | inr q ↦ subst (λ (a : Wakes K V). a.place.0 ≡ v) q (ap (λ (p : ℕ × K). p.0) is) ];
-      only = λ z h. elim (has_end ys y z h) as (λ _. AsksAlone eq k ps z.place.1) [ inl o ↦ so.only z o | inr q ↦ subst (λ (a : Wakes K V). AsksAlone eq k ps a.place.1) q (subst (AsksAlone eq k ps) (sym key) alone) ];
-      answered = λ z h. elim (has_end ys y z h) as (λ _. IsAnswered eq m cells v k x ps z.place.1 z.ahead) [ inl o ↦ so.answered z o | inr q ↦ subst (λ (a : Wakes K V). IsAnswered eq m cells v k x ps a.place.1 a.ahead) q (subst (λ a. IsAnswered eq m cells v k x ps a y.ahead) (sym key) answered) ];
-      within = λ z h. elim (has_end ys y z h) as (λ _. Has (done ++ j ∷ []) z.place.1) [ inl o ↦ has_more done j z.place.1 (so.within z o) | inr q ↦ subst (λ (a : Wakes K V). Has (done ++ j ∷ []) a.place.1) q (subst (Has (done ++ j ∷ [])) (sym key) (has_end done j)) ];
+      version = λ z h. elim (has_last ys y z h) as (λ _. z.place.0 ≡ v) [ inl o ↦ so.version z o | inr q ↦ subst (λ (a : Wakes K V). a.place.0 ≡ v) q (ap (λ (p : ℕ × K). p.0) is) ];
+      only = λ z h. elim (has_last ys y z h) as (λ _. AsksAlone eq k ps z.place.1) [ inl o ↦ so.only z o | inr q ↦ subst (λ (a : Wakes K V). AsksAlone eq k ps a.place.1) q (subst (AsksAlone eq k ps) (sym key) alone) ];
+      answered = λ z h. elim (has_last ys y z h) as (λ _. IsAnswered eq m cells v k x ps z.place.1 z.ahead) [ inl o ↦ so.answered z o | inr q ↦ subst (λ (a : Wakes K V). IsAnswered eq m cells v k x ps a.place.1 a.ahead) q (subst (λ a. IsAnswered eq m cells v k x ps a y.ahead) (sym key) answered) ];
+      within = λ z h. elim (has_last ys y z h) as (λ _. Has (done ++ j ∷ []) z.place.1) [ inl o ↦ has_more done j z.place.1 (so.within z o) | inr q ↦ subst (λ (a : Wakes K V). Has (done ++ j ∷ []) a.place.1) q (subst (Has (done ++ j ∷ [])) (sym key) (has_end done j)) ];
       distinct = subst AreDistinct (sym (map-append (λ (z : Wakes K V). z.place.1) ys (y ∷ []))) (distinct_end (map (λ (z : Wakes K V). z.place.1) ys) y.place.1 so.distinct (λ h. new (subst (Has done) key (there ys so.within y.place.1 h))));
-      others = λ i h. elim (has_end done j i h) as (λ _. ((z : Wakes K V) × Has (ys ++ y ∷ []) z × (z.place.1 ≡ i)) ⊎ AsksMore eq k ps i) [
+      others = λ i h. elim (has_last done j i h) as (λ _. ((z : Wakes K V) × Has (ys ++ y ∷ []) z × (z.place.1 ≡ i)) ⊎ AsksMore eq k ps i) [
         | inl o ↦ elim (so.others i o) as (λ _. ((z : Wakes K V) × Has (ys ++ y ∷ []) z × (z.place.1 ≡ i)) ⊎ AsksMore eq k ps i) [ inl r ↦ inl (r.0, has_more ys y r.0 r.1, r.2) | inr r ↦ inr r ]
         | inr q ↦ inl (y, has_end ys y, key ∙ q)
       ];
