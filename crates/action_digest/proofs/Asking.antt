@@ -2,7 +2,7 @@
 use Rattle.std.proofs.Common.{◌≡◌, ◌⊎◌, inl, inr, ℕ, List, [], ◌∷◌, Some, Result, Ok, Err, refl, sym, ap, ◌∙◌, subst}
 use Rattle.std.specs.List.{AllZip}
 use Rattle.dice_key.specs.Meaning.{Answered, Step, Asks, Ends}
-use Rattle.dice_model.specs.Log.{Has, input}
+use Rattle.dice_model.specs.Log.{input}
 use Rattle.dice_model.specs.Eval.{HasValue}
 use Rattle.dice_model.specs.Asks.{Goes, AsksFor}
 use Rattle.dice_model.proofs.EvalLaws.{one_value}
@@ -18,6 +18,7 @@ use Rattle.action_digest.specs.Actions.{asked_by}
 use Rattle.action_digest.specs.Buck.{buck, buck_next, package_value, rule_value, rule_in, first_of, with_asked, with_rule}
 use Rattle.action_digest.specs.Laws.{rule_ends}
 use Rattle.action_digest.specs.Same.{key_equal}
+use Rattle.lists.specs.Lists.{Has}
 
 no_end : (x : Value) (ks : List Key) (s : Step Key Value) → s ≡ Ends x → s ≡ Asks ks → ⊥
 no_end x ks s p q = let r : Ends x ≡ Asks ks = sym p ∙ q in cc

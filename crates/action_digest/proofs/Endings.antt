@@ -5,12 +5,7 @@ use Rattle.std.specs.declared.sync.Arc.{Arc}
 use Rattle.action_digest.specs.declared.key.Key.{Key}
 use Rattle.action_digest.specs.declared.value.Value.{Value}
 use Rattle.action_digest.specs.Actions.{behind, lines_by}
-
-drop_all : {X : Type 0} (n : ℕ) (xs : List X) → length xs ≤ n → drop n xs ≡ []
-drop_all zero [] h = refl
-drop_all zero (x ∷ xs) h = absurd (omega arith)
-drop_all (suc n) [] h = refl
-drop_all (suc n) (x ∷ xs) h = drop_all n xs (omega arith)
+use Rattle.std.proofs.lemmas.List.{drop_all}
 
 no_values : (named : Bool) (ks : List Key) → lines_by named ks [] ≡ Ok []
 no_values named [] = refl

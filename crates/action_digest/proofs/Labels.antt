@@ -8,13 +8,10 @@ use Rattle.buck_label.specs.declared.path.Refused.{Refused}
 use Rattle.buck_label.specs.declared.path.Refused.TheVariants.{Bad}
 use Rattle.buck_label.proofs.LabelLemmas.{before_at, before_none, front_no_colon, package_no_colon, path_no_colon, last_one}
 use Rattle.action_digest.specs.Written.{in_full, full_label}
-
-bool_cases : (b : Bool) → (b ≡ true) ⊎ (b ≡ false)
-bool_cases true = inl refl
-bool_cases false = inr refl
+use Rattle.std.proofs.lemmas.Bool.{cases_Bool}
 
 unequal : (a b : ℕ) → (a ≡ b → ⊥) → nat_eq a b ≡ false
-unequal a b h = elim (bool_cases (nat_eq a b)) [ inl t ↦ absurd (h ((unsigned_Decides a b).0 t)) | inr f ↦ f ]
+unequal a b h = elim (cases_Bool (nat_eq a b)) [ inl t ↦ absurd (h ((unsigned_Decides a b).0 t)) | inr f ↦ f ]
 
 long_full : (home u t : List ℕ) → NoColon u → full_label home (47 ∷ 47 ∷ (u ++ 58 ∷ t)) ≡ 47 ∷ 47 ∷ (u ++ 58 ∷ t)
 long_full home u t h =
@@ -52,7 +49,7 @@ home_is home t h = ap (λ (k : ℕ). take k (home ++ 58 ∷ t)) (before_at home 
 
 pub package_stays : (home text : List ℕ) → NoColon home → (package_of (full_label home text) ≡ home) ⊎ (package_of (full_label home text) ≡ package_of (full_label [] text))
 package_stays home [] h = inr refl
-package_stays home (b ∷ text) h = elim (bool_cases (nat_eq b 58)) as (λ _. (package_of (full_label home (b ∷ text)) ≡ home) ⊎ (package_of (full_label home (b ∷ text)) ≡ package_of (full_label [] (b ∷ text)))) [
+package_stays home (b ∷ text) h = elim (cases_Bool (nat_eq b 58)) as (λ _. (package_of (full_label home (b ∷ text)) ≡ home) ⊎ (package_of (full_label home (b ∷ text)) ≡ package_of (full_label [] (b ∷ text)))) [
   | inl t ↦ inl (ap (λ (c : Bool). package_of (if c then printed (record { home = home; target = text }) else in_full (b ∷ text))) t ∙ home_is home text h)
   | inr f ↦ inr (ap (λ (c : Bool). package_of (if c then printed (record { home = home; target = text }) else in_full (b ∷ text))) f ∙ sym (ap (λ (c : Bool). package_of (if c then printed (record { home = []; target = text }) else in_full (b ∷ text))) f))
 ]

@@ -1,9 +1,8 @@
-pub mod One
 pub mod Lists
 pub mod Endings
 pub mod Labels
 pub mod Asking
 pub mod Mentioned
 pub mod Reached
-pub mod Circles
+pub mod Rounds
 pub mod Turning

@@ -2,7 +2,7 @@
 use Rattle.std.proofs.Common.{◌≡◌, ◌⊎◌, inl, inr, ℕ, Bool, true, false, List, [], ◌∷◌, ◌++◌, take, Option, Some, None, Result, Ok, Err, unwrap_or, refl, ◌∙◌, subst}
 use Rattle.std.specs.Map.{lookup}
 use Rattle.std.specs.Str.{bytes_eq}
-use Rattle.dice_model.specs.Log.{Has, last_value_of}
+use Rattle.dice_model.specs.Log.{last_value_of}
 use Rattle.buck_label.specs.Labels.{package_of, target_of, target_file_of}
 use Rattle.target_file.specs.Targets.{Target, Located, target_named}
 use Rattle.target_file.specs.Contents.{Contents, Holds, Fails, contents}
@@ -16,8 +16,9 @@ use Rattle.action_digest.specs.Actions.{wanted_by, source_in}
 use Rattle.action_digest.specs.Written.{key_in}
 use Rattle.action_digest.specs.Buck.{file_by, package_by, found_by, rule_by}
 use Rattle.action_digest.specs.Same.{key_equal}
-use Rattle.action_digest.proofs.Lists.{has_left, has_right, of_map}
 use Rattle.action_digest.proofs.Asking.{source_at, IsWanted}
+use Rattle.lists.proofs.Members.{has_left, has_mapped, has_right}
+use Rattle.lists.specs.Lists.{Has}
 
 abbrev pub of_file : List Located → List Source
 of_file [] = []
@@ -101,7 +102,7 @@ module _ (C : List (List (Key × Value))) (v : ℕ) where
   pub wanted_is_mentioned : (l : List ℕ) (j : Key) → IsWanted C v l j → (w : Source) × Has mentioned w × (key_in (package_of l) w ≡ j)
   wanted_is_mentioned l j i =
       let p = target_file_of (package_of l) in
-      let r = of_map (key_in (package_of l)) (wanted_by i.target.action) j i.among in
+      let r = has_mapped (key_in (package_of l)) (wanted_by i.target.action) j i.among in
       let g = in_bytes l (package_of l) (source_in (Some (source_at C v p))) i.target r.0 (rule_same _ _ i.found) r.1 in
       elim (in_log (key_equal (key.Source p)) (value.Source None) (take v C) r.0 g) as (λ _. (w : Source) × Has mentioned w × (key_in (package_of l) w ≡ j)) [
         | inl a ↦ absurd a

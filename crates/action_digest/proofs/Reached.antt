@@ -1,6 +1,5 @@
 -- What a key reaches stands in the finitely many target files of the log.
 use Rattle.std.proofs.Common.{◌≡◌, inl, inr, ℕ, List, [], ◌∷◌, ◌++◌, map, refl, sym, ap, ◌∙◌, subst}
-use Rattle.dice_model.specs.Log.{Has}
 use Rattle.dice_model.specs.Asks.{IsClosed}
 use Rattle.buck_label.specs.Labels.{NoColon, package_of, target_file_of, within}
 use Rattle.target_file.specs.declared.source.Source.{Source}
@@ -11,10 +10,12 @@ use Rattle.action_digest.specs.declared.value.Value.{Value}
 use Rattle.action_digest.specs.Buck.{buck}
 use Rattle.action_digest.specs.Same.{key_equal}
 use Rattle.action_digest.specs.Written.{full_label, key_in}
-use Rattle.action_digest.proofs.Lists.{has_left, has_right, of_append, has_map, of_map, crossed, has_crossed, of_crossed}
+use Rattle.action_digest.proofs.Lists.{crossed, has_crossed, of_crossed}
 use Rattle.action_digest.proofs.Labels.{package_stays, package_plain}
 use Rattle.action_digest.proofs.Asking.{May, asks_may}
 use Rattle.action_digest.proofs.Mentioned.{mentioned, wanted_is_mentioned}
+use Rattle.lists.proofs.Members.{has_either, has_left, has_map, has_mapped, has_right}
+use Rattle.lists.specs.Lists.{Has}
 
 abbrev text_of : Source → List ℕ
 text_of (source.Path p) = p
@@ -80,32 +81,32 @@ module _ (C : List (List (Key × Value))) (v : ℕ) (k : Key) where
       (has_right (map key.Action labels) (map key.Digest labels) (key.Digest l) (has_map key.Digest labels l h))))
 
   of_acts : (j : Key) → Has acts j → In j
-  of_acts j h = elim (of_append (map key.Action labels) (map key.Digest labels) j h) as (λ _. In j) [
-    | inl a ↦ (let r = of_map key.Action labels j a in subst In r.2 r.1)
-    | inr b ↦ (let r = of_map key.Digest labels j b in subst In r.2 r.1)
+  of_acts j h = elim (has_either (map key.Action labels) (map key.Digest labels) j h) as (λ _. In j) [
+    | inl a ↦ (let r = has_mapped key.Action labels j a in subst In r.2 r.1)
+    | inr b ↦ (let r = has_mapped key.Digest labels j b in subst In r.2 r.1)
   ]
 
   of_rules : (j : Key) → Has rules j → In j
-  of_rules j h = elim (of_append (map key.Rule labels) acts j h) as (λ _. In j) [
-    | inl a ↦ (let r = of_map key.Rule labels j a in subst In r.2 r.1)
+  of_rules j h = elim (has_either (map key.Rule labels) acts j h) as (λ _. In j) [
+    | inl a ↦ (let r = has_mapped key.Rule labels j a in subst In r.2 r.1)
     | inr b ↦ of_acts j b
   ]
 
   of_keys : (j : Key) → Has keys j → In j
-  of_keys j h = elim (of_append (map key.Package homes) rules j h) as (λ _. In j) [
-    | inl a ↦ (let r = of_map key.Package homes j a in subst In r.2 r.1)
+  of_keys j h = elim (has_either (map key.Package homes) rules j h) as (λ _. In j) [
+    | inl a ↦ (let r = has_mapped key.Package homes j a in subst In r.2 r.1)
     | inr b ↦ of_rules j b
   ]
 
   of_all : (j : Key) → Has all j → In j
-  of_all j h = elim (of_append (map key.Source paths) keys j h) as (λ _. In j) [
-    | inl a ↦ (let r = of_map key.Source paths j a in subst In r.2 r.1)
+  of_all j h = elim (has_either (map key.Source paths) keys j h) as (λ _. In j) [
+    | inl a ↦ (let r = has_mapped key.Source paths j a in subst In r.2 r.1)
     | inr b ↦ of_keys j b
   ]
 
   no_colon : (p : List ℕ) → Has packages p → NoColon p
   no_colon p (inl e) = subst NoColon e (package_plain (label_of k))
-  no_colon p (inr h) = let r = of_map (λ w. package_of (full_label [] (text_of w))) (mentioned C v) p h in subst NoColon r.2 (package_plain (full_label [] (text_of r.0)))
+  no_colon p (inr h) = let r = has_mapped (λ w. package_of (full_label [] (text_of w))) (mentioned C v) p h in subst NoColon r.2 (package_plain (full_label [] (text_of r.0)))
 
   -- the package of a label that is reached is one of them
   label_package : (l : List ℕ) → Has labels l → Has packages (package_of l)

@@ -7,12 +7,13 @@ use Rattle.std.specs.Cmp.Lexicographic.{slice_cmp, nat_list_cmp_total}
 use Rattle.std.specs.List.{AllByRecursion}
 use Rattle.std.proofs.lemmas.Cmp.{upto, tied_itself}
 use Rattle.std.proofs.Math.Seq.{drop-cons}
-use Rattle.dice_model.specs.Log.{Has, AreDistinct}
 use Rattle.action_digest.specs.declared.key.Key.{Key}
 use Rattle.action_digest.specs.declared.key.Key.TheVariants as key
 use Rattle.action_digest.specs.declared.value.Value.{Value}
 use Rattle.action_digest.specs.Cycles.{keys_of, labels_of, IsAtMost, BeginsWithLeast, IsLabelCycle, ReachesFirst}
-use Rattle.action_digest.proofs.Circles.{Cycle, turned_many, leads_many, is_in_turn}
+use Rattle.action_digest.proofs.Rounds.{Cycle, turned_many, leads_many, is_in_turn}
+use Rattle.lists.proofs.Each.{all_append, all_take}
+use Rattle.lists.specs.Lists.{AreDistinct, Has}
 
 -- ---- the order
 
@@ -30,16 +31,6 @@ at_most_itself : (l : List ℕ) → IsAtMost l l
 at_most_itself l = ap is_gt (tied_itself nat_list_cmp_total l)
 
 module _ {X : Type 0} (P : X → Type 0) where
-  pub all_append : (xs ys : List X) → AllByRecursion P xs → AllByRecursion P ys → AllByRecursion P (xs ++ ys)
-  all_append [] ys a b = b
-  all_append (x ∷ xs) ys a b = (a.0, all_append xs ys a.1 b)
-
-  all_take : (n : ℕ) (xs : List X) → AllByRecursion P xs → AllByRecursion P (take n xs)
-  all_take zero [] a = tt
-  all_take zero (x ∷ xs) a = tt
-  all_take (suc n) [] a = tt
-  all_take (suc n) (x ∷ xs) a = (a.0, all_take n xs a.1)
-
   all_drop : (n : ℕ) (xs : List X) → AllByRecursion P xs → AllByRecursion P (drop n xs)
   all_drop zero [] a = tt
   all_drop zero (x ∷ xs) a = a

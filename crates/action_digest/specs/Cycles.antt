@@ -3,15 +3,15 @@ use Rattle.std.specs.Prelude.{◌≡◌, ℕ, false, List, [], ◌∷◌}
 use Rattle.std.specs.Ordering.{nat_cmp, is_gt}
 use Rattle.std.specs.Cmp.Lexicographic.{slice_cmp}
 use Rattle.std.specs.List.{AllByRecursion}
-use Rattle.dice_model.specs.Log.{AreDistinct}
 use Rattle.dice_model.specs.Asks.{Reaches, IsCycle}
 use Rattle.action_digest.specs.declared.key.Key.{Key}
 use Rattle.action_digest.specs.declared.key.Key.TheVariants as key
 use Rattle.action_digest.specs.declared.value.Value.{Value}
 use Rattle.action_digest.specs.Buck.{buck}
 use Rattle.action_digest.specs.Same.{key_equal}
+use Rattle.lists.specs.Lists.{AreDistinct}
 
--- the keys of these targets, in a circle: each one's digest asks its action, and this the next one's digest
+-- the keys of these targets, in a cycle: each one's digest asks its action, and this the next one's digest
 abbrev pub keys_of : List (List ℕ) → List Key
 keys_of [] = []
 keys_of (l ∷ ls) = key.Digest l ∷ key.Action l ∷ keys_of ls

@@ -20,6 +20,7 @@ use Rattle.action_digest.specs.declared.key.Key.TheVariants as key
 use Rattle.action_digest.specs.declared.value.Value.{Value}
 use Rattle.action_digest.specs.declared.value.Value.TheVariants as value
 use Rattle.action_digest.specs.declared.fault.Fault.TheVariants.{NoPackage, BadFile, NoTarget, NoSource}
+use Rattle.std.proofs.lemmas.Bool.{and_parts}
 
 -- how keys and values are compared
 abbrev pub key_equal : Key → Key → Bool
@@ -59,14 +60,10 @@ result_same e f same fault (Ok x) (Err y) h = cc
 result_same e f same fault (Err x) (Ok y) h = cc
 result_same e f same fault (Err x) (Err y) h = ap Err (fault x y h)
 
-both : (a b : Bool) → (a && b) ≡ true → (a ≡ true) × (b ≡ true)
-both true b h = (refl, h)
-both false b h = cc
-
 faults_equal : AreSame fault_eq.ghosts.eq
 faults_equal (NoPackage p) (NoPackage q) h = ap NoPackage (text_same p q h)
 faults_equal (BadFile p m) (BadFile q n) h =
-    let b = both (pointwise nat_eq p q) (nat_eq m n) h in
+    let b = and_parts (pointwise nat_eq p q) (nat_eq m n) h in
     ap (λ x. BadFile x m) (text_same p q b.0) ∙ ap (BadFile q) ((unsigned_Decides m n).0 b.1)
 faults_equal (NoTarget l) (NoTarget k) h = ap NoTarget (text_same l k h)
 faults_equal (NoSource p) (NoSource q) h = ap NoSource (text_same p q h)
@@ -80,7 +77,7 @@ bools_equal false true h = cc
 
 actions_equal : AreSame action_eq.ghosts.eq
 actions_equal x y h =
-    let b = both (pointwise nat_eq x.text y.text) (beq x.holds_version y.holds_version) h in
+    let b = and_parts (pointwise nat_eq x.text y.text) (beq x.holds_version y.holds_version) h in
     let e : x.text ≡ y.text = text_same x.text y.text b.0 in
     let f : x.holds_version ≡ y.holds_version = bools_equal x.holds_version y.holds_version b.1 in
     λ i. record { text = e i; holds_version = f i }

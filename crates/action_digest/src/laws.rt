@@ -1,12 +1,12 @@
 //! Laws of the universe. None of these functions does any work.
 ghost use Rattle.std.specs.Prelude.{◌≡◌, ◌⊎◌, ◌++◌, List, ℕ};
 ghost use Rattle.dice_model.specs.Eval.{HasValue};
-ghost use Rattle.dice_model.specs.Log.{AreDistinct};
 ghost use Rattle.dice_model.specs.Asks.{IsCycle, ReachesCycle};
 ghost use Rattle.action_digest.specs.Cycles.{keys_of};
 ghost use Rattle.action_digest.specs.Buck.{buck};
 ghost use Rattle.action_digest.specs.declared.key.Key.{Key};
 ghost use Rattle.action_digest.specs.declared.value.Value.{Value};
+ghost use Rattle.lists.specs.Lists.{AreDistinct};
 
 use crate::buck::Buck;
 use crate::key::Key;

@@ -24,6 +24,3 @@ pub use package_file::PackageFile;
 pub use rule::Rule;
 pub use run::Run;
 pub use value::{ActionText, Value};
-
-#[cfg(test)]
-mod tests;

@@ -7,6 +7,7 @@ use Rattle.buck_label.specs.Paths.{is_segment_byte, IsSegmentByte, IsSegment, Is
 use Rattle.buck_label.specs.Labels.{IsPackage}
 use Rattle.buck_label.specs.Machine.{after, in_segment, dotted, path_from, Stands}
 use borrow.Author.Tests.{eqb-true}
+use Rattle.std.proofs.lemmas.Bool.{cases_Bool}
 
 -- a chosen value is one of the two
 pub chosen : {A : Type 0} {x y z : A} (b : Bool) → cond b x y ≡ z → ((b ≡ true) × (x ≡ z)) ⊎ ((b ≡ false) × (y ≡ z))
@@ -41,15 +42,11 @@ longer (c ∷ d ∷ u) b s p = record {
   no_dots = λ e. not_empty u b [] cc;
 }
 
-pub bool_cases : (b : Bool) → (b ≡ true) ⊎ (b ≡ false)
-bool_cases true = inl refl
-bool_cases false = inr refl
-
-off : (b : ℕ) → nat_eq b 46 ≡ false → b ≡ 46 → ⊥
+pub off : (b : ℕ) → nat_eq b 46 ≡ false → b ≡ 46 → ⊥
 off b f e = let g : nat_eq 46 46 ≡ false = subst (λ (n : ℕ). nat_eq n 46 ≡ false) e f in cc
 
 dot_or_good : (b : ℕ) → IsSegmentByte b → Stands (if nat_eq b 46 then Dot else Good) (b ∷ [])
-dot_or_good b p = elim (bool_cases (nat_eq b 46)) [
+dot_or_good b p = elim (cases_Bool (nat_eq b 46)) [
   | inl t ↦ rw t (ap (λ (n : ℕ). n ∷ []) (eqb-true b 46 t))
   | inr f ↦ rw f record {
     some = λ e. cc;
@@ -60,7 +57,7 @@ dot_or_good b p = elim (bool_cases (nat_eq b 46)) [
 ]
 
 dots_or_good : (b : ℕ) → IsSegmentByte b → Stands (if nat_eq b 46 then Dots else Good) (46 ∷ b ∷ [])
-dots_or_good b p = elim (bool_cases (nat_eq b 46)) [
+dots_or_good b p = elim (cases_Bool (nat_eq b 46)) [
   | inl t ↦ rw t (ap (λ (n : ℕ). 46 ∷ n ∷ []) (eqb-true b 46 t))
   | inr f ↦ rw f record {
     some = λ e. cc;
@@ -115,7 +112,7 @@ along u b bs f = record {
 
 -- what is read is a path
 stepped : (bs : List ℕ) (s : Segment) (u : List ℕ) (b : ℕ) → ((s : Segment) (u : List ℕ) → Stands s u → path_from s bs ≡ Good → Found u bs) → Stands s u → path_from (in_segment s b) bs ≡ Good → Found u (b ∷ bs)
-stepped bs s u b again h e = elim (bool_cases (is_segment_byte b)) [
+stepped bs s u b again h e = elim (cases_Bool (is_segment_byte b)) [
   | inl t ↦ along u b bs (again (dotted s b) (u ++ b ∷ []) (stands_more s u b h t) (rw t at e))
   | inr f ↦ absurd (bad_stays bs (rw f at e))
 ]
@@ -131,13 +128,19 @@ found (b ∷ bs) Empty u h e = stepped bs Empty u b (found bs) h e
 found (b ∷ bs) Dot u h e = stepped bs Dot u b (found bs) h e
 found (b ∷ bs) Dots u h e = stepped bs Dots u b (found bs) h e
 found (b ∷ bs) Bad u h e = absurd (bad_stays bs e)
-found (b ∷ bs) Good u h e = elim (bool_cases (nat_eq b 47)) [
+found (b ∷ bs) Good u h e = elim (cases_Bool (nat_eq b 47)) [
   | inl t ↦ subst (λ (n : ℕ). Found u (n ∷ bs)) (sym (eqb-true b 47 t)) (slash u bs h (found bs Empty [] refl (rw t at e)))
   | inr f ↦ stepped bs Good u b (found bs) h (rw f at e)
 ]
 
-no_slash : (c : ℕ) → IsSegmentByte c → nat_eq c 47 ≡ false
-no_slash c p = elim (bool_cases (nat_eq c 47)) [
+-- one segment is a path
+pub one_segment : (s : List ℕ) → IsSegment s → length s ≤ 255 → IsPath s
+one_segment s h f =
+    let t : IsPathText s = record { segments = s ∷ []; some = λ e. cc; each = (h, tt); text_is = refl } in
+    record { text_is = t; fits = f }
+
+pub no_slash : (c : ℕ) → IsSegmentByte c → nat_eq c 47 ≡ false
+no_slash c p = elim (cases_Bool (nat_eq c 47)) [
   | inl t ↦ let h : is_segment_byte 47 ≡ true = subst IsSegmentByte (eqb-true c 47 t) p in cc
   | inr f ↦ f
 ]

@@ -12,6 +12,3 @@ pub use laws::equal_is_same;
 pub use package::Package;
 pub use path::{Path, Refused, is_path};
 pub use text::Text;
-
-#[cfg(test)]
-mod tests;

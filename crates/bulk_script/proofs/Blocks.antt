@@ -11,9 +11,9 @@ use Rattle.script.specs.Lines.{is_name_byte}
 use Rattle.script.specs.Past.{Past, after, after_all, adding, with_entry, made_in}
 use Rattle.buck_label.specs.Paths.{IsPath}
 use Rattle.bulk_script.specs.Bulk.{numbers_below, targets_in, asked_of, ask_in}
-use Rattle.bulk_script.proofs.Words.{bool_cases}
 use Rattle.bulk_script.proofs.Decimals.{decimals_differ, numbered_name, letter_name}
 use Rattle.bulk_script.proofs.Lines.{IsRead, put_read, ask_read}
+use Rattle.std.proofs.lemmas.Bool.{cases_Bool}
 
 -- ascending numbers from a on, below limit
 abbrev pub Ascends : ℕ → ℕ → List ℕ → Type 0
@@ -29,7 +29,7 @@ filter_ascends p limit a [] u = tt
 filter_ascends p limit a (x ∷ xs) u =
     let h : a ≤ x = u.0 in
     let r = filter_ascends p limit (x + 1) xs u.2 in
-    elim (bool_cases (p x)) [
+    elim (cases_Bool (p x)) [
       | inl t ↦ subst (λ (b : Bool). Ascends limit a (cond b (x ∷ filter p xs) (filter p xs))) (sym t) (h, u.1, r)
       | inr f ↦ subst (λ (b : Bool). Ascends limit a (cond b (x ∷ filter p xs) (filter p xs))) (sym f) (ascends_from limit a (x + 1) (filter p xs) (omega arith) r)
     ]
@@ -58,7 +58,7 @@ ascends_few limit a (x ∷ xs) u h =
 -- ---- texts that differ
 
 pub differ : (x y : List ℕ) → (x ≡ y → ⊥) → bytes_eq x y ≡ false
-differ x y h = elim (bool_cases (bytes_eq x y)) [
+differ x y h = elim (cases_Bool (bytes_eq x y)) [
   | inl t ↦ absurd (h ((bytes_eq-Decides x y).0 t))
   | inr f ↦ f
 ]

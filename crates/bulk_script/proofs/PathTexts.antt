@@ -8,9 +8,7 @@ use Rattle.buck_label.specs.Labels.{IsName as IsTarget, IsLong, IsLabel, printed
 use Rattle.bulk_script.specs.Bulk.{name_of, source_path, package_path}
 use Rattle.bulk_script.proofs.Words.{IsSolid, solid_all, all_append}
 use Rattle.bulk_script.proofs.Decimals.{few_digits, decimal_segment, decimals_differ}
-
-off : (c : ℕ) → nat_eq c 46 ≡ false → c ≡ 46 → ⊥
-off c f e = let g : nat_eq 46 46 ≡ false = subst (λ (n : ℕ). nat_eq n 46 ≡ false) e f in cc
+use Rattle.buck_label.proofs.PathLemmas.{off, one_segment}
 
 -- a segment that begins with no dot
 pub segment_from : (c : ℕ) (bs : List ℕ) → is_segment_byte c ≡ true → nat_eq c 46 ≡ false → AllByRecursion IsSegmentByte bs → IsSegment (c ∷ bs)
@@ -20,11 +18,6 @@ segment_from c bs h f a = record {
   no_dot = λ e. off c f cc;
   no_dots = λ e. off c f cc;
 }
-
-pub one_segment : (s : List ℕ) → IsSegment s → length s ≤ 255 → IsPath s
-one_segment s h f =
-    let t : IsPathText s = record { segments = s ∷ []; some = λ e. cc; each = (h, tt); text_is = refl } in
-    record { text_is = t; fits = f }
 
 pub two_segments : (s t : List ℕ) → IsSegment s → IsSegment t → length (s ++ 47 ∷ t) ≤ 255 → IsPath (s ++ 47 ∷ t)
 two_segments s t h k f =

@@ -5,10 +5,7 @@ use Rattle.std.proofs.lemmas.List.{take_at, drop_at}
 use borrow.Author.Tests.{eqb-true}
 use Rattle.script.specs.Lines.{before, line_of, behind_line, words, split_byte, front_word}
 use Rattle.bulk_script.specs.Spelled.{spaced}
-
-pub bool_cases : (b : Bool) → (b ≡ true) ⊎ (b ≡ false)
-bool_cases true = inl refl
-bool_cases false = inr refl
+use Rattle.std.proofs.lemmas.Bool.{cases_Bool}
 
 -- neither a space nor an LF
 abbrev pub is_solid : ℕ → Bool
@@ -25,9 +22,9 @@ no_other P m b e h t = let k : P b ≡ P m = ap P (eqb-true b m t) in cc
 
 -- bytes of a class without space and LF
 pub solid_byte : (P : ℕ → Bool) → P 32 ≡ false → P 10 ≡ false → (b : ℕ) → P b ≡ true → is_solid b ≡ true
-solid_byte P e f b h = elim (bool_cases (nat_eq b 32)) [
+solid_byte P e f b h = elim (cases_Bool (nat_eq b 32)) [
   | inl t ↦ absurd (no_other P 32 b e h t)
-  | inr s ↦ elim (bool_cases (nat_eq b 10)) [
+  | inr s ↦ elim (cases_Bool (nat_eq b 10)) [
     | inl t ↦ absurd (no_other P 10 b f h t)
     | inr l ↦ ap (λ (x : Bool). not x && not (nat_eq b 10)) s ∙ ap not l
   ]

@@ -8,6 +8,3 @@ mod rules;
 
 pub use bulk::{bulk_script, request_count};
 pub use laws::{bulk_is_script, requests_are_counted};
-
-#[cfg(test)]
-mod tests;

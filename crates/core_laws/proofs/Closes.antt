@@ -14,10 +14,7 @@ use Rattle.core_laws.specs.Promises.{is_promise_in}
 use Rattle.core_laws.proofs.Indices.{still_live}
 use Rattle.core_laws.proofs.Opens.{open_there}
 use Rattle.core_laws.proofs.Frames.{Carries, Promises, version_on, version_stays, rest_stays}
-
-and_not_none : (b : Bool) → (b && true) ≡ b
-and_not_none true = refl
-and_not_none false = refl
+use Rattle.std.proofs.Math.Bool.{and-true}
 
 module _ {K V : Type 0} (eq : K → K → Bool) (R : List (Told K V)) (by t : ℕ) where
   carries : (v : ℕ) → Carries eq R (Close by t ∷ R) v
@@ -61,7 +58,7 @@ module _ {K V : Type 0} (eq : K → K → Bool) (equality : IsEquality eq) (m : 
   -- a Close of any transaction, where its promises are gone
   pub closed : (W : List K) (s u : Asked K) (ts : K → Option (Task K V)) (by t : ℕ) → VersionStands eq m R v W s ts → ((q : K) (a : By K) → u.asks q a ≡ (s.asks q a && not (is_promise_in R t a))) → SameLives eq s u → VersionStands eq m (Close by t ∷ R) v W u ts
   closed W s u ts by t h leave lives = version_on eq m R (Close by t ∷ R) v (carries eq R by t v) W s u ts h lives
-      (λ d j. leave d (Tasked j) ∙ and_not_none (s.asks d (Tasked j)))
+      (λ d j. leave d (Tasked j) ∙ and-true (s.asks d (Tasked j)))
       (record {
         promised = λ q j e. (let z = and_parts (s.asks q (Promised j)) _ (sym (leave q (Promised j)) ∙ e) in
             let p = h.promised q j z.0 in

@@ -1,7 +1,9 @@
 -- Lists of exactly the things that pass a test, and how many there are.
 use Rattle.std.proofs.Common.{◌≡◌, ◌⊎◌, inl, inr, ◌+◌, ℕ, suc, Bool, true, false, List, [], ◌∷◌, ◌++◌, length, refl, sym, ◌∙◌, subst, arith, length-append}
-use Rattle.dice_model.specs.Log.{Has, AreDistinct}
 use Rattle.core_laws.specs.Desk.{AreAll, IsCount}
+use Rattle.lists.proofs.Distinct.{distinct_end}
+use Rattle.lists.proofs.Members.{has_end, has_last, has_more}
+use Rattle.lists.specs.Lists.{AreDistinct, Has}
 
 module _ {X : Type 0} where
   -- the same test by other words
@@ -11,35 +13,15 @@ module _ {X : Type 0} where
   pub count_alike : (f g : X → Bool) → ((x : X) → g x ≡ f x) → (n : ℕ) → IsCount f n → IsCount g n
   count_alike f g e n c = record { all = c.all; are = all_alike f g e c.all c.are; count = c.count }
 
-  pub has_append : (xs : List X) (y x : X) → Has (xs ++ y ∷ []) x → Has xs x ⊎ (y ≡ x)
-  has_append [] y x (inl e) = inr e
-  has_append [] y x (inr b) = absurd b
-  has_append (z ∷ xs) y x (inl e) = inl (inl e)
-  has_append (z ∷ xs) y x (inr h) = elim (has_append xs y x h) as (λ _. Has (z ∷ xs) x ⊎ (y ≡ x)) [ inl i ↦ inl (inr i) | inr e ↦ inr e ]
-
-  pub has_front : (xs : List X) (y x : X) → Has xs x → Has (xs ++ y ∷ []) x
-  has_front [] y x h = absurd h
-  has_front (z ∷ xs) y x (inl e) = inl e
-  has_front (z ∷ xs) y x (inr h) = inr (has_front xs y x h)
-
-  pub has_last : (xs : List X) (y : X) → Has (xs ++ y ∷ []) y
-  has_last [] y = inl refl
-  has_last (z ∷ xs) y = inr (has_last xs y)
-
-  distinct_more : (xs : List X) (y : X) → AreDistinct xs → (Has xs y → ⊥) → AreDistinct (xs ++ y ∷ [])
-  distinct_more [] y d n = ((λ b. b), tt)
-  distinct_more (z ∷ xs) y d n =
-      ((λ h. elim (has_append xs y z h) as (λ _. ⊥) [ inl i ↦ d.0 i | inr e ↦ n (inl (sym e)) ]), distinct_more xs y d.1 (λ h. n (inr h)))
-
   -- one thing more passes the test
   pub all_more : (f g : X → Bool) (y : X) → f y ≡ false → g y ≡ true → ((x : X) → (y ≡ x → ⊥) → g x ≡ f x) → ((x : X) → (y ≡ x) ⊎ (y ≡ x → ⊥)) → (xs : List X) → AreAll f xs → AreAll g (xs ++ y ∷ [])
   all_more f g y off on e test xs a = record {
-    passes = λ x h. elim (has_append xs y x h) as (λ _. g x ≡ true) [
+    passes = λ x h. elim (has_end xs y x h) as (λ _. g x ≡ true) [
       | inl i ↦ elim (test x) as (λ _. g x ≡ true) [ inl q ↦ subst (λ z. g z ≡ true) q on | inr q ↦ e x q ∙ a.passes x i ]
       | inr q ↦ subst (λ z. g z ≡ true) q on
     ];
-    found = λ x h. elim (test x) as (λ _. Has (xs ++ y ∷ []) x) [ inl q ↦ subst (λ z. Has (xs ++ y ∷ []) z) q (has_last xs y) | inr q ↦ has_front xs y x (a.found x (sym (e x q) ∙ h)) ];
-    distinct = distinct_more xs y a.distinct (λ h. let c : true ≡ false = sym (a.passes y h) ∙ off in cc);
+    found = λ x h. elim (test x) as (λ _. Has (xs ++ y ∷ []) x) [ inl q ↦ subst (λ z. Has (xs ++ y ∷ []) z) q (has_end xs y) | inr q ↦ has_more xs y x (a.found x (sym (e x q) ∙ h)) ];
+    distinct = distinct_end xs y a.distinct (λ h. let c : true ≡ false = sym (a.passes y h) ∙ off in cc);
   }
 
   pub count_more : (f g : X → Bool) (y : X) → f y ≡ false → g y ≡ true → ((x : X) → (y ≡ x → ⊥) → g x ≡ f x) → ((x : X) → (y ≡ x) ⊎ (y ≡ x → ⊥)) → (n : ℕ) → IsCount f n → IsCount g (suc n)

@@ -2,10 +2,8 @@
 use Rattle.std.proofs.Common.{◌≡◌, inl, inr, ℕ, Bool, true, false, cond, not, ◌&&◌, List, [], ◌∷◌, Option, Some, refl, ap}
 use Rattle.dice_key.specs.Meaning.{Meaning}
 use Rattle.dice_key.specs.Lawful.{IsEquality}
-use Rattle.dice_model.specs.Log.{Has, AreDistinct}
-use Rattle.dice_model.specs.Asks.{AsksFor, Reaches, here, through, IsCircle}
+use Rattle.dice_model.specs.Asks.{AsksFor, Reaches, here, through, GoesRound}
 use Rattle.task_share.specs.Asked.{Asked}
-use Rattle.task_share.specs.Lists as Shared
 use Rattle.journal.specs.declared.event.Told.{Told}
 use Rattle.journal.specs.declared.event.Told.TheVariants.{Cyclic}
 use Rattle.journal.specs.Events.{ByCycle, commits_of, decided, is_running}
@@ -15,16 +13,7 @@ use Rattle.core_laws.specs.Stands.{CycleStands, VersionStands}
 use Rattle.core_laws.specs.Changes.{Puts, Lives, Withdraws}
 use Rattle.core_laws.proofs.OfKey.{named, cyclic_leaves}
 use Rattle.core_laws.proofs.Ends.{undecided_at_work, task_ends}
-
-module _ {X : Type 0} where
-  has_there : (xs : List X) (x : X) → Has xs x → Shared.Has xs x
-  has_there [] x h = h
-  has_there (y ∷ ys) x (inl e) = inl e
-  has_there (y ∷ ys) x (inr h) = inr (has_there ys x h)
-
-  distinct_here : (xs : List X) → Shared.AreDistinct xs → AreDistinct xs
-  distinct_here [] d = tt
-  distinct_here (x ∷ xs) d = (λ h. d.0 (has_there xs x h), distinct_here xs d.1)
+use Rattle.lists.specs.Lists.{AreDistinct, Has}
 
 module _ {K V : Type 0} (eq : K → K → Bool) (m : Meaning K V) (C : List (List (K × V))) (v : ℕ) where
   -- what asks a key that reaches a cycle reaches it too
@@ -37,13 +26,13 @@ module _ {K V : Type 0} (eq : K → K → Bool) (m : Meaning K V) (C : List (Lis
 
   -- `Round k js`: k asks the first of js, each of these the next, and the last asks `first`
   module _ (first : K) (Round : K → List K → Type 0) (last : (k : K) → Round k [] → AsksFor eq m C v k first) (next : (k j : K) (js : List K) → Round k (j ∷ js) → AsksFor eq m C v k j × Round j js) where
-    round_circle : (k : K) (js : List K) → Round k js → IsCircle eq m C v first k js
-    round_circle k [] r = last k r
-    round_circle k (j ∷ js) r = let a = next k j js r in (a.0, round_circle j js a.1)
+    goes_round : (k : K) (js : List K) → Round k js → GoesRound eq m C v first k js
+    goes_round k [] r = last k r
+    goes_round k (j ∷ js) r = let a = next k j js r in (a.0, goes_round j js a.1)
 
     -- distinct keys in a round are a cycle
-    pub circle_is_cycle : (rest : List K) → Shared.AreDistinct (first ∷ rest) → Round first rest → CycleStands eq m C v first (first ∷ rest)
-    circle_is_cycle rest d r = record { first = first; rest = rest; path_is = refl; cycle = (distinct_here (first ∷ rest) d, round_circle first rest r); reaches = here }
+    pub round_is_cycle : (rest : List K) → AreDistinct (first ∷ rest) → Round first rest → CycleStands eq m C v first (first ∷ rest)
+    round_is_cycle rest d r = record { first = first; rest = rest; path_is = refl; cycle = (d, goes_round first rest r); reaches = here }
 
 -- a task at work whose key reaches a cycle: its Cyclic is allowed, and its task ends with the cycle
 pub cycles : {K V : Type 0} (eq : K → K → Bool) (equality : IsEquality eq) (m : Meaning K V) (R : List (Told K V)) (v : ℕ)

@@ -5,7 +5,6 @@ use Rattle.std.proofs.lemmas.Option.{none-some}
 use Rattle.dice_key.specs.Meaning.{Meaning}
 use Rattle.dice_key.specs.Lawful.{IsEquality}
 use Rattle.dice_key.specs.declared.universe.Kind.TheVariants.{Injected}
-use Rattle.dice_model.specs.Log.{Has}
 use Rattle.task_share.specs.Asked.{By, Promised, Tasked, Asked, Takes}
 use Rattle.journal.specs.declared.event.Told.{Told}
 use Rattle.journal.specs.declared.event.Told.TheVariants.{Close, Leave, Drop}
@@ -14,13 +13,12 @@ use Rattle.journal.specs.Law.{IsAllowed}
 use Rattle.core_laws.specs.Tasks.{Task, goes_on, is_going, is_computing, batch_of, value_of}
 use Rattle.core_laws.specs.Stands.{TaskStands, VersionStands}
 use Rattle.core_laws.specs.Changes.{Puts}
-use Rattle.core_laws.proofs.Shapes.{and_none, not_both, leads_fewer, same_or_other, put_here, put_other}
+use Rattle.core_laws.proofs.Shapes.{and_none, not_both, same_or_other, put_here, put_other}
 use Rattle.core_laws.proofs.OfKey.{asked_before, asked_by_another, promise_stays, others_stay, named, drop_leaves, task_on}
 use Rattle.core_laws.proofs.Ends.{no_value_at_work, undecided_at_work}
-
-and_all : (a : Bool) → (a && true) ≡ a
-and_all true = refl
-and_all false = refl
+use Rattle.lists.specs.Lists.{Has}
+use Rattle.std.proofs.Math.Bool.{and-true}
+use Rattle.task_share.proofs.Leads.{leads_fewer}
 
 -- what is at work is a task
 pub going_task : {K V : Type 0} (o : Option (Task K V)) → is_going o ≡ true → (t : Task K V) × (o ≡ Some t) × (goes_on t.standing ≡ true)
@@ -59,7 +57,7 @@ module _ {K V : Type 0} (eq : K → K → Bool) (equality : IsEquality eq) (m : 
   undecided = undecided_at_work eq m R v k taken.0 taken.2 (h.each k taken.0 taken.1)
 
   live_others : (q : K) → eq k q ≡ false → u.live q ≡ s.live q
-  live_others q n = w.live q ∙ (ap (λ b. s.live q && not b) n ∙ and_all (s.live q))
+  live_others q n = w.live q ∙ (ap (λ b. s.live q && not b) n ∙ and-true (s.live q))
 
   awaited_on : (d j : K) → u.asks d (Tasked j) ≡ true → (u.live d ≡ true) ⊎ Has W d
   awaited_on d j e = elim (h.awaited d j (before d (Tasked j) e)) as (λ _. (u.live d ≡ true) ⊎ Has W d) [
@@ -130,7 +128,7 @@ module _ {K V : Type 0} (eq : K → K → Bool) (equality : IsEquality eq) (m : 
       waits = λ d j e. h.waits d j (before d (Tasked j) e);
       waiting = λ d j e. (let a = h.waiting d j (before d (Tasked j) e) in (a.0, ap batch_of (others j (asked_by_another eq k s u w.asks d j e)) ∙ a.1, a.2));
       awaited = awaited_on;
-      no_circle = λ a i e l. h.no_circle a i (before i (Tasked a) e) (leads_fewer s u before i a l);
+      no_cycle = λ a i e l. h.no_cycle a i (before i (Tasked a) e) (leads_fewer s u before i a l);
       stuck = λ j ks e. (let a = waits_still j ks e in let d = h.stuck j ks a.1 in (d.0, others_stay eq k s u w.asks d.0 j a.0 d.1));
       batch = batch_on;
       live = live_on;

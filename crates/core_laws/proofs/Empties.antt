@@ -4,9 +4,8 @@ use Rattle.std.proofs.lemmas.Bool.{both_ways, false_from_ne_true}
 use Rattle.std.proofs.lemmas.Option.{none-some}
 use Rattle.dice_key.specs.Lawful.{IsEquality, IsLawful}
 use Rattle.dice_key.specs.Meaning.{Meaning}
-use Rattle.dice_model.specs.Log.{Has, AreDistinct}
-use Rattle.dice_model.proofs.Finite.{few, has_or_not}
-use Rattle.task_share.specs.Asked.{By, Promised, Tasked, Asked, Leads, stays, asks_on, HasNoCircle, IsDone}
+use Rattle.dice_key.proofs.KeySets.{has_or_not}
+use Rattle.task_share.specs.Asked.{By, Promised, Tasked, Asked, Leads, stays, asks_on, HasNoCycle, IsDone}
 use Rattle.journal.specs.declared.event.Told.{Told}
 use Rattle.journal.specs.Events.{Asking, opened_at, open_count, live_at, decided, is_running}
 use Rattle.journal.specs.Law.{IsLawfulBack}
@@ -15,8 +14,10 @@ use Rattle.journal.proofs.Counts.{none_open}
 use Rattle.core_laws.specs.Tasks.{Task, Standing, Works, Ended, goes_on, computes, waits_for, is_going, is_computing, batch_of}
 use Rattle.core_laws.specs.Stands.{VersionStands, IsAtRest}
 use Rattle.core_laws.specs.Promises.{nobody}
+use Rattle.lists.proofs.Distinct.{few}
+use Rattle.lists.specs.Lists.{AreDistinct, Has}
 
-module _ {K : Type 0} (eq : K → K → Bool) (equality : IsEquality eq) (s : Asked K) (all : List K) (finite : (q : K) → s.live q ≡ true → Has all q) (free : HasNoCircle s)
+module _ {K : Type 0} (eq : K → K → Bool) (equality : IsEquality eq) (s : Asked K) (all : List K) (finite : (q : K) → s.live q ≡ true → Has all q) (free : HasNoCycle s)
     (asked : (q : K) → s.live q ≡ true → (j : K) × (s.asks q (Tasked j) ≡ true) × (s.live j ≡ true)) where
   climbs : (n : ℕ) (q : K) (path : List K) → ((e : K) → Has (q ∷ path) e → Leads s q e) → ((e : K) → Has (q ∷ path) e → s.live e ≡ true) → AreDistinct (q ∷ path) → length all < length (q ∷ path) + n → ⊥
   climbs zero q path l v d room = let z = few (q ∷ path) all d (λ e h. finite e (v e h)) in omega arith
@@ -30,7 +31,7 @@ module _ {K : Type 0} (eq : K → K → Bool) (equality : IsEquality eq) (s : As
             (fresh, d) (let z : length (a.0 ∷ q ∷ path) ≡ suc (length (q ∷ path)) = refl in omega arith)
       ]
 
-  -- where each task at work is asked for by a task at work, and there are finitely many without a circle, there is none
+  -- where each task at work is asked for by a task at work, and there are finitely many without a cycle, there is none
   pub none_live : (q : K) → s.live q ≡ true → ⊥
   none_live q v = climbs (length all) q [] (λ e g. elim g as (λ _. Leads s q e) [ inl i ↦ subst (Leads s q) i stays | inr b ↦ absurd b ])
       (λ e g. elim g as (λ _. s.live e ≡ true) [ inl i ↦ subst (λ y. s.live y ≡ true) i v | inr b ↦ absurd b ]) ((λ b. b), tt) (omega arith)
@@ -45,7 +46,7 @@ module _ {K V : Type 0} (eq : K → K → Bool) (m : Meaning K V) (R : List (Tol
       waits = λ d k e. absurd (both_ways false refl e);
       waiting = λ d k e. absurd (both_ways false refl e);
       awaited = λ d k e. absurd (both_ways false refl e);
-      no_circle = λ k i e l. both_ways false refl e;
+      no_cycle = λ k i e l. both_ways false refl e;
       stuck = λ k ks e. absurd (none-some ks e);
       batch = λ k ks e d q. absurd (none-some ks e);
       live = λ k. refl;
@@ -88,7 +89,7 @@ module _ {K V : Type 0} (eq : K → K → Bool) (equality : IsEquality eq) (m : 
 
     -- no task is at work
     pub idle : (q : K) → s.live q ≡ false
-    idle q = false_from_ne_true (s.live q) (none_live eq equality s all finite h.no_circle asked_by q)
+    idle q = false_from_ne_true (s.live q) (none_live eq equality s all finite h.no_cycle asked_by q)
 
 module _ {K V : Type 0} (eq : K → K → Bool) (equality : IsEquality eq) (m : Meaning K V) (law : IsLawful m) (R : List (Told K V)) (v : ℕ) where
   -- where each task at work has an asker, the version is at rest with no task and no ask

@@ -5,7 +5,6 @@ use Rattle.std.proofs.lemmas.Option.{none-some}
 use Rattle.dice_key.specs.Meaning.{Meaning, Answered, Ends}
 use Rattle.dice_key.specs.Lawful.{IsLawful, IsEquality}
 use Rattle.dice_key.specs.declared.universe.Kind.TheVariants.{Injected}
-use Rattle.dice_model.specs.Log.{Has}
 use Rattle.dice_model.specs.Eval.{HasValue}
 use Rattle.dice_model.specs.Asks.{AllTrue, Goes, IsTrace}
 use Rattle.dice_model.proofs.Traces.{trace_value}
@@ -15,12 +14,16 @@ use Rattle.journal.specs.declared.event.Told.{Told}
 use Rattle.journal.specs.declared.event.Told.TheVariants.{Start, Keep, End, Lost}
 use Rattle.journal.specs.declared.event.Reason.TheVariants.{Differs}
 use Rattle.journal.specs.Events.{ByValue, commits_of, decided, is_running}
-use Rattle.journal.specs.Law.{AreValues, DiffersFirst, IsAllowed, IsWanted, Backs}
-use Rattle.core_laws.specs.Tasks.{Work, Computes, Checks, Phase, IsReady, IsOut, Outcome, WithValue, WithNothing, Standing, Works, Ended, Task, goes_on, computes, waits_for, value_in, is_going, is_computing, batch_of, value_of}
-use Rattle.core_laws.specs.Stands.{GoesAlong, IsNextOf, lost_in_epoch, WasSeen, OutcomeStands, AtWork, IsStanding, TaskStands, VersionStands}
+use Rattle.journal.specs.Law.{DiffersFirst, IsAllowed, IsWanted, Backs}
+use Rattle.core_laws.specs.Tasks.{Phase, IsReady, IsOut, Outcome, WithValue, WithNothing, Standing, Works, Ended, Task, goes_on, computes, waits_for, value_in, is_going, is_computing, batch_of, value_of}
+use Rattle.core_laws.specs.Stands.{IsNextOf, lost_in_epoch, WasSeen, OutcomeStands, AtWork, IsStanding, TaskStands, VersionStands}
 use Rattle.core_laws.specs.Changes.{Puts, SameAsks, SameLives, Lives, Withdraws, ChangesFirst}
 use Rattle.core_laws.proofs.Shapes.{not_both, same_or_other, put_each, put_fact, put_none, Shape, shape_of, asks_nothing, eased}
 use Rattle.core_laws.proofs.OfKey.{asked_before, asked_by_another, promise_stays, others_stay, LeavesOthers, named, start_leaves, keep_leaves, end_leaves, lost_leaves, task_with, task_on}
+use Rattle.lists.specs.Lists.{Has}
+use Rattle.dice_jobs.proofs.Followed.{changed_front, same_front}
+use Rattle.dice_jobs.specs.Jobs.{Checks, Computes, Work}
+use Rattle.dice_jobs.specs.Truths.{Follows}
 
 -- a task at work has no value yet
 pub no_value_at_work : {K V : Type 0} (d : Standing K V) → goes_on d ≡ true → value_in d ≡ None
@@ -47,7 +50,7 @@ module _ {K V : Type 0} (eq : K → K → Bool) (equality : IsEquality eq) (m : 
     waits = λ q j e. rw f.commits (h.waits q j (fewer q (Tasked j) e));
     waiting = shape.waiting;
     awaited = shape.awaited;
-    no_circle = shape.no_circle;
+    no_cycle = shape.no_cycle;
     stuck = shape.stuck;
     batch = shape.batch;
     live = shape.live;
@@ -62,7 +65,7 @@ module _ {K V : Type 0} (eq : K → K → Bool) (equality : IsEquality eq) (m : 
 
     -- one more key whose askers are to be told
     wider : Shape m W s ts → Shape m (k ∷ W) s ts
-    wider i = record { waiting = i.waiting; awaited = λ q j e. elim (i.awaited q j e) as (λ _. (s.live q ≡ true) ⊎ Has (k ∷ W) q) [ inl a ↦ inl a | inr b ↦ inr (inr b) ]; no_circle = i.no_circle; stuck = i.stuck; batch = i.batch; live = i.live }
+    wider i = record { waiting = i.waiting; awaited = λ q j e. elim (i.awaited q j e) as (λ _. (s.live q ≡ true) ⊎ Has (k ∷ W) q) [ inl a ↦ inl a | inr b ↦ inr (inr b) ]; no_cycle = i.no_cycle; stuck = i.stuck; batch = i.batch; live = i.live }
 
     -- it ends, and its asks are withdrawn
     pub task_ends : (o : Outcome K V) → Withdraws eq k s u → Lives eq k false s u → Puts eq k (Some (record { born = t.born; standing = Ended o })) ts us → OutcomeStands eq m S v k o → is_running eq S v k ≡ false → VersionStands eq m S v (k ∷ W) u us
@@ -87,7 +90,7 @@ module _ {K V : Type 0} (eq : K → K → Bool) (equality : IsEquality eq) (m : 
 
 module _ {K V : Type 0} where
   -- answers to all batches of a trace that are those of the trace
-  pub same_batches : (T A : List (Answered K V)) → GoesAlong T A → map (λ a. a.values) A ≡ map (λ b. b.values) T → A ≡ T
+  pub same_batches : (T A : List (Answered K V)) → Follows T A → map (λ a. a.values) A ≡ map (λ b. b.values) T → A ≡ T
   same_batches [] [] g e = refl
   same_batches [] (a ∷ A) g e = absurd g
   same_batches (b ∷ T) [] g e = cc
@@ -98,39 +101,6 @@ module _ {K V : Type 0} where
       let r = same_batches T A g.1 y in
       let i : a ≡ b = λ i. record { keys = g.0 i; values = x i } in
       λ j. i j ∷ r j
-
-  -- answers to the first batches of a trace that are those of the trace
-  pub same_front : (before rest A : List (Answered K V)) → GoesAlong (before ++ rest) A → map (λ a. a.values) A ≡ map (λ b. b.values) before → A ≡ before
-  same_front [] rest [] g e = refl
-  same_front [] rest (a ∷ A) g e = let z : a.values ∷ map (λ a. a.values) A ≡ [] = e in cc
-  same_front (b ∷ bs) rest [] g e = let z : [] ≡ b.values ∷ map (λ b. b.values) bs = e in cc
-  same_front (b ∷ bs) rest (a ∷ A) g e =
-      let z : a.values ∷ map (λ a. a.values) A ≡ b.values ∷ map (λ b. b.values) bs = e in
-      let x : a.values ≡ b.values = cc in
-      let y : map (λ a. a.values) A ≡ map (λ b. b.values) bs = cc in
-      let r = same_front bs rest A g.1 y in
-      λ j. record { keys = g.0 j; values = x j } ∷ r j
-
-  no_batches : (A : List (Answered K V)) → map (λ a. a.values) A ≡ [] → A ≡ []
-  no_batches [] e = refl
-  no_batches (a ∷ A) e = let z : a.values ∷ map (λ a. a.values) A ≡ [] = e in cc
-
-  -- answers to the first batches of a trace that are those of the trace but for the last
-  changed_batches : (before later : List (Answered K V)) (b : Answered K V) (ys : List V) (A : List (Answered K V)) → GoesAlong (before ++ b ∷ later) A → map (λ a. a.values) A ≡ map (λ b. b.values) before ++ ys ∷ [] → A ≡ before ++ record { keys = b.keys; values = ys } ∷ []
-  changed_batches [] later b ys [] g e = let z : [] ≡ ys ∷ [] = e in cc
-  changed_batches [] later b ys (a ∷ A) g e =
-      let z : a.values ∷ map (λ a. a.values) A ≡ ys ∷ [] = e in
-      let x : a.values ≡ ys = cc in
-      let y : map (λ a. a.values) A ≡ [] = cc in
-      let r = no_batches A y in
-      λ j. record { keys = g.0 j; values = x j } ∷ r j
-  changed_batches (c ∷ cs) later b ys [] g e = let z : [] ≡ c.values ∷ (map (λ b. b.values) cs ++ ys ∷ []) = e in cc
-  changed_batches (c ∷ cs) later b ys (a ∷ A) g e =
-      let z : a.values ∷ map (λ a. a.values) A ≡ c.values ∷ (map (λ b. b.values) cs ++ ys ∷ []) = e in
-      let x : a.values ≡ c.values = cc in
-      let y : map (λ a. a.values) A ≡ map (λ b. b.values) cs ++ ys ∷ [] = cc in
-      let r = changed_batches cs later b ys A g.1 y in
-      λ j. record { keys = g.0 j; values = x j } ∷ r j
 
 zip_split : {X Y : Type 0} (P : X → Y → Type 0) (ks ls : List X) (d : X) (xs ys : List Y) (y : Y) → length ks ≡ length xs → AllZip P (ks ++ d ∷ ls) (xs ++ y ∷ ys) → AllZip P ks xs × P d y
 zip_split P [] ls d [] ys y e z = (tt, z.0)
@@ -143,17 +113,13 @@ zip_split P (k ∷ ks) ls d (x ∷ xs) ys y e z =
     ((z.0, r.0), r.1)
 
 -- after answers that are those of a trace's first batches, the trace's next batch is asked
-pub next_of_trace : {K V : Type 0} (eq : K → K → Bool) (m : Meaning K V) (T A before after : List (Answered K V)) (b : Answered K V) → GoesAlong T A → T ≡ before ++ b ∷ after → map (λ a. a.values) A ≡ map (λ b. b.values) before → IsNextOf eq m T A b.keys
+pub next_of_trace : {K V : Type 0} (eq : K → K → Bool) (m : Meaning K V) (T A before after : List (Answered K V)) (b : Answered K V) → Follows T A → T ≡ before ++ b ∷ after → map (λ a. a.values) A ≡ map (λ b. b.values) before → IsNextOf eq m T A b.keys
 next_of_trace eq m T A before after b g e same =
-    let r = same_front before (b ∷ after) A (subst (λ B. GoesAlong B A) e g) same in
+    let r = same_front before (b ∷ after) A (subst (λ B. Follows B A) e g) same in
     record { batch = b; later = after; trace_is = e ∙ ap (λ B. B ++ b ∷ after) (sym r); keys_are = refl }
 
 module _ {K V : Type 0} (eq : K → K → Bool) (m : Meaning K V) (C : List (List (K × V))) (v : ℕ) where
-  pub all_true : (A : List (Answered K V)) → AreValues eq m C v A → AllTrue (HasValue eq m C v) A
-  all_true [] h = tt
-  all_true (a ∷ A) h = (h.0, all_true A h.1)
-
-  pub last_values : (A : List (Answered K V)) (b : Answered K V) → AreValues eq m C v (A ++ b ∷ []) → AreValues eq m C v A × AllZip (HasValue eq m C v) b.keys b.values
+  pub last_values : (A : List (Answered K V)) (b : Answered K V) → AllTrue (HasValue eq m C v) (A ++ b ∷ []) → AllTrue (HasValue eq m C v) A × AllZip (HasValue eq m C v) b.keys b.values
   last_values [] b h = (tt, h.0)
   last_values (a ∷ A) b h = let r = last_values A b h.1 in ((h.0, r.0), r.1)
 
@@ -209,7 +175,7 @@ module _ {K V : Type 0} (eq : K → K → Bool) (equality : IsEquality eq) (m : 
       c = (h.each k t there).computed
 
       found : Goes eq m (commits_of R) v k [] T × (m.next k T v ≡ Ends x) × HasValue eq m (commits_of R) v k x
-      found = same_answers eq m law (commits_of R) (commits_of R) seen.finished v k T x c seen.traced.goes seen.traced.ends seen.lasts (all_true eq m (commits_of R) v T (subst (AreValues eq m (commits_of R) v) same a.work.2))
+      found = same_answers eq m law (commits_of R) (commits_of R) seen.finished v k T x c seen.traced.goes seen.traced.ends seen.lasts (subst (AllTrue (HasValue eq m (commits_of R) v)) same a.work.2)
 
   -- a check with a changed answer: its Start is allowed, with that cause, and its task computes
   pub differs : (T A : List (Answered K V)) (x : V) (b : ℕ) (d : K) → t.standing ≡ Works (Checks x T b) IsOut A → ChangesFirst T A d → IsWanted eq m R v k → SameAsks eq s u → SameLives eq s u → Puts eq k (Some (record { born = t.born; standing = Works Computes IsReady [] })) ts us
@@ -235,8 +201,8 @@ module _ {K V : Type 0} (eq : K → K → Bool) (equality : IsEquality eq) (m : 
       last : Answered K V
       last = record { keys = f.batch.keys; values = f.answers }
 
-      split : AreValues eq m (commits_of R) v f.before × AllZip (HasValue eq m (commits_of R) v) f.batch.keys f.answers
-      split = last_values eq m (commits_of R) v f.before last (subst (AreValues eq m (commits_of R) v) (changed_batches f.before f.later f.batch f.answers A (subst (λ B. GoesAlong B A) f.trace_is a.work.1) f.answered) a.work.2)
+      split : AllTrue (HasValue eq m (commits_of R) v) f.before × AllZip (HasValue eq m (commits_of R) v) f.batch.keys f.answers
+      split = last_values eq m (commits_of R) v f.before last (subst (AllTrue (HasValue eq m (commits_of R) v)) (changed_front f.before f.later A f.batch f.answers (subst (λ B. Follows B A) f.trace_is a.work.1) f.answered) a.work.2)
 
       first : AllZip (HasValue eq m (commits_of R) v) f.keys_before f.same × HasValue eq m (commits_of R) v d f.now
       first = zip_split (HasValue eq m (commits_of R) v) f.keys_before f.keys_later d f.same f.now_later f.now f.counted

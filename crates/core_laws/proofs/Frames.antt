@@ -5,15 +5,15 @@ use Rattle.std.proofs.lemmas.Option.{none-some}
 use Rattle.dice_key.specs.Meaning.{Meaning, Answered}
 use Rattle.dice_key.specs.declared.universe.Kind.TheVariants.{Injected}
 use Rattle.dice_model.specs.Eval.{HasValue}
-use Rattle.dice_model.specs.Asks.{Goes, AsksFor, Reaches, IsCycle}
+use Rattle.dice_model.specs.Asks.{Goes, AsksFor, Reaches, IsCycle, AllTrue}
 use Rattle.dice_model.proofs.Stable.{value_stable, zip_stable, goes_stable, asks_stable, reaches_stable, cycle_stable}
 use Rattle.task_share.specs.Asked.{Promised, Tasked, Asked, Leads, stays, asks_on}
 use Rattle.journal.specs.declared.event.Told.{Told}
 use Rattle.journal.specs.Events.{Asking, commits_of, open_count, opened_at, live_at, decided, asked_in_epoch, is_running, is_base}
-use Rattle.journal.specs.Law.{AreValues}
-use Rattle.core_laws.specs.Tasks.{Work, Computes, Checks, Outcome, WithValue, WithCycle, WithNothing, Standing, Works, Ended, Task, batch_of}
+use Rattle.core_laws.specs.Tasks.{Outcome, WithValue, WithCycle, WithNothing, Standing, Works, Ended, Task, batch_of}
 use Rattle.core_laws.specs.Stands.{lost_in_epoch, WasSeen, OutcomeStands, WorkStands, IsStanding, TaskStands, VersionStands, IsAtRest}
 use Rattle.core_laws.specs.Changes.{SameAsks, SameLives}
+use Rattle.dice_jobs.specs.Jobs.{Checks, Computes, Work}
 
 -- S says of the tasks of v what R says
 pub record Carries {K V : Type 0} (eq : K → K → Bool) (R S : List (Told K V)) (v : ℕ) : Type 0 where
@@ -45,7 +45,7 @@ module _ {K V : Type 0} (eq : K → K → Bool) (m : Meaning K V) (R S : List (T
   goes_on : (w : ℕ) → w ≤ length (commits_of R) → (k : K) (A : List (Answered K V)) → Goes eq m (commits_of R) w k [] A → Goes eq m (commits_of S) w k [] A
   goes_on w h k A g = subst (λ C. Goes eq m C w k [] A) (sym c.commits) (goes_stable eq m (commits_of R) c.later w h k [] A g)
 
-  values_on : v ≤ length (commits_of R) → (A : List (Answered K V)) → AreValues eq m (commits_of R) v A → AreValues eq m (commits_of S) v A
+  values_on : v ≤ length (commits_of R) → (A : List (Answered K V)) → AllTrue (HasValue eq m (commits_of R) v) A → AllTrue (HasValue eq m (commits_of S) v) A
   values_on h [] a = tt
   values_on h (b ∷ bs) a = (subst (λ C. AllZip (HasValue eq m C v) b.keys b.values) (sym c.commits) (zip_stable eq m (commits_of R) c.later v h b.keys b.values a.0), values_on h bs a.1)
 
@@ -113,7 +113,7 @@ module _ {K V : Type 0} (eq : K → K → Bool) (m : Meaning K V) (R S : List (T
       waits = λ d k e. (let a = sym (same d k) ∙ e in let w = h.waiting d k a in subst (λ C. AsksFor eq m C v k d) (sym c.commits) (asks_stable eq m (commits_of R) c.later v (within k w.0 w.1) k d (h.waits d k a)));
       waiting = λ d k e. h.waiting d k (sym (same d k) ∙ e);
       awaited = λ d k e. rw (lives d) (h.awaited d k (sym (same d k) ∙ e));
-      no_circle = λ k i e l. h.no_circle k i (sym (same i k) ∙ e) (leads_back i k l);
+      no_cycle = λ k i e l. h.no_cycle k i (sym (same i k) ∙ e) (leads_back i k l);
       stuck = λ k ks e. (let r = h.stuck k ks e in (r.0, same r.0 k ∙ r.1));
       batch = λ k ks e d i. rw (same d k) (h.batch k ks e d i);
       live = λ k. lives k ∙ h.live k;

@@ -2,10 +2,9 @@
 use Rattle.std.proofs.Common.{◌≡◌, ◌<◌, ◌+◌, inl, inr, ℕ, zero, suc, Bool, true, cond, List, [], ◌∷◌, length, Option, Some, None, refl, ap, ◌∙◌, subst, arith, eq-eqb}
 use Rattle.dice_key.specs.Meaning.{Meaning}
 use Rattle.dice_key.specs.Lawful.{IsEquality}
-use Rattle.dice_model.specs.Log.{Has, AreDistinct}
 use Rattle.dice_model.specs.Asks.{AsksFor, Reaches, here, through}
-use Rattle.dice_model.proofs.Finite.{few, has_or_not}
-use Rattle.task_share.specs.Asked.{By, Promised, Tasked, Asked, Held, by_promise, by_task, Leads, stays, asks_on, HasNoCircle, AskersLive, IsDone}
+use Rattle.dice_key.proofs.KeySets.{has_or_not}
+use Rattle.task_share.specs.Asked.{By, Promised, Tasked, Asked, Held, by_promise, by_task, Leads, stays, asks_on, HasNoCycle, AskersLive, IsDone}
 use Rattle.journal.specs.declared.event.Told.{Told}
 use Rattle.journal.specs.declared.event.Told.TheVariants.{Ask, Start, Keep, End, Cyclic, Drop, Lost}
 use Rattle.journal.specs.declared.event.Reason.{Reason}
@@ -14,8 +13,10 @@ use Rattle.journal.specs.Law.{IsWanted, IsLawfulBack}
 use Rattle.core_laws.specs.Tasks.{Task, Standing, Works, Ended, is_going, batch_of}
 use Rattle.core_laws.specs.Stands.{VersionStands, IsAtRest}
 use Rattle.core_laws.proofs.Indices.{live_asked, live_counts}
+use Rattle.lists.proofs.Distinct.{few}
+use Rattle.lists.specs.Lists.{AreDistinct, Has}
 
-module _ {K : Type 0} (eq : K → K → Bool) (equality : IsEquality eq) (s : Asked K) (done : IsDone s) (free : HasNoCircle s) (living : AskersLive s) (all : List K) (finite : (q : K) → s.live q ≡ true → Has all q) where
+module _ {K : Type 0} (eq : K → K → Bool) (equality : IsEquality eq) (s : Asked K) (done : IsDone s) (free : HasNoCycle s) (living : AskersLive s) (all : List K) (finite : (q : K) → s.live q ≡ true → Has all q) where
   rises : (n : ℕ) (q : K) (path : List K) → ((e : K) → Has (q ∷ path) e → Leads s q e) → ((e : K) → Has (q ∷ path) e → s.live e ≡ true) → AreDistinct (q ∷ path) → length all < length (q ∷ path) + n → Held s q
   rises zero q path l v d room = absurd (let z = few (q ∷ path) all d (λ e h. finite e (v e h)) in omega arith)
   rises (suc n) q path l v d room = let a = done q (v q (inl refl)) in by_asker (λ j p. rises n j p) a.0 a.1
@@ -95,7 +96,7 @@ module _ {K V : Type 0} (eq : K → K → Bool) (m : Meaning K V) where
 
     -- between the engine's calls each task at work is wanted
     pub all_wanted : IsEquality eq → (s : Asked K) (ts : K → Option (Task K V)) → IsAtRest eq m R v s ts → (all : List K) → ((q : K) → s.live q ≡ true → Has all q) → (k : K) → s.live k ≡ true → IsWanted eq m R v k
-    all_wanted equality s ts h all finite k l = held_wanted [] s ts h.stands k (climbs eq equality s h.wanted h.stands.no_circle (askers_live [] s ts h.stands) all finite k l)
+    all_wanted equality s ts h all finite k l = held_wanted [] s ts h.stands k (climbs eq equality s h.wanted h.stands.no_cycle (askers_live [] s ts h.stands) all finite k l)
 
   -- what is wanted is reached by a key that was asked for in the epoch, and a transaction is open
   pub wanted_once : IsEquality eq → (R : List (Told K V)) (v : ℕ) (k : K) → IsLawfulBack eq m R → IsWanted eq m R v k → (once : K) × (asked_in_epoch eq R v once ≡ true) × Reaches eq m (commits_of R) v once k × (0 < open_count R v)

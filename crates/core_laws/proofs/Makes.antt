@@ -4,7 +4,6 @@ use Rattle.std.proofs.lemmas.Option.{none-some}
 use Rattle.dice_key.specs.Meaning.{Meaning, Answered}
 use Rattle.dice_key.specs.Lawful.{IsLawful, IsEquality}
 use Rattle.dice_key.specs.declared.universe.Kind.TheVariants.{Injected}
-use Rattle.dice_model.specs.Log.{Has}
 use Rattle.dice_model.specs.Asks.{Reaches}
 use Rattle.task_share.specs.Asked.{Promised, Tasked, Asked}
 use Rattle.journal.specs.declared.event.Told.{Told}
@@ -12,14 +11,13 @@ use Rattle.journal.specs.declared.event.Told.TheVariants.{Start, Keep}
 use Rattle.journal.specs.declared.event.Reason.{Reason}
 use Rattle.journal.specs.Events.{ByValue, names_by, commits_of, decided, asked_in_epoch, is_running, is_base}
 use Rattle.journal.specs.Law.{IsWanted, IsTrueCause, KeepsValue, IsAllowed}
-use Rattle.core_laws.specs.Tasks.{Standing, Works, Ended, WithValue, WithCycle, WithNothing, Work, Computes, Checks, IsReady, Task, goes_on, value_in, is_going, is_computing, batch_of, value_of}
+use Rattle.core_laws.specs.Tasks.{Standing, Works, Ended, WithValue, WithCycle, WithNothing, IsReady, Task, goes_on, value_in, is_going, is_computing, batch_of, value_of}
 use Rattle.core_laws.specs.Stands.{VersionStands, TaskStands, IsStanding, WorkStands, WasSeen}
 use Rattle.core_laws.specs.Changes.{Puts, SameAsks, Lives}
 use Rattle.core_laws.proofs.Shapes.{Shape, shape_of, other_way, asks_nothing, eased, put_each, put_fact, put_none, idle_batch, idle_computes, and_none, not_both}
-
-or_true : (a b : Bool) → b ≡ true → (a || b) ≡ true
-or_true true b e = refl
-or_true false b e = e
+use Rattle.lists.specs.Lists.{Has}
+use Rattle.std.proofs.lemmas.Bool.{or_right}
+use Rattle.dice_jobs.specs.Jobs.{Checks, Computes, Work}
 
 module _ {K : Type 0} (eq : K → K → Bool) where
   names_here : IsEquality eq → (v : ℕ) (k : K) → names_by eq v k v k ≡ true
@@ -63,8 +61,8 @@ module _ {K V : Type 0} (eq : K → K → Bool) (m : Meaning K V) (R : List (Tol
       within = h.0.within;
       same = h.0.same;
       lasts = h.0.lasts;
-      finished_base = or_true (names_by eq w q h.0.finished k) (is_base eq R h.0.finished k) h.0.finished_base;
-      base = or_true (names_by eq w q c k) (is_base eq R c k) h.0.base;
+      finished_base = or_right (names_by eq w q h.0.finished k) (is_base eq R h.0.finished k) h.0.finished_base;
+      base = or_right (names_by eq w q c k) (is_base eq R c k) h.0.base;
     },
     h.1,
     h.2,
@@ -131,7 +129,7 @@ module _ {K V : Type 0} (eq : K → K → Bool) (equality : IsEquality eq) (m : 
           waits = λ d q e. h.waits d q (sym (same d (Tasked q)) ∙ e);
           waiting = shape.waiting;
           awaited = shape.awaited;
-          no_circle = shape.no_circle;
+          no_cycle = shape.no_cycle;
           stuck = shape.stuck;
           batch = shape.batch;
           live = shape.live;
@@ -168,7 +166,7 @@ module _ {K V : Type 0} (eq : K → K → Bool) (equality : IsEquality eq) (m : 
           waits = λ d q e. h.waits d q (sym (same d (Tasked q)) ∙ e);
           waiting = shape.waiting;
           awaited = shape.awaited;
-          no_circle = shape.no_circle;
+          no_cycle = shape.no_cycle;
           stuck = shape.stuck;
           batch = shape.batch;
           live = shape.live;
@@ -204,7 +202,7 @@ module _ {K V : Type 0} (eq : K → K → Bool) (equality : IsEquality eq) (m : 
         waits = λ d q e. h.waits d q (sym (same d (Tasked q)) ∙ e);
         waiting = shape.waiting;
         awaited = shape.awaited;
-        no_circle = shape.no_circle;
+        no_cycle = shape.no_cycle;
         stuck = shape.stuck;
         batch = shape.batch;
         live = shape.live;

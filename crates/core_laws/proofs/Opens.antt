@@ -56,7 +56,7 @@ module _ {K V : Type 0} (eq : K → K → Bool) (m : Meaning K V) (R : List (Tol
         waits = λ d k e. nobody_asks _ d (Tasked k) e;
         waiting = λ d k e. nobody_asks _ d (Tasked k) e;
         awaited = λ d k e. nobody_asks _ d (Tasked k) e;
-        no_circle = λ k i e l. nobody_asks _ i (Tasked k) e;
+        no_cycle = λ k i e l. nobody_asks _ i (Tasked k) e;
         stuck = λ k ks e. absurd (none-some ks (sym (ap batch_of (h.closed empty k)) ∙ e));
         batch = λ k ks e d q. absurd (none-some ks (sym (ap batch_of (h.closed empty k)) ∙ e));
         live = h.stands.live;

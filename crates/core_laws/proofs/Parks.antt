@@ -4,19 +4,20 @@ use Rattle.std.proofs.lemmas.Option.{same_Some, none-some}
 use Rattle.dice_key.specs.Meaning.{Meaning, Answered, Asks}
 use Rattle.dice_key.specs.Lawful.{IsLawful, IsEquality}
 use Rattle.dice_key.specs.declared.universe.Kind.TheVariants.{Injected}
-use Rattle.dice_model.specs.Log.{Has}
 use Rattle.dice_model.specs.Eval.{HasValue}
 use Rattle.dice_model.specs.Asks.{AllTrue, Goes, AsksFor}
 use Rattle.dice_model.proofs.Alike.{goes_alike}
-use Rattle.task_share.specs.Asked.{Promised, Tasked, Asked, Leads, stays, asks_on, HasNoCircle}
+use Rattle.task_share.specs.Asked.{Promised, Tasked, Asked, Leads, stays, asks_on, HasNoCycle}
 use Rattle.journal.specs.declared.event.Told.{Told}
 use Rattle.journal.specs.Events.{Asking, commits_of, live_at, opened_at, is_running}
-use Rattle.journal.specs.Law.{AreValues}
-use Rattle.core_laws.specs.Tasks.{Works, Work, Computes, Checks, IsOut, IsWaiting, Task, computes, waits_for, value_in, is_going, is_computing, batch_of, value_of}
+use Rattle.core_laws.specs.Tasks.{Works, IsOut, IsWaiting, Task, computes, waits_for, value_in, is_going, is_computing, batch_of, value_of}
 use Rattle.core_laws.specs.Stands.{AsksNext, WorkStands, TaskStands, VersionStands}
 use Rattle.core_laws.specs.Changes.{Puts, SameLives, Parks}
-use Rattle.core_laws.proofs.Shapes.{leads_after, same_or_other, put_here, put_other, put_each, put_fact, put_none}
+use Rattle.core_laws.proofs.Shapes.{same_or_other, put_here, put_other, put_each, put_fact, put_none}
 use Rattle.core_laws.proofs.Stages.{at_work}
+use Rattle.lists.specs.Lists.{Has}
+use Rattle.dice_jobs.specs.Jobs.{Checks, Computes, Work}
+use Rattle.task_share.proofs.Leads.{leads_after}
 
 -- ---- what a task asks next
 
@@ -28,9 +29,6 @@ module _ {K V : Type 0} (eq : K → K → Bool) (m : Meaning K V) (C : List (Lis
       let r = goes_first k (before ++ a ∷ []) A b later g.2 in
       ((g.0, g.1, r.0), subst (λ B. m.next k B v ≡ Asks b.keys) (append_assoc before (a ∷ []) A) r.1)
 
-  all_true : (A : List (Answered K V)) → AreValues eq m C v A → AllTrue (HasValue eq m C v) A
-  all_true [] h = tt
-  all_true (b ∷ A) h = (h.0, all_true A h.1)
 
 module _ {K V : Type 0} (eq : K → K → Bool) (equality : IsEquality eq) (m : Meaning K V) (law : IsLawful m) (R : List (Told K V)) (v : ℕ) where
   -- each key of the next batch, of a run or of a check, is one that the task's key asks
@@ -42,13 +40,13 @@ module _ {K V : Type 0} (eq : K → K → Bool) (equality : IsEquality eq) (m : 
       record {
         computed = computed;
         before = A;
-        goes = goes_alike eq m law (commits_of R) (commits_of R) was v k [] A f.0 (all_true eq m (commits_of R) v A g.2);
+        goes = goes_alike eq m law (commits_of R) (commits_of R) was v k [] A f.0 g.2;
         keys = ks;
         asks = law.asks_alike k A was v ks (subst (λ l. m.next k A was ≡ Asks l) n.keys_are f.1);
         among = h;
       }
 
--- ---- new asks close no circle
+-- ---- new asks close no cycle
 
 module _ {K : Type 0} (eq : K → K → Bool) (k : K) (ds : List K) (s u : Asked K) (parks : Parks eq k ds s u) where
   -- a chain to k goes by the asks that were there
@@ -73,9 +71,9 @@ module _ {K : Type 0} (eq : K → K → Bool) (k : K) (ds : List K) (s u : Asked
     | inr n ↦ (let same : i ≡ k = (let t : Tasked i ≡ Tasked k = n.1 in cc) in inr (c, n.0, l, subst (Leads u i) same stays))
   ]
 
-  -- where no key that is asked leads to k, no circle is closed
-  pub parks_no_circle : HasNoCircle s → ((d : K) → Has ds d → Leads s d k → ⊥) → HasNoCircle u
-  parks_no_circle free apart a i e l = elim (parks.only i (Tasked a) e) as (λ _. ⊥) [
+  -- where no key that is asked leads to k, no cycle is closed
+  pub parks_no_cycle : HasNoCycle s → ((d : K) → Has ds d → Leads s d k → ⊥) → HasNoCycle u
+  parks_no_cycle free apart a i e l = elim (parks.only i (Tasked a) e) as (λ _. ⊥) [
     | inl o ↦ elim (parked_split i a l) as (λ _. ⊥) [
       | inl r ↦ free a i o r
       | inr r ↦ apart r.0 r.1 (parked_to r.0 (leads_after u r.0 a k r.2 (asks_on e r.3)))
@@ -114,7 +112,7 @@ module _ {K V : Type 0} (eq : K → K → Bool) (equality : IsEquality eq) (m : 
           | inl o ↦ elim (h.awaited d q o) as (λ _. (u.live d ≡ true) ⊎ Has W d) [ inl l ↦ inl (same d ∙ l) | inr g ↦ inr g ]
           | inr n ↦ inl (same d ∙ (good d n.0).1)
         ];
-        no_circle = parks_no_circle eq k ds s u parked h.no_circle (λ d g. (good d g).2);
+        no_cycle = parks_no_cycle eq k ds s u parked h.no_cycle (λ d g. (good d g).2);
         stuck = λ q l f. elim (same_or_other eq equality k q) as (λ _. (d : K) × (u.asks d (Tasked q) ≡ true)) [
           | inl i ↦ (some, subst (λ y. u.asks some (Tasked y) ≡ true) i (parked.asked some some_in))
           | inr n ↦ (let d = h.stuck q l (ap batch_of (sym (other q n)) ∙ f) in (d.0, parked.kept d.0 (Tasked q) d.1))

@@ -4,20 +4,23 @@ use Rattle.std.specs.List.{AllZip}
 use Rattle.dice_key.specs.Meaning.{Meaning, Answered}
 use Rattle.dice_key.specs.Lawful.{IsLawful, IsEquality}
 use Rattle.dice_key.specs.declared.universe.Kind.TheVariants.{Injected}
-use Rattle.dice_model.specs.Log.{Has}
 use Rattle.dice_model.specs.Eval.{HasValue}
 use Rattle.task_share.specs.Asked.{By, Promised, Tasked, is_by, Asked}
 use Rattle.journal.specs.declared.event.Told.{Told}
 use Rattle.journal.specs.Events.{commits_of}
-use Rattle.core_laws.specs.Tasks.{Works, Work, IsReady, IsWaiting, Task, value_of}
+use Rattle.core_laws.specs.Tasks.{Works, IsReady, IsWaiting, Task, value_of}
 use Rattle.core_laws.specs.Stands.{VersionStands}
 use Rattle.core_laws.specs.Changes.{Puts, SameLives, Leaves}
-use Rattle.core_laws.proofs.Shapes.{same_or_other, leads_fewer, and_none, both_parts, not_both}
+use Rattle.core_laws.proofs.Shapes.{same_or_other, and_none, not_both}
 use Rattle.core_laws.proofs.Stages.{at_work, work_next, turned}
+use Rattle.lists.specs.Lists.{Has}
+use Rattle.std.proofs.lemmas.Bool.{and_parts}
+use Rattle.dice_jobs.specs.Jobs.{Work}
+use Rattle.task_share.proofs.Leads.{leads_fewer}
 
 module _ {K : Type 0} (eq : K → K → Bool) (k : K) (b : By K) (s u : Asked K) (left : Leaves eq k b s u) where
   pub left_fewer : (q : K) (a : By K) → u.asks q a ≡ true → s.asks q a ≡ true
-  left_fewer q a e = (both_parts (s.asks q a) (not (eq k q && is_by eq b a)) (sym (left q a) ∙ e)).0
+  left_fewer q a e = (and_parts (s.asks q a) (not (eq k q && is_by eq b a)) (sym (left q a) ∙ e)).0
 
   -- other askers stay
   pub left_others : (q : K) (a : By K) → is_by eq b a ≡ false → s.asks q a ≡ true → u.asks q a ≡ true
@@ -39,7 +42,7 @@ module _ {K V : Type 0} (eq : K → K → Bool) (equality : IsEquality eq) (m : 
         waits = λ c q e. h.waits c q (fewer c (Tasked q) e);
         waiting = λ c q e. h.waiting c q (fewer c (Tasked q) e);
         awaited = λ c q e. elim (h.awaited c q (fewer c (Tasked q) e)) as (λ _. (u.live c ≡ true) ⊎ Has W c) [ inl l ↦ inl (same c ∙ l) | inr g ↦ inr g ];
-        no_circle = λ a i e l. h.no_circle a i (fewer i (Tasked a) e) (leads_fewer s u fewer i a l);
+        no_cycle = λ a i e l. h.no_cycle a i (fewer i (Tasked a) e) (leads_fewer s u fewer i a l);
         stuck = λ q ks e. elim (same_or_other eq equality j q) as (λ _. (c : K) × (u.asks c (Tasked q) ≡ true)) [
           | inl i ↦ (d, subst (λ y. u.asks d (Tasked y) ≡ true) i on)
           | inr n ↦ (let c = h.stuck q ks e in (c.0, left_others eq k (Tasked j) s u left c.0 (Tasked q) n c.1))
@@ -84,7 +87,7 @@ module _ {K V : Type 0} (eq : K → K → Bool) (equality : IsEquality eq) (m : 
       | inr (inl i) ↦ absurd (not_both e (subst (λ y. s.asks y (Tasked q) ≡ false) i (none q)))
       | inr (inr g) ↦ inr g
     ];
-    no_circle = h.no_circle;
+    no_cycle = h.no_cycle;
     stuck = h.stuck;
     batch = h.batch;
     live = h.live;

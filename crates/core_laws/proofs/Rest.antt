@@ -4,17 +4,20 @@ use Rattle.std.proofs.lemmas.Bool.{and_parts, and_from, and_left, or_left, or_ri
 use Rattle.dice_key.specs.Meaning.{Meaning, Answered}
 use Rattle.dice_key.specs.Lawful.{IsEquality}
 use Rattle.dice_key.specs.declared.universe.Kind.TheVariants.{Injected}
-use Rattle.dice_model.specs.Log.{Has, AreDistinct}
-use Rattle.dice_model.proofs.Finite.{few, has_or_not}
-use Rattle.task_share.specs.Asked.{By, Promised, Tasked, is_by, Asked, Leads, stays, asks_on, HasNoCircle, IsDone, Takes}
+use Rattle.dice_key.proofs.KeySets.{has_or_not}
+use Rattle.task_share.specs.Asked.{By, Promised, Tasked, is_by, Asked, Leads, stays, asks_on, HasNoCycle, IsDone, Takes}
 use Rattle.journal.specs.declared.event.Told.{Told}
 use Rattle.journal.specs.Events.{Asking, live_at, opened_at, open_count}
-use Rattle.core_laws.specs.Tasks.{Outcome, Work, IsReady, IsOut, IsWaiting, Standing, Works, Ended, Task, goes_on, waits_for, is_going, batch_of}
+use Rattle.core_laws.specs.Tasks.{Outcome, IsReady, IsOut, IsWaiting, Standing, Works, Ended, Task, goes_on, waits_for, is_going, batch_of}
 use Rattle.core_laws.specs.Stands.{VersionStands, IsAtRest}
 use Rattle.core_laws.specs.Changes.{Puts, SameLives, Lives, Joins, Leaves, Withdraws, Parks}
 use Rattle.core_laws.proofs.Shapes.{not_both, same_or_other, put_here, put_other, lives_here, lives_other, asks_nothing}
 use Rattle.core_laws.proofs.OfKey.{asked_before, promise_stays, others_stay}
 use Rattle.core_laws.proofs.Drops.{going_task, asked_stays}
+use Rattle.lists.proofs.Distinct.{few}
+use Rattle.lists.specs.Lists.{AreDistinct, Has}
+use Rattle.dice_jobs.specs.Jobs.{Work}
+use Rattle.task_share.proofs.Leads.{leads_more}
 
 -- whoever is asked for has a task
 abbrev pub AreTasked : {K V : Type 0} → Asked K → (K → Option (Task K V)) → Type 0
@@ -115,7 +118,7 @@ module _ {K V : Type 0} (eq : K → K → Bool) (equality : IsEquality eq) (m : 
     waits = h.waits;
     waiting = h.waiting;
     awaited = λ d j e. elim (h.awaited d j e) as (λ _. (s.live d ≡ true) ⊎ Has X d) [ inl a ↦ inl a | inr b ↦ inr (f d j e b) ];
-    no_circle = h.no_circle;
+    no_cycle = h.no_cycle;
     stuck = h.stuck;
     batch = h.batch;
     live = h.live;
@@ -125,11 +128,7 @@ module _ {K V : Type 0} (eq : K → K → Bool) (equality : IsEquality eq) (m : 
   }
 
 module _ {K : Type 0} where
-  leads_more : (s : Asked K) (a b c : K) → Leads s a b → s.asks c (Tasked b) ≡ true → Leads s a c
-  leads_more s a b c stays e = asks_on e stays
-  leads_more s a b c (asks_on {i = i} d l) e = asks_on d (leads_more s i b c l e)
-
-  module _ (eq : K → K → Bool) (equality : IsEquality eq) (s : Asked K) (all : List K) (finite : (q : K) → s.live q ≡ true → Has all q) (free : HasNoCircle s)
+  module _ (eq : K → K → Bool) (equality : IsEquality eq) (s : Asked K) (all : List K) (finite : (q : K) → s.live q ≡ true → Has all q) (free : HasNoCycle s)
       (waits : (q : K) → s.live q ≡ true → (i : K) × (s.asks i (Tasked q) ≡ true) × (s.live i ≡ true)) where
     descends : (n : ℕ) (q : K) (path : List K) → ((e : K) → Has (q ∷ path) e → Leads s e q) → ((e : K) → Has (q ∷ path) e → s.live e ≡ true) → AreDistinct (q ∷ path) → length all < length (q ∷ path) + n → ⊥
     descends zero q path l v d room = let z = few (q ∷ path) all d (λ e h. finite e (v e h)) in omega arith
@@ -152,7 +151,7 @@ module _ {K : Type 0} where
 pub quiet : {K V : Type 0} (eq : K → K → Bool) (equality : IsEquality eq) (m : Meaning K V) (R : List (Told K V)) (v : ℕ) (s : Asked K) (ts : K → Option (Task K V)) → VersionStands eq m R v [] s ts
     → ((k : K) (t : Task K V) (w : Work K V) (A : List (Answered K V)) → ts k ≡ Some t → t.standing ≡ Works w IsReady A → ⊥) → ((k : K) (t : Task K V) (w : Work K V) (A : List (Answered K V)) → ts k ≡ Some t → t.standing ≡ Works w IsOut A → ⊥)
     → (all : List K) → ((q : K) → s.live q ≡ true → Has all q) → (k : K) → s.live k ≡ true → ⊥
-quiet {K} {V} eq equality m R v s ts h ready out all finite k l = stands_still eq equality s all finite h.no_circle waits k l
+quiet {K} {V} eq equality m R v s ts h ready out all finite k l = stands_still eq equality s all finite h.no_cycle waits k l
   where
     waiting : (q : K) (t : Task K V) → ts q ≡ Some t → (d : Standing K V) → t.standing ≡ d → goes_on d ≡ true → (ks : List K) × (batch_of (ts q) ≡ Some ks)
     waiting q t there (Works w IsReady A) e g = absurd (ready q t w A there e)

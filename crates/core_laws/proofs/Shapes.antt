@@ -4,16 +4,14 @@ use Rattle.std.proofs.lemmas.Option.{same_Some, none-some}
 use Rattle.dice_key.specs.Meaning.{Meaning}
 use Rattle.dice_key.specs.Lawful.{IsEquality}
 use Rattle.dice_key.specs.declared.universe.Kind.TheVariants.{Injected}
-use Rattle.dice_model.specs.Log.{Has}
-use Rattle.task_share.specs.Asked.{By, Tasked, Asked, Leads, stays, asks_on, HasNoCircle}
+use Rattle.task_share.specs.Asked.{By, Tasked, Asked, Leads, stays, asks_on, HasNoCycle}
 use Rattle.journal.specs.declared.event.Told.{Told}
 use Rattle.core_laws.specs.Tasks.{Standing, Works, Ended, Task, goes_on, computes, waits_for, value_in, is_going, is_computing, batch_of, value_of}
 use Rattle.core_laws.specs.Stands.{VersionStands}
 use Rattle.core_laws.specs.Changes.{Puts, Lives}
-
-pub both_parts : (a b : Bool) → (a && b) ≡ true → (a ≡ true) × (b ≡ true)
-both_parts true b e = (refl, e)
-both_parts false b e = cc
+use Rattle.lists.specs.Lists.{Has}
+use Rattle.std.proofs.lemmas.Bool.{and_parts}
+use Rattle.task_share.proofs.Leads.{leads_after, leads_fewer}
 
 pub and_none : (a : Bool) → (a && false) ≡ false
 and_none true = refl
@@ -44,16 +42,6 @@ module _ {K V : Type 0} where
       of_standing (Ended o) f = refl
 
 -- ---- chains of asks
-
-module _ {K : Type 0} where
-  pub leads_after : (s : Asked K) (a b c : K) → Leads s a b → Leads s b c → Leads s a c
-  leads_after s a b c stays m = m
-  leads_after s a b c (asks_on {i = i} e l) m = asks_on e (leads_after s i b c l m)
-
-  -- a chain over fewer asks is one over all
-  pub leads_fewer : (s u : Asked K) → ((q : K) (a : By K) → u.asks q a ≡ true → s.asks q a ≡ true) → (a b : K) → Leads u a b → Leads s a b
-  leads_fewer s u f a b stays = stays
-  leads_fewer s u f a b (asks_on {i = i} e l) = asks_on (f i (Tasked a) e) (leads_fewer s u f i b l)
 
 -- ---- one task that is put
 
@@ -113,14 +101,14 @@ module _ {K V : Type 0} (m : Meaning K V) where
   pub record Shape (W : List K) (s : Asked K) (ts : K → Option (Task K V)) : Type 0 where
     pub waiting : (d k : K) → s.asks d (Tasked k) ≡ true → (ks : List K) × (batch_of (ts k) ≡ Some ks) × Has ks d
     pub awaited : (d k : K) → s.asks d (Tasked k) ≡ true → (s.live d ≡ true) ⊎ Has W d
-    pub no_circle : HasNoCircle s
+    pub no_cycle : HasNoCycle s
     pub stuck : (k : K) (ks : List K) → batch_of (ts k) ≡ Some ks → (d : K) × (s.asks d (Tasked k) ≡ true)
     pub batch : (k : K) (ks : List K) → batch_of (ts k) ≡ Some ks → (d : K) → Has ks d → (m.kind d ≡ Injected) ⊎ (s.asks d (Tasked k) ≡ true) ⊎ ((x : V) × (value_of (ts d) ≡ Some x))
     pub live : (k : K) → s.live k ≡ is_going (ts k)
 
 module _ {K V : Type 0} (eq : K → K → Bool) (m : Meaning K V) (R : List (Told K V)) (v : ℕ) where
   pub shape_of : (W : List K) (s : Asked K) (ts : K → Option (Task K V)) → VersionStands eq m R v W s ts → Shape m W s ts
-  shape_of W s ts h = record { waiting = h.waiting; awaited = h.awaited; no_circle = h.no_circle; stuck = h.stuck; batch = h.batch; live = h.live }
+  shape_of W s ts h = record { waiting = h.waiting; awaited = h.awaited; no_cycle = h.no_cycle; stuck = h.stuck; batch = h.batch; live = h.live }
 
   -- a key whose task does not wait asks for nothing
   pub asks_nothing : (W : List K) (s : Asked K) (ts : K → Option (Task K V)) → VersionStands eq m R v W s ts → (k : K) → batch_of (ts k) ≡ None → (d : K) → s.asks d (Tasked k) ≡ true → ⊥
@@ -165,7 +153,7 @@ module _ {K V : Type 0} (eq : K → K → Bool) (equality : IsEquality eq) (m : 
         | inr h ↦ inr h
       ]
     ];
-    no_circle = λ a i e l. shape.no_circle a i (fewer i (Tasked a) e) (leads_fewer s u fewer i a l);
+    no_cycle = λ a i e l. shape.no_cycle a i (fewer i (Tasked a) e) (leads_fewer s u fewer i a l);
     stuck = λ q ks e. (let o = other_batch q ks e in let d = shape.stuck q ks o.1 in (d.0, kept d.0 q o.0 d.1));
     batch = λ q ks e d h. (let o = other_batch q ks e in elim (shape.batch q ks o.1 d h) as (λ _. (m.kind d ≡ Injected) ⊎ (u.asks d (Tasked q) ≡ true) ⊎ ((x : V) × (value_of (us d) ≡ Some x))) [
       | inl i ↦ inl i

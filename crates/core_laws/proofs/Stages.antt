@@ -9,22 +9,20 @@ use Rattle.dice_model.proofs.Finite.{goes_last}
 use Rattle.task_share.specs.Asked.{By, Promised, Tasked, Asked}
 use Rattle.journal.specs.declared.event.Told.{Told}
 use Rattle.journal.specs.Events.{commits_of, is_running}
-use Rattle.journal.specs.Law.{AreValues}
-use Rattle.core_laws.specs.Tasks.{Works, Work, Computes, Checks, Phase, IsReady, IsOut, IsWaiting, Task, computes, waits_for, value_in, is_going, is_computing, batch_of, value_of}
-use Rattle.core_laws.specs.Stands.{GoesAlong, AsksNext, WorkStands, AtWork, IsStanding, TaskStands, VersionStands}
+use Rattle.dice_jobs.proofs.Followed.{true_last}
+use Rattle.core_laws.specs.Tasks.{Works, Phase, IsReady, IsOut, IsWaiting, Task, computes, waits_for, value_in, is_going, is_computing, batch_of, value_of}
+use Rattle.core_laws.specs.Stands.{AsksNext, WorkStands, AtWork, IsStanding, TaskStands, VersionStands}
 use Rattle.core_laws.specs.Changes.{Puts, SameAsks, SameLives, Lives}
 use Rattle.core_laws.proofs.Shapes.{shape_of, asks_nothing, eased, same_or_other, put_each, put_fact, put_none}
+use Rattle.dice_jobs.specs.Jobs.{Checks, Computes, Work}
+use Rattle.dice_jobs.specs.Truths.{Follows}
+use Rattle.dice_model.specs.Asks.{AllTrue}
 
 module _ {K V : Type 0} where
   -- the next batch of a trace, answered, goes along with it
-  pub along_next : (A later : List (Answered K V)) (batch b : Answered K V) → b.keys ≡ batch.keys → GoesAlong (A ++ batch ∷ later) (A ++ b ∷ [])
+  pub along_next : (A later : List (Answered K V)) (batch b : Answered K V) → b.keys ≡ batch.keys → Follows (A ++ batch ∷ later) (A ++ b ∷ [])
   along_next [] later batch b e = (e, tt)
   along_next (a ∷ A) later batch b e = (refl, along_next A later batch b e)
-
-module _ {K V : Type 0} (eq : K → K → Bool) (m : Meaning K V) (C : List (List (K × V))) (v : ℕ) where
-  pub values_next : (A : List (Answered K V)) (b : Answered K V) → AreValues eq m C v A → AllZip (HasValue eq m C v) b.keys b.values → AreValues eq m C v (A ++ b ∷ [])
-  values_next [] b a z = (z, tt)
-  values_next (c ∷ A) b a z = (a.0, values_next A b a.1 z)
 
 module _ {K : Type 0} (eq : K → K → Bool) (equality : IsEquality eq) where
   -- where the same keys live and k does, k goes on
@@ -41,8 +39,8 @@ module _ {K V : Type 0} (eq : K → K → Bool) (equality : IsEquality eq) (m : 
   work_next k Computes A ks xs g n z = goes_last eq m law (commits_of R) v k [] A (record { keys = ks; values = xs }) g n z
   work_next k (Checks x T b) A ks xs g n z = (
     g.0,
-    subst (λ S. GoesAlong S (A ++ record { keys = ks; values = xs } ∷ [])) (sym n.trace_is) (along_next A n.later n.batch (record { keys = ks; values = xs }) (sym n.keys_are)),
-    values_next eq m (commits_of R) v A (record { keys = ks; values = xs }) g.2 z,
+    subst (λ S. Follows S (A ++ record { keys = ks; values = xs } ∷ [])) (sym n.trace_is) (along_next A n.later n.batch (record { keys = ks; values = xs }) (sym n.keys_are)),
+    true_last (HasValue eq m (commits_of R) v) A (record { keys = ks; values = xs }) g.2 z,
   )
 
   -- what is known of a task at work
@@ -67,7 +65,7 @@ module _ {K V : Type 0} (eq : K → K → Bool) (equality : IsEquality eq) (m : 
         waits = λ d q a. h.waits d q (fewer d (Tasked q) a);
         waiting = shape.waiting;
         awaited = shape.awaited;
-        no_circle = shape.no_circle;
+        no_cycle = shape.no_cycle;
         stuck = shape.stuck;
         batch = shape.batch;
         live = shape.live;

@@ -10,7 +10,7 @@ use Rattle.journal.specs.declared.event.Told.TheVariants.{Start, Keep, End, Cycl
 use Rattle.journal.specs.declared.event.Reason.TheVariants.{Differs}
 use Rattle.journal.specs.Events.{commits_of, ended_at}
 use Rattle.journal.specs.Law.{IsAllowed, IsWanted}
-use Rattle.core_laws.specs.Tasks.{Works, Ended, WithValue, WithCycle, WithNothing, Computes, Checks, IsReady, IsOut, Task, goes_on}
+use Rattle.core_laws.specs.Tasks.{Works, Ended, WithValue, WithCycle, WithNothing, IsReady, IsOut, Task, goes_on}
 use Rattle.core_laws.specs.Stands.{CycleStands}
 use Rattle.core_laws.specs.Changes.{Puts, SameAsks, SameLives, Lives, Withdraws, ChangesFirst}
 use Rattle.core_laws.specs.Desk.{World, Desk, DeskTurns, Stand, with_version}
@@ -19,6 +19,7 @@ use Rattle.core_laws.proofs.Ends.{ends, keeps, differs, loses}
 use Rattle.core_laws.proofs.Cycles.{cycles}
 use Rattle.core_laws.proofs.Drops.{drops}
 use Rattle.core_laws.proofs.Steps.{event_on}
+use Rattle.dice_jobs.specs.Jobs.{Checks, Computes}
 
 module _ {K V : Type 0} (eq : K → K → Bool) (equality : IsEquality eq) (m : Meaning K V) (law : IsLawful m) (R : List (Told K V)) (v : ℕ) where
   -- a run that is done: its task ends with its value

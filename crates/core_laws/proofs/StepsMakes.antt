@@ -10,13 +10,14 @@ use Rattle.journal.specs.declared.event.Told.TheVariants.{Start, Keep}
 use Rattle.journal.specs.declared.event.Reason.{Reason}
 use Rattle.journal.specs.Events.{commits_of, decided, asked_in_epoch}
 use Rattle.journal.specs.Law.{IsWanted, IsTrueCause, KeepsValue, IsAllowed}
-use Rattle.core_laws.specs.Tasks.{Works, Ended, WithValue, Computes, Checks, IsReady, Task, is_going}
+use Rattle.core_laws.specs.Tasks.{Works, Ended, WithValue, IsReady, Task, is_going}
 use Rattle.core_laws.specs.Stands.{WasSeen}
 use Rattle.core_laws.specs.Changes.{Puts, SameAsks, Lives}
 use Rattle.core_laws.specs.Desk.{World, Desk, DeskTurns, Stand, with_version}
 use Rattle.core_laws.proofs.Turns.{stands_here}
 use Rattle.core_laws.proofs.Makes.{starts, matches, checks}
 use Rattle.core_laws.proofs.Steps.{event_on, task_on}
+use Rattle.dice_jobs.specs.Jobs.{Checks, Computes}
 
 module _ {K V : Type 0} (eq : K → K → Bool) (equality : IsEquality eq) (m : Meaning K V) (law : IsLawful m) (R : List (Told K V)) (v : ℕ) where
   -- a wanted key that is not decided and has no task at work: its task is made, and computes

@@ -3,13 +3,12 @@ use Rattle.std.proofs.Common.{◌≡◌, ◌≤◌, ◌+◌, ◌*◌, inl, inr, 
 use Rattle.std.proofs.lemmas.Bool.{eqb-true, eq-eqb}
 use Rattle.dice_key.specs.Meaning.{Meaning, Answered}
 use Rattle.dice_key.specs.Lawful.{IsLawful, IsEquality}
-use Rattle.dice_model.specs.Log.{Has}
 use Rattle.task_share.specs.Asked.{Asked, IsDone}
 use Rattle.journal.specs.declared.event.Told.{Told}
 use Rattle.journal.specs.declared.event.Told.TheVariants.{Open, Commit}
 use Rattle.journal.specs.Events.{commits_of, open_count}
 use Rattle.journal.specs.Law.{IsAllowed, IsLawfulBack, IsWanted}
-use Rattle.core_laws.specs.Tasks.{Work, IsReady, IsOut, Standing, Works, Ended, Task, goes_on, is_going}
+use Rattle.core_laws.specs.Tasks.{IsReady, IsOut, Standing, Works, Ended, Task, goes_on, is_going}
 use Rattle.core_laws.specs.Stands.{VersionStands, IsAtRest}
 use Rattle.core_laws.specs.Promises.{nobody}
 use Rattle.core_laws.specs.Desk.{World, Desk, DeskStays, AreAll, IsCount, Stand, Rests, with_version, ready_in, out_in, is_ready, is_out}
@@ -20,6 +19,8 @@ use Rattle.core_laws.proofs.Commits.{committed_rests}
 use Rattle.core_laws.proofs.Empties.{idle, emptied, first_rests}
 use Rattle.core_laws.proofs.Held.{climbs, askers_live, held_wanted, all_wanted}
 use Rattle.core_laws.proofs.Rest.{AreTasked, rests, quiet}
+use Rattle.lists.specs.Lists.{Has}
+use Rattle.dice_jobs.specs.Jobs.{Work}
 
 -- ---- the tasks at work of one version are finitely many
 
@@ -101,7 +102,7 @@ module _ {K V : Type 0} (eq : K → K → Bool) (equality : IsEquality eq) (m : 
 
     -- likewise in the midst of a call, where each of them has an asker
     pub wanted_stand : IsDone s → (k : K) → s.live k ≡ true → IsWanted eq m R v k
-    wanted_stand done k l = held_wanted eq m R v W s ts here k (climbs eq equality s done here.no_circle (askers_live eq m R v W s ts here) live_stand.0 live_stand.1 k l)
+    wanted_stand done k l = held_wanted eq m R v W s ts here k (climbs eq equality s done here.no_cycle (askers_live eq m R v W s ts here) live_stand.0 live_stand.1 k l)
 
   -- ---- from work on v to rest
 

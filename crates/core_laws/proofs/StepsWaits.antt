@@ -4,13 +4,12 @@ use Rattle.std.specs.List.{AllZip}
 use Rattle.dice_key.specs.Meaning.{Meaning, Answered}
 use Rattle.dice_key.specs.Lawful.{IsLawful, IsEquality}
 use Rattle.dice_key.specs.declared.universe.Kind.TheVariants.{Injected}
-use Rattle.dice_model.specs.Log.{Has}
 use Rattle.dice_model.specs.Eval.{HasValue}
 use Rattle.dice_model.specs.Asks.{AsksFor}
 use Rattle.task_share.specs.Asked.{Tasked, Asked, Leads}
 use Rattle.journal.specs.declared.event.Told.{Told}
 use Rattle.journal.specs.Events.{commits_of}
-use Rattle.core_laws.specs.Tasks.{Works, Work, IsReady, IsOut, IsWaiting, Task, value_of}
+use Rattle.core_laws.specs.Tasks.{Works, IsReady, IsOut, IsWaiting, Task, value_of}
 use Rattle.core_laws.specs.Stands.{AsksNext}
 use Rattle.core_laws.specs.Changes.{Puts, SameAsks, SameLives, Leaves, Parks}
 use Rattle.core_laws.specs.Desk.{World, Desk, DeskTurns, DeskStays, Stand, with_version}
@@ -19,6 +18,8 @@ use Rattle.core_laws.proofs.Stages.{taken, brought_back, goes_on_at_once}
 use Rattle.core_laws.proofs.Parks.{parks}
 use Rattle.core_laws.proofs.Releases.{released_on, released_ready, told}
 use Rattle.core_laws.proofs.Steps.{task_on, asks_on}
+use Rattle.lists.specs.Lists.{Has}
+use Rattle.dice_jobs.specs.Jobs.{Work}
 
 module _ {K V : Type 0} (eq : K → K → Bool) (equality : IsEquality eq) (m : Meaning K V) (law : IsLawful m) (R : List (Told K V)) (v : ℕ) where
   -- a task that can be taken is taken

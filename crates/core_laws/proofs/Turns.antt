@@ -12,7 +12,7 @@ use Rattle.core_laws.specs.Desk.{World, Desk, AreAll, IsCount, ListTurns, CountT
 use Rattle.core_laws.proofs.Counts.{all_alike, count_alike, all_more, count_more, all_fewer, count_fewer}
 
 module _ {X : Type 0} (f g : X → Bool) (y : X) (else : (x : X) → (y ≡ x → ⊥) → g x ≡ f x) (test : (x : X) → (y ≡ x) ⊎ (y ≡ x → ⊥)) where
-  same_where : f y ≡ g y → (x : X) → g x ≡ f x
+  pub same_where : f y ≡ g y → (x : X) → g x ≡ f x
   same_where e x = elim (test x) as (λ _. g x ≡ f x) [ inl q ↦ subst (λ z. g z ≡ f z) q (sym e) | inr q ↦ else x q ]
 
   pub list_turns : (a b : Bool) → f y ≡ a → g y ≡ b → (xs ys : List X) → ListTurns a b y xs ys → AreAll f xs → AreAll g ys

@@ -1,9 +1,9 @@
 -- What one step does to the tasks and the asks of a version.
 use Rattle.std.specs.Prelude.{◌≡◌, ◌≢◌, ◌⊎◌, Bool, true, cond, not, ◌&&◌, ◌||◌, List, [], ◌∷◌, ◌++◌, length, map, Option}
 use Rattle.dice_key.specs.Meaning.{Answered}
-use Rattle.dice_model.specs.Log.{Has}
 use Rattle.task_share.specs.Asked.{By, Tasked, Asked, is_by}
 use Rattle.core_laws.specs.Tasks.{Task}
+use Rattle.lists.specs.Lists.{Has}
 
 module _ {K V : Type 0} (eq : K → K → Bool) where
   -- the task of k is this, or none; all other tasks stay

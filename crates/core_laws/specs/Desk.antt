@@ -1,12 +1,12 @@
 -- All versions, and what is counted over them.
 use Rattle.std.specs.Prelude.{◌≡◌, ◌≤◌, ◌+◌, ◌*◌, ℕ, Bool, true, false, cond, eqb, List, [], ◌∷◌, ◌++◌, length, Option, Some, None}
 use Rattle.dice_key.specs.Meaning.{Meaning}
-use Rattle.dice_model.specs.Log.{Has, AreDistinct}
 use Rattle.task_share.specs.Asked.{Asked}
 use Rattle.journal.specs.declared.event.Told.{Told}
 use Rattle.journal.specs.Law.{IsLawfulBack}
 use Rattle.core_laws.specs.Tasks.{IsReady, IsOut, IsWaiting, Standing, Works, Ended, Task, is_going}
 use Rattle.core_laws.specs.Stands.{VersionStands, IsAtRest}
+use Rattle.lists.specs.Lists.{AreDistinct, Has}
 
 -- the tasks and the asks of each version
 pub record World (K V : Type 0) : Type 0 where

@@ -2,21 +2,16 @@
 use Rattle.std.specs.Prelude.{◌≡◌, ◌≢◌, ◌≤◌, ◌<◌, ◌⊎◌, ℕ, Bool, true, false, cond, ◌||◌, List, [], ◌∷◌, ◌++◌, length, Option, Some, None}
 use Rattle.dice_key.specs.Meaning.{Meaning, Answered, Asks}
 use Rattle.dice_key.specs.declared.universe.Kind.TheVariants.{Injected}
-use Rattle.dice_model.specs.Log.{Has}
 use Rattle.dice_model.specs.Eval.{HasValue}
-use Rattle.dice_model.specs.Asks.{Goes, IsTrace, AsksFor, Reaches, IsCycle}
-use Rattle.task_share.specs.Asked.{By, Promised, Tasked, Asked, HasNoCircle, IsDone}
+use Rattle.dice_model.specs.Asks.{Goes, IsTrace, AsksFor, Reaches, IsCycle, AllTrue}
+use Rattle.task_share.specs.Asked.{By, Promised, Tasked, Asked, HasNoCycle, IsDone}
 use Rattle.journal.specs.declared.event.Told.{Told}
 use Rattle.journal.specs.declared.event.Told.TheVariants.{Commit, Open, Close, Ask, Leave, Start, Keep, End, Cyclic, Drop, Lost}
 use Rattle.journal.specs.Events.{Asking, ByValue, ByCycle, names_by, begins, commits_of, opened_at, open_count, live_at, decided, asked_in_epoch, is_running, is_base}
-use Rattle.journal.specs.Law.{AreValues}
-use Rattle.core_laws.specs.Tasks.{Work, Computes, Checks, Phase, IsReady, IsOut, IsWaiting, Outcome, WithValue, WithCycle, WithNothing, Standing, Works, Ended, Task, is_going, is_computing, batch_of, value_of}
-
--- these batches have the keys of the first batches of a trace, in order
-abbrev pub GoesAlong : {K V : Type 0} → List (Answered K V) → List (Answered K V) → Type 0
-GoesAlong T [] = Unit {0}
-GoesAlong [] (a ∷ A) = ⊥
-GoesAlong (t ∷ T) (a ∷ A) = (a.keys ≡ t.keys) × GoesAlong T A
+use Rattle.core_laws.specs.Tasks.{Phase, IsReady, IsOut, IsWaiting, Outcome, WithValue, WithCycle, WithNothing, Standing, Works, Ended, Task, is_going, is_computing, batch_of, value_of}
+use Rattle.lists.specs.Lists.{Has}
+use Rattle.dice_jobs.specs.Jobs.{Checks, Computes, Work}
+use Rattle.dice_jobs.specs.Truths.{Follows}
 
 module _ {K V : Type 0} (eq : K → K → Bool) where
   -- a Lost of (v, k) stands in the epoch of v
@@ -80,7 +75,7 @@ module _ {K V : Type 0} (eq : K → K → Bool) (m : Meaning K V) where
   -- of its trace's first batches
   abbrev pub WorkStands : List (Told K V) → ℕ → K → Work K V → List (Answered K V) → Type 0
   WorkStands R v k Computes A = Goes eq m (commits_of R) v k [] A
-  WorkStands R v k (Checks x T b) A = WasSeen R k x T b × GoesAlong T A × AreValues eq m (commits_of R) v A
+  WorkStands R v k (Checks x T b) A = WasSeen R k x T b × Follows T A × AllTrue (HasValue eq m (commits_of R) v) A
 
   pub record AtWork (R : List (Told K V)) (v : ℕ) (k : K) (w : Work K V) (p : Phase K) (A : List (Answered K V)) : Type 0 where
     pub undecided : decided eq R v k ≡ None
@@ -112,7 +107,7 @@ module _ {K V : Type 0} (eq : K → K → Bool) (m : Meaning K V) where
     pub waiting : (d k : K) → s.asks d (Tasked k) ≡ true → (ks : List K) × (batch_of (ts k) ≡ Some ks) × Has ks d
     -- what is waited for has not ended, or its askers are still to be told
     pub awaited : (d k : K) → s.asks d (Tasked k) ≡ true → (s.live d ≡ true) ⊎ Has W d
-    pub no_circle : HasNoCircle s
+    pub no_cycle : HasNoCycle s
     -- a task that waits has an ask; each key of its batch is injected, or asked for, or has ended with a value
     pub stuck : (k : K) (ks : List K) → batch_of (ts k) ≡ Some ks → (d : K) × (s.asks d (Tasked k) ≡ true)
     pub batch : (k : K) (ks : List K) → batch_of (ts k) ≡ Some ks → (d : K) → Has ks d → (m.kind d ≡ Injected) ⊎ (s.asks d (Tasked k) ≡ true) ⊎ ((x : V) × (value_of (ts d) ≡ Some x))

@@ -1,18 +1,13 @@
 -- Tasks without pointers.
 use Rattle.std.specs.Prelude.{ℕ, Bool, true, false, List, Option, Some, None}
 use Rattle.dice_key.specs.Meaning.{Answered}
+use Rattle.dice_jobs.specs.Jobs.{Checks, Computes, Work}
 
 -- how far the work of a task is: it can be taken; it was taken; it waits for the answers to this batch
 pub data Phase (K : Type 0) : Type 0 where
   IsReady : Phase K
   IsOut : Phase K
   IsWaiting : List K → Phase K
-
--- what a task does: it computes the value; or it checks an earlier value, by the trace through which it came, from the version at which it
--- was last finished or seen
-pub data Work (K V : Type 0) : Type 0 where
-  Computes : Work K V
-  Checks : V → List (Answered K V) → ℕ → Work K V
 
 -- how a task ended: with the value of its key, with a cycle that its key reaches, or given up for want of memory
 pub data Outcome (K V : Type 0) : Type 0 where

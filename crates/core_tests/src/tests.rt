@@ -6,7 +6,7 @@ use std::sync::Arc;
 use std::test::Fail;
 use tiny_universe::{Place, Tiny, Value};
 
-/// What a key has come to; of a circle the number of its keys.
+/// What a key has come to; of a cycle the number of its keys.
 #[derive(Clone, Copy, Debug, PartialEq, Eq)]
 enum Seen {
     Number(u64),
@@ -49,7 +49,7 @@ const ROWS: [Row; 35] = [
     (Call::Open, 1, CELL, Seen::Number(2), 0, 0),
     (Call::Ask(SUM), 1, SUM, Seen::Pending, 1, 0),
     (Call::Work, 1, SUM, Seen::Number(2), 0, 0),
-    // A circle, a projection, and a value that hangs on the version.
+    // A cycle, a projection, and a value that hangs on the version.
     (Call::Ask(RING), 1, RING, Seen::Pending, 1, 0),
     (Call::Work, 1, RING, Seen::Cycle(2), 0, 0),
     (Call::Ask(PARITY), 1, PARITY, Seen::Pending, 1, 0),

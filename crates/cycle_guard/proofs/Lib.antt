@@ -1,4 +1,4 @@
 pub mod SearchLemmas
 pub mod StepLemmas
-pub mod CircleLemmas
+pub mod CycleLemmas
 pub mod WaitLemmas

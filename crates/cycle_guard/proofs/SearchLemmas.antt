@@ -5,68 +5,14 @@ use Rattle.std.specs.List.{list_any}
 use Rattle.std.proofs.lemmas.List.{reverse-append, reverse-reverse}
 use Rattle.dice_key.specs.Lawful.{IsEquality}
 use Rattle.task_share.specs.Asked.{Tasked, Leads, stays, asks_on}
-use Rattle.task_share.specs.Lists.{Has, AreDistinct}
 use Rattle.task_share.specs.Seen.{Share, asks, waits_at, asked_of, list_for, IsMirrored}
-use Rattle.cycle_guard.specs.Circle.{WouldWait, IsRound, IsSecond, IsCircle}
+use Rattle.cycle_guard.specs.WaitCycle.{WouldWait, IsRound, IsSecond, IsWaitCycle}
 use Rattle.cycle_guard.specs.Search.{Stacked, Pending, IsSearch, unmet}
-
-true_or_false : (b : Bool) → (b ≡ true) ⊎ (b ≡ false)
-true_or_false true = inl refl
-true_or_false false = inr refl
-
-module _ {K : Type 0} where
-  has_front : (cs ds : List K) (x : K) → Has cs x → Has (cs ++ ds) x
-  has_front [] ds x h = absurd h
-  has_front (c ∷ cs) ds x (inl e) = inl e
-  has_front (c ∷ cs) ds x (inr h) = inr (has_front cs ds x h)
-
-  has_back : (cs ds : List K) (x : K) → Has ds x → Has (cs ++ ds) x
-  has_back [] ds x h = h
-  has_back (c ∷ cs) ds x h = inr (has_back cs ds x h)
-
-  has_append : (cs ds : List K) (x : K) → Has (cs ++ ds) x → Has cs x ⊎ Has ds x
-  has_append [] ds x h = inr h
-  has_append (c ∷ cs) ds x (inl e) = inl (inl e)
-  has_append (c ∷ cs) ds x (inr h) = elim (has_append cs ds x h) as (λ _. Has (c ∷ cs) x ⊎ Has ds x) [ inl i ↦ inl (inr i) | inr i ↦ inr i ]
-
-  reverse_more : (xs : List K) (x : K) → reverse (x ∷ xs) ≡ reverse xs ++ x ∷ []
-  reverse_more xs x = reverse-append (x ∷ []) xs
-
-  has_reverse : (xs : List K) (x : K) → Has (reverse xs) x → Has xs x
-  has_reverse [] x h = h
-  has_reverse (y ∷ ys) x h = elim (has_append (reverse ys) (y ∷ []) x (subst (λ zs. Has zs x) (reverse_more ys y) h)) as (λ _. Has (y ∷ ys) x) [
-    | inl i ↦ inr (has_reverse ys x i)
-    | inr i ↦ elim i as (λ _. Has (y ∷ ys) x) [ inl e ↦ inl e | inr b ↦ absurd b ]
-  ]
-
-  distinct_more : (xs : List K) (y : K) → AreDistinct xs → (Has xs y → ⊥) → AreDistinct (xs ++ y ∷ [])
-  distinct_more [] y d n = ((λ h. h), tt)
-  distinct_more (x ∷ xs) y d n = (
-    λ h. elim (has_append xs (y ∷ []) x h) as (λ _. ⊥) [ inl i ↦ d.0 i | inr i ↦ elim i as (λ _. ⊥) [ inl e ↦ n (inl (sym e)) | inr b ↦ absurd b ] ],
-    distinct_more xs y d.1 (λ h. n (inr h)),
-  )
-
-  distinct_reverse : (xs : List K) → AreDistinct xs → AreDistinct (reverse xs)
-  distinct_reverse [] d = tt
-  distinct_reverse (x ∷ xs) d = subst AreDistinct (sym (reverse_more xs x)) (distinct_more (reverse xs) x (distinct_reverse xs d.1) (λ h. d.0 (has_reverse xs x h)))
-
-module _ {K : Type 0} (eq : K → K → Bool) (law : IsEquality eq) where
-  any_has : (xs : List K) (d : K) → list_any (eq d) xs ≡ true → Has xs d
-  any_has [] d e = cc
-  any_has (x ∷ xs) d e = by_test (eq d x) refl e (λ h. any_has xs d h)
-    where
-      by_test : (b : Bool) → eq d x ≡ b → (b || list_any (eq d) xs) ≡ true → (list_any (eq d) xs ≡ true → Has xs d) → (x ≡ d) ⊎ Has xs d
-      by_test true t h again = inl (sym (law.same d x t))
-      by_test false t h again = inr (again h)
-
-  has_any : (xs : List K) (d : K) → Has xs d → list_any (eq d) xs ≡ true
-  has_any [] d h = absurd h
-  has_any (x ∷ xs) d (inl e) = ap (λ b. b || list_any (eq d) xs) (subst (λ y. eq d y ≡ true) (sym e) (law.itself d))
-  has_any (x ∷ xs) d (inr h) = ap (λ b. eq d x || b) (has_any xs d h) ∙ or_true (eq d x)
-    where
-      or_true : (b : Bool) → (b || true) ≡ true
-      or_true true = refl
-      or_true false = refl
+use Rattle.dice_key.proofs.KeySets.{any_has, has_any, unequal}
+use Rattle.lists.proofs.Distinct.{distinct_end, distinct_reverse}
+use Rattle.lists.proofs.Members.{has_either, has_left, has_reverse, has_right, reverse_more}
+use Rattle.lists.specs.Lists.{AreDistinct, Has}
+use Rattle.std.proofs.lemmas.Bool.{cases_Bool}
 
 module _ {K T : Type 0} (eq : K → K → Bool) (law : IsEquality eq) where
   module _ (ps : List (K × Share K T)) (mirror : IsMirrored eq ps) (from to : K) where
@@ -89,7 +35,7 @@ module _ {K T : Type 0} (eq : K → K → Bool) (law : IsEquality eq) where
     )
     up k (j ∷ ks) acc (m ∷ ns) n s r =
         let z = up j ks (k ∷ acc) ns m s.1 (inl (wait_asks j k s.0), r) in
-        let e : reverse (k ∷ j ∷ ks) ++ acc ≡ reverse (j ∷ ks) ++ (k ∷ acc) = ap (λ xs. xs ++ acc) (reverse_more (j ∷ ks) k) ∙ append_assoc (reverse (j ∷ ks)) (k ∷ []) acc in
+        let e : reverse (k ∷ j ∷ ks) ++ acc ≡ reverse (j ∷ ks) ++ (k ∷ acc) = ap (λ xs. xs ++ acc) (reverse_more k (j ∷ ks)) ∙ append_assoc (reverse (j ∷ ks)) (k ∷ []) acc in
         (z.0, e ∙ z.1, z.2, z.3)
 
     -- from `to` each key of the path is led to
@@ -103,8 +49,8 @@ module _ {K T : Type 0} (eq : K → K → Bool) (law : IsEquality eq) where
     led k (j ∷ ks) (m ∷ ns) n s = leads_more to j k (led j ks ns m s.1) (wait_asks j k s.0)
 
     -- the last key of the path waits for `from`
-    pub found_circle : (path : List K) (k : K) (ks : List K) (ns : List ℕ) (n : ℕ) (seen : K → Bool) → reverse path ≡ k ∷ ks → IsSearch eq ps from to (k ∷ ks) (n ∷ ns) seen → Has (waits_at eq ps k) from → IsCircle (asked_of eq ps) from to path
-    found_circle path k ks ns n seen e s h =
+    pub found_cycle : (path : List K) (k : K) (ks : List K) (ns : List ℕ) (n : ℕ) (seen : K → Bool) → reverse path ≡ k ∷ ks → IsSearch eq ps from to (k ∷ ks) (n ∷ ns) seen → Has (waits_at eq ps k) from → IsWaitCycle (asked_of eq ps) from to path
+    found_cycle path k ks ns n seen e s h =
         let z = up k ks [] ns n s.stacked (inl (wait_asks k from h)) in
         let p : path ≡ reverse (k ∷ ks) = sym (reverse-reverse path) ∙ ap reverse e in
         record { rest = z.0; begins = p ∙ (sym (append-nil (reverse (k ∷ ks))) ∙ z.1); second = z.2; distinct = subst AreDistinct (sym p) (distinct_reverse (k ∷ ks) s.distinct); round = z.3 }
@@ -113,8 +59,8 @@ module _ {K T : Type 0} (eq : K → K → Bool) (law : IsEquality eq) where
     found_leads k ks ns n seen s h = leads_more to k from (led k ks ns n s.stacked) (wait_asks k from h)
 
     -- `from` and `to` are one key
-    pub own_circle : from ≡ to → IsCircle (asked_of eq ps) from to (from ∷ [])
-    own_circle e = record { rest = []; begins = refl; second = sym e; distinct = ((λ h. h), tt); round = inr (refl, e) }
+    pub own_cycle : from ≡ to → IsWaitCycle (asked_of eq ps) from to (from ∷ [])
+    own_cycle e = record { rest = []; begins = refl; second = sym e; distinct = ((λ h. h), tt); round = inr (refl, e) }
 
     -- a search that is over met all that `to` leads to
     no_pending : (R : List K) (k i : K) → Pending eq ps R [] k i → ⊥
@@ -139,9 +85,6 @@ module _ {K T : Type 0} (eq : K → K → Bool) (law : IsEquality eq) where
     no_waits e n l = none_leads to from l e n
 
   module _ (ps : List (K × Share K T)) (from to : K) where
-    apart_test : (x y : K) → (x ≡ y → ⊥) → eq x y ≡ false
-    apart_test x y n = elim (true_or_false (eq x y)) as (λ _. eq x y ≡ false) [ inl t ↦ absurd (n (law.same x y t)) | inr f ↦ f ]
-
     pub search_begins : (seen : K → Bool) → (from ≡ to → ⊥) → ((q : K) → seen q ≡ eq to q) → IsSearch eq ps from to (to ∷ from ∷ []) (0 ∷ []) seen
     search_begins seen n s = record {
       stacked = (refl, refl, refl);
@@ -150,7 +93,7 @@ module _ {K T : Type 0} (eq : K → K → Bool) (law : IsEquality eq) where
         | inl e ↦ inr (s q ∙ subst (λ x. eq to x ≡ true) e (law.itself to))
         | inr i ↦ elim i as (λ _. (q ≡ from) ⊎ (seen q ≡ true)) [ inl e ↦ inl (sym e) | inr b ↦ absurd b ]
       ];
-      fresh = s from ∙ apart_test to from (λ e. n (sym e));
+      fresh = s from ∙ unequal eq law to from (λ e. n (sym e));
       begun = s to ∙ law.itself to;
       closed = λ k d m h. inr (inl (law.same to k (sym (s k) ∙ m), subst (λ x. Has (waits_at eq ps x) d) (sym (law.same to k (sym (s k) ∙ m))) h));
     }
@@ -209,9 +152,9 @@ module _ {K T : Type 0} (eq : K → K → Bool) (law : IsEquality eq) where
         | inl f ↦ inr (subst (λ x. later x ≡ true) f now)
         | inr g ↦ elim (s.met q g) as (λ _. (q ≡ from) ⊎ (later q ≡ true)) [ inl f ↦ inl f | inr f ↦ inr (still q f) ]
       ];
-      fresh = marks from ∙ (ap (λ b. cond b true (seen from)) (apart_test d from apart) ∙ s.fresh);
+      fresh = marks from ∙ (ap (λ b. cond b true (seen from)) (unequal eq law d from apart) ∙ s.fresh);
       begun = still to s.begun;
-      closed = λ i x f h. elim (true_or_false (eq d i)) as (λ _. (later x ≡ true) ⊎ Pending eq ps (d ∷ k ∷ ks) (0 ∷ m ∷ ns) i x) [
+      closed = λ i x f h. elim (cases_Bool (eq d i)) as (λ _. (later x ≡ true) ⊎ Pending eq ps (d ∷ k ∷ ks) (0 ∷ m ∷ ns) i x) [
         | inl g ↦ inr (inl (law.same d i g, subst (λ y. Has (waits_at eq ps y) x) (sym (law.same d i g)) h))
         | inr g ↦ elim (s.closed i x (sym (marks i ∙ ap (λ b. cond b true (seen i)) g) ∙ f) h) as (λ _. (later x ≡ true) ⊎ Pending eq ps (d ∷ k ∷ ks) (0 ∷ m ∷ ns) i x) [
           | inl a ↦ inl (still x a)

@@ -10,11 +10,11 @@ use Rattle.std.proofs.lemmas.List.{reverse-append, reverse-reverse, map-append, 
 use Rattle.std.proofs.lemmas.Option.{none-some, same_Some, slice_get-map, slice_get_past, slice_get_read}
 use Rattle.dice_key.specs.Lawful.{IsEquality}
 use Rattle.task_share.specs.Asked.{Leads}
-use Rattle.task_share.specs.Lists.{Has}
 use Rattle.task_share.specs.Seen.{Share, waits_at, asked_of, IsMirrored}
-use Rattle.cycle_guard.specs.Circle.{IsCircle}
+use Rattle.cycle_guard.specs.WaitCycle.{IsWaitCycle}
 use Rattle.cycle_guard.specs.Search.{Stacked, left_of, IsSearch, next_wait, steps_left, is_met}
-use Rattle.cycle_guard.proofs.SearchLemmas.{search_begins, search_popped, search_passed, search_met, found_circle, found_leads, over, unmet_less, unmet_same}
+use Rattle.cycle_guard.proofs.SearchLemmas.{search_begins, search_popped, search_passed, search_met, found_cycle, found_leads, over, unmet_less, unmet_same}
+use Rattle.lists.specs.Lists.{Has}
 
 drop_at : {X : Type 0} (xs : List X) (n : ℕ) (x : X) → slice_get xs n ≡ Some x → drop n xs ≡ x ∷ drop (suc n) xs
 drop_at [] n x e = absurd (none-some x e)
@@ -150,8 +150,8 @@ module _ {K A T : Type 0} (eq : K → K → Bool) (law : IsEquality eq) (ps : Li
     waits_back : (a : AtTop path rest n seen) → Has (waits_at eq ps a.top) from
     waits_back a = subst (Has (waits_at eq ps a.top)) back (has_at (waits_at eq ps a.top) n d (next_at path rest n seen a (Some d) next))
 
-    pub step_found : IsCircle (asked_of eq ps) from to (map arc_value path)
-    step_found = let a = at_top path passed rest n seen e s in found_circle eq law ps mirror from to (map arc_value path) a.top a.below (reverse rest) n seen a.is a.search (waits_back a)
+    pub step_found : IsWaitCycle (asked_of eq ps) from to (map arc_value path)
+    step_found = let a = at_top path passed rest n seen e s in found_cycle eq law ps mirror from to (map arc_value path) a.top a.below (reverse rest) n seen a.is a.search (waits_back a)
 
     pub step_leads : Leads (asked_of eq ps) to from
     step_leads = let a = at_top path passed rest n seen e s in found_leads eq law ps mirror from to a.top a.below (reverse rest) n seen a.search (waits_back a)

@@ -1,2 +1,2 @@
-pub mod Circle
+pub mod WaitCycle
 pub mod Search

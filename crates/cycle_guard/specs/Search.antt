@@ -3,8 +3,8 @@ use Rattle.std.specs.Prelude.{◌≡◌, ◌⊎◌, ◌+◌, ◌*◌, ℕ, suc, 
 use Rattle.std.specs.Arc.{arc_value}
 use Rattle.std.specs.List.{list_any, slice_get}
 use Rattle.std.specs.declared.sync.Arc.{Arc}
-use Rattle.task_share.specs.Lists.{Has, AreDistinct}
 use Rattle.task_share.specs.Seen.{Share, waits_at}
+use Rattle.lists.specs.Lists.{AreDistinct, Has}
 
 module _ {K T : Type 0} (eq : K → K → Bool) (ps : List (K × Share K T)) where
   -- the wait of i for d is still to be passed

@@ -1,10 +1,10 @@
-//! The search for a circle.
+//! The search for a cycle.
 ghost use Rattle.std.specs.Prelude.{◌≡◌, ◌<◌, map, reverse, IfOk, IfSome, IfNone, OnSome};
 ghost use Rattle.std.specs.Arc.{arc_value};
 ghost use Rattle.std.specs.Option.{option_copied, option_map};
 ghost use Rattle.task_share.specs.Asked.{Leads};
 ghost use Rattle.task_share.specs.Seen.{asked_of};
-ghost use Rattle.cycle_guard.specs.Circle.{IsCircle};
+ghost use Rattle.cycle_guard.specs.WaitCycle.{IsWaitCycle};
 ghost use Rattle.cycle_guard.specs.Search.{next_wait};
 
 use crate::walk::leads_to;
@@ -15,7 +15,7 @@ use std::hash::Hash;
 use std::sync::Arc;
 use task_share::{Table, table_in_order};
 
-/// The circle that would be closed if the task of `from` waited for that of `to`: a path exactly where `to` leads to `from` by
+/// The cycle that would be closed if the task of `from` waited for that of `to`: a path exactly where `to` leads to `from` by
 /// waits, or is `from`. It begins with `from`, then `to`; each key waits for the next, and the last for the first.
 ///
 /// Each task is looked up at most once where there is none, and each wait once more where there is one. Where `to` waits for nothing
@@ -26,7 +26,7 @@ pub fn would_close<K: Eq + Hash + Drop, T: Drop>(
     from: &Arc<K>,
     to: &Arc<K>,
 ) -> Result<Option<Path<K>>, NoMemory>
-    ensures path { IfOk result (λ o. IfSome o (λ p. IsCircle (asked_of K.eq table.now) (arc_value from.now) (arc_value to.now) p)) }
+    ensures path { IfOk result (λ o. IfSome o (λ p. IsWaitCycle (asked_of K.eq table.now) (arc_value from.now) (arc_value to.now) p)) }
     ensures some { IfOk result (λ o. IfSome o (λ p. Leads (asked_of K.eq table.now) (arc_value to.now) (arc_value from.now))) }
     ensures none { IfOk result (λ o. IfNone o (Leads (asked_of K.eq table.now) (arc_value to.now) (arc_value from.now) → ⊥)) }
 {
@@ -50,7 +50,7 @@ fn search<K: Eq + Hash + Drop, T: Drop>(
     to: &Arc<K>,
 ) -> Result<Option<Path<K>>, NoMemory>
     requires { arc_value from.now ≡ arc_value to.now → ⊥ }
-    ensures path { IfOk result (λ o. IfSome o (λ p. IsCircle (asked_of K.eq table.now) (arc_value from.now) (arc_value to.now) p)) }
+    ensures path { IfOk result (λ o. IfSome o (λ p. IsWaitCycle (asked_of K.eq table.now) (arc_value from.now) (arc_value to.now) p)) }
     ensures some { IfOk result (λ o. IfSome o (λ p. Leads (asked_of K.eq table.now) (arc_value to.now) (arc_value from.now))) }
     ensures none { IfOk result (λ o. IfNone o (Leads (asked_of K.eq table.now) (arc_value to.now) (arc_value from.now) → ⊥)) }
 {

@@ -1,14 +1,14 @@
-//! When the asks of tasks go on to form no circle.
+//! When the asks of tasks go on to form no cycle.
 ghost use Rattle.std.specs.Prelude.{◌≡◌, ◌||◌, ◌&&◌, true};
 ghost use Rattle.dice_key.specs.Lawful.{IsEquality};
-ghost use Rattle.task_share.specs.Asked.{Asked, By, Tasked, is_by, Leads, HasNoCircle};
+ghost use Rattle.task_share.specs.Asked.{Asked, By, Tasked, is_by, Leads, HasNoCycle};
 
-/// Where the asks of tasks form no circle, they form none with one more wait that `would_close` finds no circle for, and none
+/// Where the asks of tasks form no cycle, they form none with one more wait that `would_close` finds no cycle for, and none
 /// where some were withdrawn.
 ///
 /// It does no work: it says what follows from the calls' contracts.
-pub fn no_circle_stays<K: Eq>()
+pub fn no_cycle_stays<K: Eq>()
     requires { IsEquality K.eq }
-    ensures more { (s t : Asked K) (from to : K) → HasNoCircle s → (Leads s to from → ⊥) → ((q : K) (a : By K) → t.asks q a ≡ (s.asks q a || (K.eq to q && is_by K.eq (Tasked from) a))) → HasNoCircle t }
-    ensures fewer { (s t : Asked K) → HasNoCircle s → ((q : K) (a : By K) → t.asks q a ≡ true → s.asks q a ≡ true) → HasNoCircle t }
+    ensures more { (s t : Asked K) (from to : K) → HasNoCycle s → (Leads s to from → ⊥) → ((q : K) (a : By K) → t.asks q a ≡ (s.asks q a || (K.eq to q && is_by K.eq (Tasked from) a))) → HasNoCycle t }
+    ensures fewer { (s t : Asked K) → HasNoCycle s → ((q : K) (a : By K) → t.asks q a ≡ true → s.asks q a ≡ true) → HasNoCycle t }
 {}

@@ -1,4 +1,4 @@
-//! Whether a wait would close a circle.
+//! Whether a wait would close a cycle.
 #![tactic(auto)]
 
 mod guard;
@@ -6,7 +6,4 @@ mod laws;
 mod walk;
 
 pub use guard::would_close;
-pub use laws::no_circle_stays;
-
-#[cfg(test)]
-mod tests;
+pub use laws::no_cycle_stays;

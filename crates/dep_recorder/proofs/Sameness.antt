@@ -6,14 +6,11 @@ use Rattle.dice_key.specs.Meaning.{Answered}
 use Rattle.dice_key.specs.Lawful.{IsEquality}
 use Rattle.dep_recorder.specs.Recordings.{same_pairs, answered_in, keys_in, values_in}
 use Rattle.dep_recorder.proofs.Findings.{take_one}
+use Rattle.std.proofs.lemmas.Bool.{and_parts}
 
 and_false : (c x : Bool) → x ≡ false → (c && x) ≡ false
 and_false true x h = h
 and_false false x h = refl
-
-and_both : (a b : Bool) → (a && b) ≡ true → (a ≡ true) × (b ≡ true)
-and_both true b e = (refl, e)
-and_both false b e = cc
 
 module _ {K V A B : Type 0} (f : K → K → Bool) (g : V → V → Bool) where
   pub length_differs : (ps qs : List (Arc K A × Arc V B)) → length ps ≢ length qs → same_pairs f g ps qs ≡ false
@@ -36,8 +33,8 @@ module _ {K V A B : Type 0} (f : K → K → Bool) (g : V → V → Bool) where
     pairs_same [] (q ∷ qs) e = cc
     pairs_same (p ∷ ps) [] e = cc
     pairs_same (p ∷ ps) (q ∷ qs) e =
-        let a = and_both (f (arc_value p.0) (arc_value q.0) && g (arc_value p.1) (arc_value q.1)) (same_pairs f g ps qs) e in
-        let b = and_both (f (arc_value p.0) (arc_value q.0)) (g (arc_value p.1) (arc_value q.1)) a.0 in
+        let a = and_parts (f (arc_value p.0) (arc_value q.0) && g (arc_value p.1) (arc_value q.1)) (same_pairs f g ps qs) e in
+        let b = and_parts (f (arc_value p.0) (arc_value q.0)) (g (arc_value p.1) (arc_value q.1)) a.0 in
         let k = keys.same (arc_value p.0) (arc_value q.0) b.0 in
         let x = values.same (arc_value p.1) (arc_value q.1) b.1 in
         let r = pairs_same ps qs a.1 in

@@ -6,8 +6,6 @@ mod extended;
 mod laws;
 mod recorder;
 mod same;
-#[cfg(test)]
-mod tests;
 mod trace;
 
 pub use check::{Check, Next, copied_keys};

@@ -3,7 +3,6 @@ use Rattle.std.proofs.Common.{◌≡◌, ◌<◌, inl, inr, ◌+◌, ℕ, Bool, 
 use Rattle.std.specs.List.{AllByRecursion}
 use Rattle.dice_key.specs.Meaning.{Meaning}
 use Rattle.dice_key.specs.Lawful.{IsEquality, IsLawful}
-use Rattle.dice_model.specs.Log.{Has}
 use Rattle.task_share.specs.Asked.{Asked, By, Promised, is_by, IsDone, Cascade}
 use Rattle.task_share.specs.Seen.{Share, task_at, asks, asked_of, KeepsTasks}
 use Rattle.injected.specs.Seen.{Seen}
@@ -12,7 +11,6 @@ use Rattle.journal.specs.declared.event.Told.TheVariants.{Leave, Drop}
 use Rattle.journal.specs.Events.{open_count, ended_at}
 use Rattle.versioned_graph.specs.Entries.{Stored}
 use Rattle.core_laws.specs.Changes.{Leaves}
-use Rattle.core_laws.proofs.Shapes.{both_parts}
 use Rattle.core_laws.specs.Desk.{World, Stand, AreAll, with_version, is_out}
 use Rattle.core_laws.proofs.StepsAsks.{left_stand}
 use Rattle.dice_core.specs.Askings.{IsAskAt}
@@ -25,12 +23,14 @@ use Rattle.dice_tasks.specs.Hands.{DeskSeen, desk_of, tasks_of, seen_world, with
 use Rattle.dice_tasks.specs.Helds.{Held}
 use Rattle.dice_tasks.proofs.EndsLemmas.{back_more, same_tasks}
 use Rattle.dice_core.proofs.EventLemmas.{all_drops, all_works, entries_given_up, cells_works, count_works}
+use Rattle.lists.specs.Lists.{Has}
+use Rattle.std.proofs.lemmas.Bool.{and_parts}
 
 -- what the cascade drops was at work
 pub dropped_live : {K : Type 0} (eq : K → K → Bool) (ks : List K) (s t : Asked K) → Cascade eq s ks t → (q : K) → Has ks q → s.live q ≡ true
 dropped_live eq [] s t c q h = absurd h
 dropped_live eq (k ∷ ks) s t c q (inl i) = subst (λ z. s.live z ≡ true) i c.1.taken
-dropped_live eq (k ∷ ks) s t c q (inr h) = (both_parts (s.live q) (not (eq k q)) (sym (c.1.live q) ∙ dropped_live eq ks c.0 t c.2 q h)).0
+dropped_live eq (k ∷ ks) s t c q (inr h) = (and_parts (s.live q) (not (eq k q)) (sym (c.1.live q) ∙ dropped_live eq ks c.0 t c.2 q h)).0
 
 module _ {K V : Type 0} (eq : K → K → Bool) (equality : IsEquality eq) (m : Meaning K V) (law : IsLawful m) (v : ℕ) where
   -- the same tasks, with other asks, over one event more: all is there for the cascade

@@ -2,10 +2,9 @@
 use Rattle.std.proofs.Common.{◌≡◌, ◌<◌, ◌≤◌, ◌+◌, ◌-◌, ℕ, Bool, true, false, cond, not, ◌&&◌, nat_eq, eqb, List, [], ◌∷◌, ◌++◌, map, reverse, Option, Some, None, unwrap_or, is_some, refl, sym, ap, ◌∙◌, subst, arith, append_assoc}
 use Rattle.std.specs.List.{list_any}
 use Rattle.std.specs.Map.{lookup}
-use Rattle.std.proofs.lemmas.Bool.{eqb-true, and_right}
+use Rattle.std.proofs.lemmas.Bool.{eqb-true, and_right, and_parts}
 use Rattle.dice_key.specs.Meaning.{Meaning}
 use Rattle.dice_key.specs.Lawful.{IsEquality, IsLawful}
-use Rattle.dice_model.specs.Log.{Has}
 use Rattle.task_share.specs.Asked.{By, Promised, Tasked, is_by, IsDone}
 use Rattle.task_share.specs.Seen.{Share, is_live, asks, asked_of, KeepsTasks}
 use Rattle.injected.specs.Seen.{Seen}
@@ -19,7 +18,6 @@ use Rattle.core_laws.specs.Promises.{is_promise_in, nobody}
 use Rattle.core_laws.specs.Desk.{World, Rests, AreAll, with_version, is_out, out_in}
 use Rattle.core_laws.proofs.Counts.{all_alike}
 use Rattle.core_laws.proofs.Empties.{idle}
-use Rattle.core_laws.proofs.Shapes.{both_parts}
 use Rattle.core_laws.proofs.StepsAsks.{closed_stand}
 use Rattle.core_laws.proofs.StepsRests.{live_stand, rests_emptied}
 use Rattle.core_laws.proofs.Turns.{stands_here}
@@ -39,6 +37,8 @@ use Rattle.dice_tasks.proofs.EntriesLemmas.{stand_close}
 use Rattle.dice_core.proofs.EventLemmas.{all_drops, all_works, entries_given_up, cells_works, count_works, sessions_works}
 use Rattle.dice_tasks.proofs.Dropped.{cascade_distinct}
 use Rattle.dice_core.proofs.SessionLemmas.{closing_end, eqb_flips}
+use Rattle.lists.specs.Lists.{Has}
+use Rattle.std.proofs.Math.Bool.{and-true}
 
 -- ---- the asks of a transaction that go
 
@@ -55,10 +55,6 @@ gone_none true true = refl
 gone_none true false = refl
 gone_none false b = refl
 
-and_all : (x : Bool) → (x && true) ≡ x
-and_all true = refl
-and_all false = refl
-
 module _ {K V : Type 0} (eq : K → K → Bool) where
   -- some of the asks of the transaction t are taken out: ys are left
   pub record TakesSome (R : List (Told K V)) (by t : ℕ) (xs ys : List ℕ) (ps qs : List (K × Share K (Held K V))) (u : SessionsSeen K) : Type 0 where
@@ -74,7 +70,7 @@ module _ {K V : Type 0} (eq : K → K → Bool) where
   pub takes_more : (R : List (Told K V)) (by t : ℕ) (xs ys zs : List ℕ) (ps qs rs : List (K × Share K (Held K V))) (s u : SessionsSeen K) → TakesSome R by t xs ys ps qs s → TakesPromise eq R by t ys zs qs rs u → TakesSome R by t xs zs ps rs u
   takes_more R by t xs ys zs ps qs rs s u h one = record {
     closing = one.closing;
-    promised = λ k i e. h.promised k i (both_parts (asks eq qs k (Promised i)) _ (sym (one.asks k (Promised i)) ∙ e)).0;
+    promised = λ k i e. h.promised k i (and_parts (asks eq qs k (Promised i)) _ (sym (one.asks k (Promised i)) ∙ e)).0;
     fewer = λ i e. h.fewer i (still (nat_eq one.index i) (has_ask ys i) (sym (one.left i) ∙ e));
     asks = λ q a. one.asks q a ∙ (ap (λ b. b && not (is_by eq (Promised one.index) a)) (h.asks q a) ∙ by_asker (asks eq ps q a) a);
   }
@@ -91,11 +87,11 @@ module _ {K V : Type 0} (eq : K → K → Bool) where
           let j : one.index ≡ i = eqb-true one.index i e in
           let l : has_ask xs i ≡ true = subst (λ n. has_ask xs n ≡ true) j known in
           rw l (and_right (x && not (not (has_ask ys i))) false refl ∙ sym (and_right x false refl))
-      by_index x i false e = and_all (x && not (has_ask xs i && not (has_ask ys i)))
+      by_index x i false e = and-true (x && not (has_ask xs i && not (has_ask ys i)))
 
       by_asker : (x : Bool) (a : By K) → ((x && not (is_gone xs ys a)) && not (is_by eq (Promised one.index) a)) ≡ (x && not (is_gone xs zs a))
       by_asker x (Promised i) = by_index x i (nat_eq one.index i) refl ∙ ap (λ b. x && not (has_ask xs i && not b)) (sym (one.left i))
-      by_asker x (Tasked k) = and_all (x && true)
+      by_asker x (Tasked k) = and-true (x && true)
 
   -- then none is left
   pub takes_all : (R : List (Told K V)) (by t : ℕ) (xs ys : List ℕ) (ps qs rs : List (K × Share K (Held K V))) (s u : SessionsSeen K) → TakesSome R by t xs ys ps qs s → ys ≡ [] → u ≡ s → rs ≡ qs → TakesPromises eq R by t xs ps rs u
@@ -105,7 +101,7 @@ module _ {K V : Type 0} (eq : K → K → Bool) where
   }
     where
       by_asker : (x : Bool) (a : By K) → (x && not (is_gone xs [] a)) ≡ (x && not (is_promise_of xs a))
-      by_asker x (Promised i) = ap (λ b. x && not b) (and_all (has_ask xs i))
+      by_asker x (Promised i) = ap (λ b. x && not b) (and-true (has_ask xs i))
       by_asker x (Tasked k) = refl
 
   -- an ask that is taken out was a promise of its key alone

@@ -6,7 +6,7 @@ use Rattle.std.proofs.lemmas.List.{reverse-append, length-append}
 use Rattle.dice_key.specs.Meaning.{Meaning}
 use Rattle.dice_key.specs.Lawful.{IsEquality}
 use Rattle.dice_key.specs.declared.universe.Kind.TheVariants.{Injected}
-use Rattle.dice_model.specs.Log.{Has, AreDistinct, IsCommit, input}
+use Rattle.dice_model.specs.Log.{IsCommit, input}
 use Rattle.injected.specs.Seen.{Seen, sets_at, newest_at}
 use Rattle.injected.specs.Inputs.{set_if}
 use Rattle.injected.proofs.LogLemmas.{log_more, log_newest}
@@ -20,6 +20,7 @@ use Rattle.versioned_graph.specs.Edges.{IsCut}
 use Rattle.versioned_graph.specs.Sound.{AreTrue}
 use Rattle.dice_steps.specs.Cells.{CellsStand}
 use Rattle.dice_core.proofs.CommitLemmas.{all_mapped}
+use Rattle.lists.specs.Lists.{AreDistinct, Has}
 
 -- ---- filters
 

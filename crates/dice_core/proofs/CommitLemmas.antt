@@ -8,53 +8,24 @@ use Rattle.std.proofs.lemmas.List.{map-append, map_more, take-append-drop}
 use Rattle.dice_key.specs.Meaning.{Meaning}
 use Rattle.dice_key.specs.Lawful.{IsEquality}
 use Rattle.dice_key.specs.declared.universe.Kind.TheVariants.{Injected}
-use Rattle.dice_model.specs.Log.{Has, AreDistinct, pair_of, pairs_of}
+use Rattle.dice_model.specs.Log.{pair_of, pairs_of}
 use Rattle.injected.specs.History.{AllBelow}
 use Rattle.injected.specs.Seen.{Seen, sets_at, room_at}
 use Rattle.injected.specs.Inputs.{set_if}
-use Rattle.dice_steps.proofs.NotedLemmas.{unequal, eq_turned}
 use Rattle.dice_core.specs.Commits.{Fault, NotInjected, Twice, key_of, AreSettable, IsFault, IsFirstFault, HaveRoom, AreSet}
+use Rattle.dice_key.proofs.KeySets.{turned_is, unequal}
+use Rattle.lists.proofs.Distinct.{distinct_after, distinct_before, distinct_end}
+use Rattle.lists.proofs.Each.{all_end, all_middle}
+use Rattle.lists.proofs.Members.{has_last, has_right}
+use Rattle.lists.specs.Lists.{AreDistinct, Has}
+use Rattle.dice_model.proofs.Inputs.{lookup_unset}
 
 -- ---- lists
 
 module _ {X : Type 0} where
-  pub has_right : (xs ys : List X) (x : X) → Has ys x → Has (xs ++ ys) x
-  has_right [] ys x h = h
-  has_right (z ∷ zs) ys x h = inr (has_right zs ys x h)
-
-  pub distinct_at : (xs ys : List X) (x : X) → AreDistinct (xs ++ x ∷ ys) → Has xs x → ⊥
-  distinct_at [] ys x d h = h
-  distinct_at (z ∷ zs) ys x d (inl e) = d.0 (subst (Has (zs ++ x ∷ ys)) (sym e) (has_right zs (x ∷ ys) x (inl refl)))
-  distinct_at (z ∷ zs) ys x d (inr h) = distinct_at zs ys x d.1 h
-
-  pub distinct_after : (xs ys : List X) (x : X) → AreDistinct (xs ++ x ∷ ys) → Has ys x → ⊥
-  distinct_after [] ys x d h = d.0 h
-  distinct_after (z ∷ zs) ys x d h = distinct_after zs ys x d.1 h
-
-  has_either : (xs : List X) (y x : X) → Has (xs ++ y ∷ []) x → Has xs x ⊎ (y ≡ x)
-  has_either [] y x (inl e) = inr e
-  has_either [] y x (inr h) = absurd h
-  has_either (z ∷ zs) y x (inl e) = inl (inl e)
-  has_either (z ∷ zs) y x (inr h) = elim (has_either zs y x h) as (λ _. Has (z ∷ zs) x ⊎ (y ≡ x)) [ inl p ↦ inl (inr p) | inr e ↦ inr e ]
-
-  distinct_more : (xs : List X) (x : X) → AreDistinct xs → (Has xs x → ⊥) → AreDistinct (xs ++ x ∷ [])
-  distinct_more [] x d n = ((λ h. h), tt)
-  distinct_more (z ∷ zs) x d n = (
-    (λ h. elim (has_either zs x z h) as (λ _. ⊥) [ inl p ↦ d.0 p | inr e ↦ n (inl (sym e)) ]),
-    distinct_more zs x d.1 (λ h. n (inr h)),
-  )
-
   pub none_left : (xs : List X) (n : ℕ) → n ≡ 0 → n ≡ length xs → xs ≡ []
   none_left [] n e f = refl
   none_left (x ∷ xs) n e f = absurd (omega arith)
-
-  pub all_more : (P : X → Type 0) (xs : List X) (x : X) → AllByRecursion P xs → P x → AllByRecursion P (xs ++ x ∷ [])
-  all_more P [] x a p = (p, tt)
-  all_more P (z ∷ zs) x a p = (a.0, all_more P zs x a.1 p)
-
-  all_at : (P : X → Type 0) (xs ys : List X) (x : X) → AllByRecursion P (xs ++ x ∷ ys) → P x
-  all_at P [] ys x a = a.0
-  all_at P (z ∷ zs) ys x a = all_at P zs ys x a.1
 
   pub all_mapped : (P Q : X → Type 0) → ((x : X) → P x → Q x) → (xs : List X) → AllByRecursion P xs → AllByRecursion Q xs
   all_mapped P Q f [] a = tt
@@ -88,12 +59,12 @@ module _ {X : Type 0} where
 
 module _ {K V : Type 0} (m : Meaning K V) where
   pub settable_more : (ks : List K) (k : K) → AreSettable m ks → m.kind k ≡ Injected → (Has ks k → ⊥) → AreSettable m (ks ++ k ∷ [])
-  settable_more ks k s e n = record { injected = all_more (λ q. m.kind q ≡ Injected) ks k s.injected e; distinct = distinct_more ks k s.distinct n }
+  settable_more ks k s e n = record { injected = all_end (λ q. m.kind q ≡ Injected) ks k s.injected e; distinct = distinct_end ks k s.distinct n }
 
   -- no fault among keys that are injected and distinct
   pub no_fault : (before later : List K) (f : Fault K) → AreSettable m (before ++ key_of f ∷ later) → IsFault m before f → ⊥
-  no_fault before later (NotInjected k) s i = i (all_at (λ q. m.kind q ≡ Injected) before later k s.injected)
-  no_fault before later (Twice k) s i = distinct_at before later k s.distinct i.1
+  no_fault before later (NotInjected k) s i = i (all_middle (λ q. m.kind q ≡ Injected) before later k s.injected)
+  no_fault before later (Twice k) s i = distinct_before before later k s.distinct i.1
 
   pub settable_has_none : (ks : List K) → AreSettable m ks → (f : Fault K) → IsFirstFault m ks f → ⊥
   settable_has_none ks s f i = no_fault i.before i.later f (subst (AreSettable m) i.all s) i.fault
@@ -133,10 +104,6 @@ module _ {K V A B : Type 0} where
       ∙ append_assoc (keys_of (pairs_of (take i ps))) (arc_value p.0 ∷ []) (keys_of (pairs_of (drop (i + 1) ps))))))
 
 module _ {K V : Type 0} (eq : K → K → Bool) (law : IsEquality eq) where
-  lookup_unset : (c : List (K × V)) (k : K) → (Has (keys_of c) k → ⊥) → lookup (eq k) c ≡ None
-  lookup_unset [] k n = refl
-  lookup_unset (p ∷ c) k n = let e = unequal eq law k p.0 (λ q. n (inl (sym q))) in rw e (lookup_unset c k (λ h. n (inr h)))
-
   lookup_other : (c : List (K × V)) (k q : K) (x : V) → eq q k ≡ false → lookup (eq q) (c ++ (k, x) ∷ []) ≡ lookup (eq q) c
   lookup_other [] k q x e = rw e refl
   lookup_other (p ∷ c) k q x e = ap (cond (eq q p.0) (Some p.1)) (lookup_other c k q x e)
@@ -153,7 +120,7 @@ module _ {K V : Type 0} (eq : K → K → Bool) (law : IsEquality eq) where
   pub room_more : (s t : Seen K V) (c : List (K × V)) (k : K) (x : V) → HaveRoom eq s c
       → ((q : K) → eq k q ≡ false → room_at eq t q ≡ room_at eq s q) → 0 < room_at eq t k → HaveRoom eq t (c ++ (k, x) ∷ [])
   room_more s t c k x h others here =
-      all_more (λ (p : K × V). 0 < room_at eq t p.0) c (k, x) (all_mapped (λ (p : K × V). 0 < room_at eq s p.0) (λ (p : K × V). 0 < room_at eq t p.0) (λ p r. still p.0 r (eq k p.0) refl) c h) here
+      all_end (λ (p : K × V). 0 < room_at eq t p.0) c (k, x) (all_mapped (λ (p : K × V). 0 < room_at eq s p.0) (λ (p : K × V). 0 < room_at eq t p.0) (λ p r. still p.0 r (eq k p.0) refl) c h) here
     where
       still : (q : K) → 0 < room_at eq s q → (b : Bool) → eq k q ≡ b → 0 < room_at eq t q
       still q r true e = let f : k ≡ q = law.same k q e in subst (λ z. 0 < room_at eq t z) f here
@@ -194,7 +161,7 @@ module _ {K V : Type 0} (eq : K → K → Bool) (law : IsEquality eq) (v : ℕ) 
     keys_around = ap keys_of h.parts ∙ map-append (λ (p : K × V). p.0) h.before ((k, x) ∷ rest)
 
     not_before : lookup (eq k) h.before ≡ None
-    not_before = lookup_unset eq law h.before k (distinct_at (keys_of h.before) (keys_of rest) k (subst AreDistinct keys_around distinct))
+    not_before = lookup_unset eq law h.before k (distinct_before (keys_of h.before) (keys_of rest) k (subst AreDistinct keys_around distinct))
 
     -- the key was not set yet
     pub still_below : AllBelow (sets_at eq s k) v → AllBelow (sets_at eq t k) v
@@ -209,11 +176,11 @@ module _ {K V : Type 0} (eq : K → K → Bool) (law : IsEquality eq) (v : ℕ) 
         by_test q true e =
             let f : k ≡ q = law.same k q e in
             let n : lookup (eq q) h.before ≡ None = subst (λ z. lookup (eq z) h.before ≡ None) f not_before in
-            let l : lookup (eq q) (h.before ++ (k, x) ∷ []) ≡ Some x = lookup_last eq law h.before k q x (eq_turned eq law k q true e) n in
+            let l : lookup (eq q) (h.before ++ (k, x) ∷ []) ≡ Some x = lookup_last eq law h.before k q x (turned_is eq law k q true e) n in
             let a : sets_at eq t q ≡ sets_at eq s q = h.sets q ∙ (ap (λ o. sets_at eq s q ++ set_if v o) n ∙ append-nil (sets_at eq s q)) in
             w q ∙ (ap (λ b. cond b (sets_at eq t q ++ (v, x) ∷ []) (sets_at eq t q)) e ∙ (ap (λ ss. ss ++ (v, x) ∷ []) a ∙ ap (λ o. sets_at eq s q ++ set_if v o) (sym l)))
         by_test q false e =
-            let l : lookup (eq q) (h.before ++ (k, x) ∷ []) ≡ lookup (eq q) h.before = lookup_other eq law h.before k q x (eq_turned eq law k q false e) in
+            let l : lookup (eq q) (h.before ++ (k, x) ∷ []) ≡ lookup (eq q) h.before = lookup_other eq law h.before k q x (turned_is eq law k q false e) in
             w q ∙ (ap (λ b. cond b (sets_at eq t q ++ (v, x) ∷ []) (sets_at eq t q)) e ∙ (h.sets q ∙ ap (λ o. sets_at eq s q ++ set_if v o) (sym l)))
 
     room_kept : (u : Seen K V) → ((q : K) → eq k q ≡ false → room_at eq u q ≡ room_at eq t q) → (c : List (K × V)) → (Has (keys_of c) k → ⊥) → HaveRoom eq t c → HaveRoom eq u c

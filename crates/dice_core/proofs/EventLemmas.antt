@@ -3,7 +3,6 @@ use Rattle.std.proofs.Common.{◌≡◌, inl, inr, ℕ, Bool, false, List, [], �
 use Rattle.std.proofs.lemmas.List.{append-nil}
 use Rattle.std.specs.List.{AllByRecursion}
 use Rattle.dice_key.specs.Meaning.{Meaning}
-use Rattle.dice_model.specs.Log.{Has}
 use Rattle.injected.specs.Seen.{Seen}
 use Rattle.journal.specs.declared.event.Told.{Told}
 use Rattle.journal.specs.declared.event.Told.TheVariants.{Start, Keep, End, Cyclic, Drop, Lost}
@@ -18,6 +17,7 @@ use Rattle.dice_core.specs.Cores.{IsWorkAt, WorksOn}
 use Rattle.dice_tasks.proofs.EndsLemmas.{back_more}
 use Rattle.dice_tasks.proofs.EntriesLemmas.{stand_cyclic, stand_drop, stand_lost}
 use Rattle.dice_core.proofs.SessionLemmas.{quiet_stands}
+use Rattle.lists.specs.Lists.{Has}
 
 -- what each event keeps stands after all of them
 pub along : {K V : Type 0} (P : List (Told K V) → Type 0) (Q : Told K V → Type 0) → ((e : Told K V) (R : List (Told K V)) → Q e → P R → P (e ∷ R)) → (J E : List (Told K V)) → AllByRecursion Q E → P (reverse J) → P (reverse (J ++ E))
@@ -106,7 +106,7 @@ module _ {K V : Type 0} (v : ℕ) where
   all_both Q [] E a b = b
   all_both Q (d ∷ D) E a b = (a.0, all_both Q D E a.1 b)
 
-  -- ends that come of a circle or of want of memory
+  -- ends that come of a cycle or of want of memory
   module _ (path : Option (List K)) where
     tells_so : (k : K) (o : Outcome K V) → ComesOf path o → EndsSo (told_end v k o)
     tells_so k o h = by_path path h

@@ -5,7 +5,6 @@ use Rattle.std.specs.Map.{lookup}
 use Rattle.std.specs.Option.{option_map}
 use Rattle.dice_key.specs.Meaning.{Meaning}
 use Rattle.dice_key.specs.Lawful.{IsEquality, IsLawful}
-use Rattle.dice_model.specs.Log.{Has}
 use Rattle.task_share.specs.Asked.{By}
 use Rattle.task_share.specs.Seen.{Share, task_at, is_live, asks}
 use Rattle.injected.specs.Seen.{Seen}
@@ -13,7 +12,6 @@ use Rattle.journal.specs.Events.{open_count}
 use Rattle.versioned_graph.specs.Entries.{Stored}
 use Rattle.core_laws.specs.Tasks.{Phase, IsOut, IsReady, IsWaiting}
 use Rattle.core_laws.specs.Desk.{World, is_ready, out_in}
-use Rattle.core_laws.proofs.Counts.{has_last}
 use Rattle.dice_jobs.specs.Jobs.{Name, Assigned}
 use Rattle.dice_steps.specs.AtHand.{AtHand}
 use Rattle.dice_steps.specs.Cells.{CellsStand}
@@ -29,6 +27,8 @@ use Rattle.dice_core.proofs.TurnLemmas.{worked_stands}
 use Rattle.dice_core.proofs.CoreLemmas.{working_in, in_hand, open_by_task, put_back_so, stands_same, table_put, has_put}
 use Rattle.dice_tasks.proofs.EndsLemmas.{working_knows}
 use Rattle.dice_core.proofs.OpeningLemmas.{same_sessions}
+use Rattle.lists.proofs.Members.{has_end}
+use Rattle.lists.specs.Lists.{Has}
 
 module _ {K V : Type 0} where
   -- the table that is found is that of the version
@@ -96,7 +96,7 @@ module _ {K V : Type 0} (eq : K → K → Bool) (equality : IsEquality eq) (m : 
     next_open k ps e = by_held (task_at eq (table_at ts v) k) refl
       where
         passes : is_ready (tasks_of eq (table_at ts v) k) ≡ true
-        passes = st.rests.ready.passes (v, k) (subst (λ xs. Has xs (v, k)) (sym e) (has_last ps (v, k)))
+        passes = st.rests.ready.passes (v, k) (subst (λ xs. Has xs (v, k)) (sym e) (has_end ps (v, k)))
 
         by_held : (o : Option (Held K V)) → task_at eq (table_at ts v) k ≡ o → 0 < open_count (reverse d.events) v
         by_held None i = absurd (let y : false ≡ true = sym (ap (λ (z : Option (Held K V)). is_ready (option_map task_of z)) i) ∙ passes in (let z : ⊥ = cc in z))

@@ -2,14 +2,13 @@
 use Rattle.std.proofs.Common.{◌≡◌, ◌≢◌, ◌<◌, ◌≤◌, inl, inr, ◌+◌, ◌-◌, ◌*◌, ℕ, suc, Bool, true, false, cond, not, ◌&&◌, ◌||◌, List, [], ◌∷◌, ◌++◌, length, reverse, Option, Some, None, is_some, refl, sym, ap, ◌∙◌, subst, arith, append_assoc, eq-eqb}
 use Rattle.std.specs.List.{AllByRecursion}
 use Rattle.std.specs.Map.{lookup}
-use Rattle.std.proofs.lemmas.Bool.{and_from, or_left, or_right, or_cases}
+use Rattle.std.proofs.lemmas.Bool.{and_from, or_left, or_right, or_cases, and_parts}
 use Rattle.std.proofs.lemmas.List.{length-reverse}
 use Rattle.std.proofs.lemmas.Option.{same_Some}
 use Rattle.dice_jobs.specs.Jobs.{Assigned}
 use Rattle.dice_key.specs.Meaning.{Meaning}
 use Rattle.dice_key.specs.Lawful.{IsEquality, IsLawful}
 use Rattle.dice_key.specs.declared.universe.Kind.TheVariants.{Injected}
-use Rattle.dice_model.specs.Log.{Has, AreDistinct}
 use Rattle.task_share.specs.Asked.{By, Promised, Tasked, is_by, IsDone}
 use Rattle.task_share.specs.Seen.{Share, number_for, task_at, is_live, asks, asked_of, has_place, promise_room, KeepsTasks, KeepsAsks, UsesRoomOf}
 use Rattle.injected.specs.Seen.{Seen}
@@ -26,7 +25,7 @@ use Rattle.core_laws.specs.Stands.{VersionStands, IsAtRest}
 use Rattle.core_laws.specs.Desk.{World, Stand, AreAll, IsCount, with_version, is_ready, is_out, ready_in}
 use Rattle.core_laws.proofs.Held.{wanted_asked}
 use Rattle.core_laws.proofs.Opens.{there_open, open_within}
-use Rattle.core_laws.proofs.Shapes.{both_parts, not_both, same_or_other}
+use Rattle.core_laws.proofs.Shapes.{not_both, same_or_other}
 use Rattle.core_laws.proofs.StepsAsks.{asked_stand}
 use Rattle.core_laws.proofs.StepsWanted.{all_wanted_on_ask}
 use Rattle.dice_steps.specs.AtHand.{AtHand}
@@ -45,6 +44,7 @@ use Rattle.dice_tasks.proofs.EntriesLemmas.{stand_ask}
 use Rattle.dice_core.proofs.EventLemmas.{cells_works, count_works}
 use Rattle.dice_tasks.proofs.MakeFrames.{can_make, made_has}
 use Rattle.dice_tasks.proofs.MakeLemmas.{idle_at_hand}
+use Rattle.lists.specs.Lists.{AreDistinct, Has}
 
 -- room for a promise is at a place
 pub place_of_room : {K T : Type 0} (eq : K → K → Bool) (ps : List (K × Share K T)) (k : K) → 0 < promise_room eq ps k → has_place eq ps k ≡ true
@@ -285,7 +285,7 @@ module _ {U K V A : Type 0} (eq : K → K → Bool) (equality : IsEquality eq) (
           where
             other : eq k q ≡ false → (r : Held K V) × (task_at eq rs q ≡ Some r)
             other n =
-                let b : asks eq os q a ≡ true = elim (or_cases (asks eq os q a) _ (sym (joins q a) ∙ (sym (same q a) ∙ i))) as (λ _. asks eq os q a ≡ true) [ inl l ↦ l | inr z ↦ absurd (not_both (both_parts (eq k q) _ z).0 n) ] in
+                let b : asks eq os q a ≡ true = elim (or_cases (asks eq os q a) _ (sym (joins q a) ∙ (sym (same q a) ∙ i))) as (λ _. asks eq os q a ≡ true) [ inl l ↦ l | inr z ↦ absurd (not_both (and_parts (eq k q) _ z).0 n) ] in
                 let r = h.tasked q a (sym (kept.asks q a) ∙ b) in
                 (r.0, alone.tasks q n ∙ (keeps.tasks q ∙ r.1))
 

@@ -6,7 +6,6 @@ use Rattle.std.proofs.lemmas.Bool.{eqb-true}
 use Rattle.std.proofs.lemmas.Option.{same_Some}
 use Rattle.dice_key.specs.Meaning.{Meaning}
 use Rattle.dice_key.specs.Lawful.{IsEquality, IsLawful}
-use Rattle.dice_model.specs.Log.{Has}
 use Rattle.task_share.specs.Seen.{Share, task_at}
 use Rattle.injected.specs.Seen.{Seen}
 use Rattle.journal.specs.declared.event.Told.TheVariants.{Lost, Drop}
@@ -22,6 +21,7 @@ use Rattle.dice_tasks.specs.Waitings.{TakesJob}
 use Rattle.dice_core.specs.Cores.{table_at, core_of, PutsTable, Turned, TakesOut, GivesUpOnly}
 use Rattle.dice_core.proofs.CoreLemmas.{table_put}
 use Rattle.dice_core.proofs.ResultLemmas.{takes_out}
+use Rattle.lists.specs.Lists.{Has}
 
 module _ {K V : Type 0} (eq : K → K → Bool) (equality : IsEquality eq) (m : Meaning K V) (law : IsLawful m) (d e : DeskSeen K V) (ts us : List (ℕ × List (K × Share K (Held K V)))) (es fs : List (K × Stored K V)) (s : Seen K V) (x y : SessionsSeen K) where
   -- a job that was taken is out

@@ -2,7 +2,6 @@
 use Rattle.std.specs.Prelude.{◌≡◌, ℕ, Bool, true, cond, List, ◌++◌, ◌+◌, map, Some, None}
 use Rattle.std.specs.List.{list_any}
 use Rattle.dice_key.specs.Meaning.{Meaning}
-use Rattle.dice_model.specs.Log.{Has, AreDistinct}
 use Rattle.task_share.specs.Seen.{Share, task_at, is_live}
 use Rattle.injected.specs.Seen.{Seen}
 use Rattle.journal.specs.declared.event.Told.{Told}
@@ -13,6 +12,7 @@ use Rattle.core_laws.specs.Desk.{World}
 use Rattle.dice_tasks.specs.Helds.{Held}
 use Rattle.dice_tasks.specs.Hands.{DeskSeen}
 use Rattle.dice_steps.specs.AtHand.{AtHand}
+use Rattle.lists.specs.Lists.{AreDistinct, Has}
 
 module _ {K V : Type 0} (eq : K → K → Bool) (m : Meaning K V) where
   -- a version may be in hand

@@ -5,7 +5,6 @@ use Rattle.std.specs.List.{AllByRecursion}
 use Rattle.std.specs.Map.{lookup, keys_of}
 use Rattle.dice_key.specs.Meaning.{Meaning}
 use Rattle.dice_key.specs.declared.universe.Kind.TheVariants.{Injected}
-use Rattle.dice_model.specs.Log.{Has, AreDistinct}
 use Rattle.versioned_graph.specs.Entries.{Stored}
 use Rattle.versioned_graph.specs.Edges.{IsCut}
 use Rattle.versioned_graph.specs.Sound.{AreTrue}
@@ -15,6 +14,7 @@ use Rattle.journal.specs.declared.event.Told.{Told}
 use Rattle.journal.specs.declared.event.Told.TheVariants.{Commit}
 use Rattle.dice_core.specs.declared.commit.CommitRefusal.{CommitRefusal}
 use Rattle.dice_core.specs.declared.commit.CommitRefusal.TheVariants as refusal
+use Rattle.lists.specs.Lists.{AreDistinct, Has}
 
 -- what may be wrong with a key that is to be set: it is not injected, or it stands there for the second time
 pub data Fault (K : Type 0) : Type 0 where

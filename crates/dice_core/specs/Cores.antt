@@ -11,7 +11,6 @@ use Rattle.injected.specs.Seen.{Seen, cell_at}
 use Rattle.journal.specs.declared.event.Told.{Told}
 use Rattle.journal.specs.declared.event.Told.TheVariants.{Start, Keep, End, Cyclic, Drop, Lost}
 use Rattle.std.specs.List.{AllByRecursion, list_any}
-use Rattle.dice_model.specs.Log.{Has, AreDistinct}
 use Rattle.journal.specs.Events.{Decision, ByValue, ByCycle, open_count}
 use Rattle.version_epoch.specs.Standings.{open_count_of}
 use Rattle.versioned_graph.specs.Entries.{Stored}
@@ -26,6 +25,7 @@ use Rattle.dice_tasks.specs.Helds.{Held, held_of, held_ended}
 use Rattle.dice_core.specs.Sessions.{SessionsSeen, owed, IsSame, SessionsStand}
 use Rattle.dice_core.specs.declared.polled.Polled.{Polled}
 use Rattle.dice_core.specs.declared.polled.Polled.TheVariants as polled
+use Rattle.lists.specs.Lists.{AreDistinct, Has}
 
 -- what a core is seen as: the journal and the tasks at hand; the tables of tasks by their versions; the graph's entries; the cells; what is open
 pub record CoreSeen (K V : Type 0) : Type 0 where
@@ -35,7 +35,7 @@ pub record CoreSeen (K V : Type 0) : Type 0 where
   pub cells : Seen K V
   pub sessions : SessionsSeen K
 
--- what a key has come to at a version: its value; a circle that it reaches; nothing, since memory was refused; not yet anything; or nobody asked
+-- what a key has come to at a version: its value; a cycle that it reaches; nothing, since memory was refused; not yet anything; or nobody asked
 pub data Came (K V : Type 0) : Type 0 where
   ToValue : V → Came K V
   ToCycle : List K → Came K V

@@ -3,12 +3,13 @@ ghost use Rattle.std.specs.Prelude.{◌≡◌, ◌<◌, ◌≤◌, ◌+◌, ℕ,
 ghost use Rattle.std.specs.Arc.{arc_value};
 ghost use Rattle.std.specs.List.{AllByRecursion, list_any};
 ghost use Rattle.std.specs.Map.{keys_of};
-ghost use Rattle.dice_model.specs.Log.{AreDistinct, pairs_of};
+ghost use Rattle.dice_model.specs.Log.{pairs_of};
 ghost use Rattle.injected.specs.Inputs.{AreOf};
 ghost use Rattle.journal.specs.Law.{IsAllowed, IsLawfulJournal};
 ghost use Rattle.dice_tasks.specs.Hands.{KeepsWork};
 ghost use Rattle.dice_core.specs.Commits.{Fault, fault_of, AreSettable, IsFirstFault, differing_of, HaveRoom, SameSets, AreSet, event_of, Commits, CommitsEntries, IsAsBefore};
 ghost use Rattle.dice_steps.specs.Cells.{CellsStand};
+ghost use Rattle.lists.specs.Lists.{AreDistinct};
 
 use dice_key::{KeyRef, Kind, NoMemory, Universe, ValueRef, Version, laws_of};
 use dice_steps::note;

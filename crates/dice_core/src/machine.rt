@@ -1,7 +1,7 @@
 //! The core.
 ghost use Rattle.std.specs.Prelude.{◌≡◌, ◌≢◌, ◌<◌, ◌+◌, ◌++◌, ◌∷◌, ◌↔◌, IsTrue, ℕ, nat_eq, List, [], true, false, length, map, reverse, Some, None, is_some, IfOk, IfErr, IfSome, IfNone, OnOk, OnErr, MatchResult};
 ghost use Rattle.std.specs.Map.{keys_of};
-ghost use Rattle.dice_model.specs.Log.{Has, pairs_of};
+ghost use Rattle.dice_model.specs.Log.{pairs_of};
 ghost use Rattle.journal.specs.declared.event.Told.TheVariants.{Open, Close, Leave, Drop, Lost};
 ghost use Rattle.std.specs.Arc.{arc_value};
 ghost use Rattle.dice_key.specs.declared.universe.Kind.TheVariants.{Injected};
@@ -23,6 +23,7 @@ ghost use Rattle.dice_core.specs.Givings.{stale_of, Gives, IsTakenUp};
 ghost use Rattle.dice_core.specs.Joinings.{AsksForKey};
 ghost use Rattle.dice_core.specs.Sessions.{transaction_at, ask_at};
 ghost use Rattle.dice_core.specs.Cores.{CoreSeen, Came, ToValue, ToCycle, ToNothing, Pending, Absent, came_of, decision_of, events_of, past_of, table_at, held_to, injected_to, held_in, poll_of, Turned, IsAsBefore, KeepsTasksOf, DropsThese, IsJobOut, IsNameOut, TakesOut, GivesUpOnly};
+ghost use Rattle.lists.specs.Lists.{Has};
 
 use crate::commit::{CommitRefusal, commit};
 use crate::giving::{Gave, give_in};
@@ -119,7 +120,7 @@ impl<U: Universe> Core<U> {
     pub fn poll(&self, version: Version, key: &KeyRef<U>) -> Polled<'_, U>
         ensures exact { came_of result ≡ poll_of U.Key.eq U.meaning self.now version (arc_value key.now) }
 
-        // A value is the key's value over the commits, and a circle a cycle there that the key reaches.
+        // A value is the key's value over the commits, and a cycle a cycle there that the key reaches.
         ensures value { (x : U.Value) → came_of result ≡ ToValue x → HasValue U.Key.eq U.meaning (commits_of (past_of self.now)) version (arc_value key.now) x }
         ensures cycle { (p : List U.Key) → came_of result ≡ ToCycle p → CycleStands U.Key.eq U.meaning (commits_of (past_of self.now)) version (arc_value key.now) p }
 
@@ -285,7 +286,7 @@ impl<U: Universe> Core<U> {
 
     /// Takes up a step: a value is kept and ends its task; a check that found all as it was keeps the earlier value; one that found a
     /// change makes its key be computed; and a batch makes its task wait for those of its keys that have not come to a value, or end
-    /// with the circle that it would close.
+    /// with the cycle that it would close.
     ///
     /// `Stale` exactly where it is not the step of the job that is out: by its name, the batches that were answered, what is done, and
     /// of a check the value, trace and base; then nothing changes. Where memory is refused all is as before, and the step comes back.

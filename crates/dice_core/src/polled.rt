@@ -7,7 +7,7 @@ use std::sync::Arc;
 pub enum Polled<'a, U: Universe> {
     /// It has this value.
     Value(&'a ValueRef<U>),
-    /// It reaches this circle, and so has no value.
+    /// It reaches this cycle, and so has no value.
     Cycle(&'a Arc<Path<U::Key>>),
     /// Its task was given up for want of memory. The next ask makes it anew.
     Lost,

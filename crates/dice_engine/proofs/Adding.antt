@@ -3,7 +3,7 @@ use Rattle.std.proofs.Common.{◌≡◌, ℕ, Bool, true, false, not, List, [], 
 use Rattle.std.specs.Prelude.{reverse, is_some, Result, Ok, Err, IfOk, OnOk, OnErr, IfSome, IfNone}
 use Rattle.std.specs.List.{AllByRecursion}
 use Rattle.dice_key.specs.Meaning.{Meaning}
-use Rattle.dice_model.specs.Log.{Has, input}
+use Rattle.dice_model.specs.Log.{input}
 use Rattle.injected.specs.Seen.{Seen, newest_at}
 use Rattle.journal.specs.declared.event.Told.{Told}
 use Rattle.journal.specs.declared.event.Told.TheVariants.{Commit, Open, Close, Ask, Leave, Start, Keep, End, Cyclic, Drop, Lost}
@@ -15,6 +15,7 @@ use Rattle.dice_core.specs.Joinings.{IsToldOfMake}
 use Rattle.dice_tasks.specs.Makings.{IsOfMake}
 use Rattle.dice_engine.specs.Turns.{log_of, newest_in, AreBy, WorksOn, Adds}
 use Rattle.dice_engine.specs.Calls.{AddsNothing, Opens, Closes, Asks, Leaves, differing_from, Commits}
+use Rattle.lists.specs.Lists.{Has}
 
 module _ {K : Type 0} (V : Type 0) where
   pub are_dropped : (v : ℕ) (ks : List K) → AllByRecursion (IsWorkAt {V = V} v) (map (Drop v) ks)

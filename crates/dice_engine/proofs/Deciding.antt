@@ -1,28 +1,28 @@
 -- What is decided stays decided while a transaction is open at its version; and a transaction is closed once.
 use Rattle.std.proofs.Common.{◌≡◌, ◌<◌, ◌⊎◌, inl, inr, ℕ, Bool, true, false, cond, eqb, List, [], ◌∷◌, ◌++◌, length, Some, None, refl, sym, ap, ◌∙◌, subst, arith, append_assoc, length-append, eqb-true}
 use Rattle.std.specs.Prelude.{reverse}
-use Rattle.std.proofs.lemmas.Bool.{eq-eqb, ne_eqb}
+use Rattle.std.proofs.lemmas.Bool.{eq-eqb, ne_eqb, and_parts}
 use Rattle.std.proofs.lemmas.List.{reverse-append}
 use Rattle.std.proofs.lemmas.Option.{none-some}
 use Rattle.dice_key.specs.Lawful.{IsEquality}
 use Rattle.dice_key.specs.Meaning.{Meaning}
-use Rattle.dice_model.specs.Log.{Has}
 use Rattle.journal.specs.declared.event.Told.{Told}
 use Rattle.journal.specs.declared.event.Told.TheVariants.{Commit, Open, Close, Ask, Leave, Start, Keep, End, Cyclic, Drop, Lost}
 use Rattle.journal.specs.Events.{Opened, Decision, ByValue, ByCycle, NotClosed, is_for, names_by, open_at, opened_at, decided}
 use Rattle.journal.specs.Law.{IsLawfulBack, IsLawfulJournal}
 use Rattle.journal.proofs.Lawful.{lawful_front}
 use Rattle.core_laws.proofs.Indices.{begins_none}
-use Rattle.core_laws.proofs.Shapes.{both_parts}
 use Rattle.turnstile.specs.Events.{StartsWith}
 use Rattle.turnstile.specs.Seats.{SeatView}
 use Rattle.dice_engine.specs.Turns.{Later, Turn}
 use Rattle.dice_engine.specs.Conditions.{StandsAt, HasOpen}
 use Rattle.dice_engine.specs.Calls.{Closes}
-use Rattle.dice_engine.proofs.Indices.{back_get, back_below, from_front, has_reversed, open_unclosed}
+use Rattle.dice_engine.proofs.Indices.{back_get, back_below, from_front, open_unclosed}
 use Rattle.dice_engine.proofs.Kept.{same_opened, has_open}
 use Rattle.dice_engine.proofs.Begun.{found_lawful}
 use Rattle.dice_engine.proofs.Callers.{same_number, stands_longer, open_later, open_in_seen}
+use Rattle.lists.proofs.Members.{reverse_has}
+use Rattle.lists.specs.Lists.{Has}
 
 module _ {K V : Type 0} where
   -- what is open after an event was open before it, where its Open stands there
@@ -54,7 +54,7 @@ module _ {K V : Type 0} (eq : K → K → Bool) (equality : IsEquality eq) (m : 
     where
       by_name : (b : Bool) → names_by eq w q v k ≡ b → cond b (Some x) (decided eq R v k) ≡ Some d
       by_name true e =
-          let p = both_parts (eqb w v) (eq k q) e in
+          let p = and_parts (eqb w v) (eq k q) e in
           let here : decided eq R v k ≡ None = subst (λ n. decided eq R n k ≡ None) (eqb-true w v p.0) (subst (λ j. decided eq R w j ≡ None) (sym (equality.same k q p.1)) fresh) in
           absurd (none-some d (sym here ∙ h))
       by_name false e = h
@@ -126,7 +126,7 @@ module _ {K V : Type 0} (eq : K → K → Bool) (m : Meaning K V) where
       let whole : before ++ (Close n t ∷ after) ≡ (before ++ Close n t ∷ []) ++ after = sym (append_assoc before (Close n t ∷ []) after) in
       let upto : IsLawfulJournal eq m (before ++ Close n t ∷ []) = lawful_front eq m (before ++ Close n t ∷ []) after (subst (IsLawfulJournal eq m) (e ∙ whole) l) in
       let back : IsLawfulBack eq m (Close n t ∷ reverse before) = subst (IsLawfulBack eq m) (reverse-append before (Close n t ∷ [])) upto in
-      open_unclosed eq m (reverse before) t back.0.0 back.1 back.0.1 p (has_reversed before (Close p t) h)
+      open_unclosed eq m (reverse before) t back.0.0 back.1 back.0.1 p (reverse_has before (Close p t) h)
 
   -- so its Close has one place
   pub closed_once : (J before after front back : List (Told K V)) (n p t : ℕ) → IsLawfulJournal eq m J → J ≡ before ++ (Close n t ∷ after) → J ≡ front ++ (Close p t ∷ back) → front ≡ before

@@ -14,10 +14,7 @@ use Rattle.core_laws.specs.Stands.{CycleStands, lost_in_epoch}
 use Rattle.dice_core.specs.Cores.{Came, ToValue, ToCycle, ToNothing, Pending, Absent, decision_of, injected_to}
 use Rattle.dice_engine.specs.Turns.{log_of}
 use Rattle.dice_engine.specs.Replies.{Reply, TheCycle, NoRoom, Tells, IsLiveIn, IsValued, MayRefuse, IsReply}
-
-no_length : {X : Type 0} (xs : List X) → length xs ≡ 0 → xs ≡ []
-no_length [] e = refl
-no_length (x ∷ xs) e = absurd (omega arith)
+use Rattle.std.proofs.lemmas.List.{nil_from_length}
 
 module _ {K V : Type 0} where
   -- where a transaction is open an injected key has its value
@@ -78,5 +75,5 @@ module _ {K V A B : Type 0} (eq : K → K → Bool) (m : Meaning K V) (J : List 
   told_so ToNothing e r t = subst (IsReply eq m J v k ask (length ready, length out, 0)) (sym t) (live, inr (inr (lost e)))
   told_so Pending e r t =
       let computed : m.kind k ≢ Injected = λ i. (let h = (injected i).1 in cc) in
-      subst (IsReply eq m J v k ask (length ready, length out, 0)) (sym t) (live, computed, decides computed ∙ ap decision_of e, λ a b. quiet (no_length ready a) (no_length out b) e)
+      subst (IsReply eq m J v k ask (length ready, length out, 0)) (sym t) (live, computed, decides computed ∙ ap decision_of e, λ a b. quiet (nil_from_length ready a) (nil_from_length out b) e)
   told_so Absent e r t = absurd t

@@ -15,7 +15,7 @@ use Rattle.dice_engine.specs.declared.promise.Answer.TheVariants as answer
 use Rattle.dice_engine.specs.declared.promise.Settled.{Settled}
 use Rattle.dice_engine.specs.declared.promise.Settled.TheVariants as settled
 
--- an answer without pointers: the ask is not live; the key has not come to anything yet; its value; a circle that it reaches; or
+-- an answer without pointers: the ask is not live; the key has not come to anything yet; its value; a cycle that it reaches; or
 -- memory was refused
 pub data Reply (K V : Type 0) : Type 0 where
   NotLive : Reply K V

@@ -1,6 +1,5 @@
 //! What callers keep of a seat from one call to the next, as contracts. None of these functions does any work.
 ghost use Rattle.std.specs.Prelude.{◌≡◌, ◌≢◌, ◌<◌, ◌⊎◌, ◌∷◌, ◌++◌, ℕ, List, [], reverse, Some};
-ghost use Rattle.dice_model.specs.Log.{Has};
 ghost use Rattle.dice_key.specs.declared.universe.Kind.TheVariants.{Injected};
 ghost use Rattle.journal.specs.declared.event.Told.{Told};
 ghost use Rattle.journal.specs.declared.event.Told.TheVariants.{Open, Close};
@@ -14,6 +13,7 @@ ghost use Rattle.dice_engine.specs.Turns.{log_of, Later, Turn, Works};
 ghost use Rattle.dice_engine.specs.Conditions.{StandsAt, NotLeft, HasOpen, HasAsk, SawAsk};
 ghost use Rattle.dice_engine.specs.Calls.{Closes};
 ghost use Rattle.dice_engine.specs.Replies.{Reply, TheValue, TheCycle, NoRoom, NotYet, NotLive, IsReply, IsLiveIn, IsValued};
+ghost use Rattle.lists.specs.Lists.{Has};
 
 use dice_key::{Universe, laws_of};
 
@@ -67,7 +67,7 @@ pub fn one_writer_knows_all<U: Universe>()
 {}
 
 /// What a reply must be: of a live ask whose key is injected or was decided to have a value, that value or want of memory; of one
-/// whose key was found to reach a cycle, a circle or want of memory.
+/// whose key was found to reach a cycle, a cycle or want of memory.
 pub fn replies_are_exact<U: Universe>()
     ensures value { (J : List (Told U.Key U.Value)) (v : ℕ) (k : U.Key) (ask : ℕ) (left : ℕ × ℕ × ℕ) (r : Reply U.Key U.Value) → IsReply U.Key.eq U.meaning J v k ask left r → IsLiveIn J ask → IsValued U.Key.eq U.meaning J v k → ((x : U.Value) × (r ≡ TheValue x)) ⊎ (r ≡ NoRoom) }
     ensures cycle { (J : List (Told U.Key U.Value)) (v : ℕ) (k : U.Key) (ask : ℕ) (left : ℕ × ℕ × ℕ) (r : Reply U.Key U.Value) → IsReply U.Key.eq U.meaning J v k ask left r → IsLiveIn J ask → U.meaning.kind k ≢ Injected → decided U.Key.eq (reverse J) v k ≡ Some ByCycle → ((p : List U.Key) × (r ≡ TheCycle p)) ⊎ (r ≡ NoRoom) }

@@ -8,8 +8,6 @@ mod laws;
 mod lines;
 mod promise;
 mod state;
-#[cfg(test)]
-mod tests;
 mod updater;
 mod working;
 

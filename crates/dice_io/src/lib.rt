@@ -13,6 +13,3 @@ pub use edge::{Failed, NoMemory, ReadFail, Sink, Source};
 pub use memory::{MemorySink, MemorySource};
 pub use process::{RealSink, RealSource};
 pub use sure::{SureSink, SureSource};
-
-#[cfg(test)]
-mod tests;

@@ -5,7 +5,6 @@ use Rattle.dice_key.specs.Meaning.{Meaning, Answered, Step, Asks, Ends}
 use Rattle.dice_key.specs.Lawful.{IsLawful}
 use Rattle.dice_key.specs.declared.universe.Kind.TheVariants.{Injected}
 use Rattle.dice_model.specs.Eval.{HasValue}
-use Rattle.dice_model.specs.Log.{Has}
 use Rattle.dice_model.specs.Asks.{AllTrue, Goes, AsksFor, IsTrace}
 use Rattle.dice_model.proofs.Finite.{goes_last}
 use Rattle.dice_model.proofs.Stable.{goes_stable, true_stable}
@@ -13,9 +12,10 @@ use Rattle.dep_recorder.specs.Checks.{Finding, Wants, IsSame, HasChanged, findin
 use Rattle.dice_jobs.specs.Jobs.{Name, Work, Computes, Checks, Assigned, Outcome, Wanting, Valued, Unchanged, Changed, Stepped, of_move, of_finding, comes, Explains, IsExplained, IsStepOf, answered_more}
 use Rattle.dice_jobs.specs.Truths.{Follows, IsEarlier, AreAnswers, IsTrueJob, ChangesFirst}
 use Rattle.dice_jobs.proofs.Followed.{same_front, changed_front, follows_next, true_last, true_end, true_front, zip_front, goes_here, asks_here}
+use Rattle.lists.specs.Lists.{Has}
 
 module _ {K V : Type 0} where
-  asked : (s : Step K V) (ks : List K) → of_move s ≡ Wanting ks → s ≡ Asks ks
+  pub asked : (s : Step K V) (ks : List K) → of_move s ≡ Wanting ks → s ≡ Asks ks
   asked (Asks js) ks e = cc
   asked (Ends x) ks e = cc
 

@@ -4,10 +4,10 @@ ghost use Rattle.std.specs.List.{AllZip};
 ghost use Rattle.dice_key.specs.Meaning.{Answered};
 ghost use Rattle.dice_key.specs.declared.universe.Kind.TheVariants.{Injected};
 ghost use Rattle.dice_model.specs.Eval.{HasValue};
-ghost use Rattle.dice_model.specs.Log.{Has};
 ghost use Rattle.dice_model.specs.Asks.{AsksFor, IsTrace};
 ghost use Rattle.dice_jobs.specs.Jobs.{Name, Assigned, Stepped, Computes, Checks, Wanting, Valued, Unchanged, Changed, IsStepOf, answered_more};
 ghost use Rattle.dice_jobs.specs.Truths.{IsEarlier, IsTrueJob, ChangesFirst};
+ghost use Rattle.lists.specs.Lists.{Has};
 
 use dice_key::{Universe, laws_of};
 

@@ -7,8 +7,6 @@ mod laws;
 mod name;
 mod parked;
 mod step;
-#[cfg(test)]
-mod tests;
 
 pub use assignment::{Assignment, Earlier};
 pub use job::Job;

@@ -14,6 +14,3 @@ pub use laws::laws_of;
 pub use line::Line;
 pub use path::Path;
 pub use universe::{KeyRef, Kind, NoMemory, Universe, ValueRef, Version};
-
-#[cfg(test)]
-mod tests;

@@ -1,11 +1,11 @@
-//! The keys of a circle.
+//! The keys of a cycle.
 ghost use Rattle.std.specs.Prelude.{◌≡◌, ◌<◌, length, map};
 ghost use Rattle.std.specs.Arc.{arc_value};
 
 use std::marker::Model;
 use std::sync::Arc;
 
-/// The keys of a circle in its order, one or more.
+/// The keys of a cycle in its order, one or more.
 #[derive(Drop)]
 pub struct Path<K> {
     keys: Vec<Arc<K>>,
@@ -23,7 +23,7 @@ impl<K> Model for Path<K> {
 }
 
 impl<K> Path<K> {
-    /// The circle of these keys. It takes no memory.
+    /// The cycle of these keys. It takes no memory.
     pub fn from_keys(keys: Vec<Arc<K>>) -> Path<K>
         requires { 0 < length keys.items }
         ensures { result ≡ map arc_value keys.items }

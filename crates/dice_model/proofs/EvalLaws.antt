@@ -8,14 +8,11 @@ use Rattle.std.proofs.Math.Nat.{suc-add}
 use Rattle.dice_key.specs.Meaning.{Meaning, Answered, Step, Asks, Ends}
 use Rattle.dice_key.specs.declared.universe.Kind.{Kind}
 use Rattle.dice_key.specs.declared.universe.Kind.TheVariants.{Injected, Computed, Projection}
-use Rattle.dice_model.specs.Log.{input, Has}
+use Rattle.dice_model.specs.Log.{input}
 use Rattle.dice_model.specs.Eval.{answers, on_step, reached, by_kind, eval, HasValue}
-use Rattle.dice_model.specs.Asks.{Goes, AsksFor, Reaches, here, through, IsCircle, IsCycle, ReachesCycle}
-
--- what a chain of two needs
-pub chained : {A B : Type 0} (f : A → Option B) (o : Option A) (y : B) → option_and_then f o ≡ Some y → (x : A) × (o ≡ Some x) × (f x ≡ Some y)
-chained f None y e = absurd (none-some y e)
-chained f (Some x) y e = (x, refl, e)
+use Rattle.dice_model.specs.Asks.{Goes, AsksFor, Reaches, here, through, GoesRound, IsCycle, ReachesCycle}
+use Rattle.lists.proofs.Options.{chained}
+use Rattle.lists.specs.Lists.{Has}
 
 pub mapped : {A B : Type 0} (f : A → B) (o : Option A) (y : B) → option_map f o ≡ Some y → (x : A) × (o ≡ Some x) × (f x ≡ y)
 mapped f None y e = absurd (none-some y e)
@@ -143,16 +140,16 @@ module _ {K V : Type 0} (eq : K → K → Bool) (m : Meaning K V) (C : List (Lis
       let b = value_below n k s.0 x s.1 e in
       endless P step n s.0 b.0 s.2 b.1
 
-  -- each key of a circle asks a key of it
-  circle_asks : (first k : K) (rest : List K) (P : K → Type 0) → IsCircle eq m C v first k rest → P first → ((j : K) → Has rest j → P j) → (j : K) → Has (k ∷ rest) j → (i : K) × AsksFor eq m C v j i × P i
-  circle_asks first k [] P c p q j (inl e) = (first, subst (λ i. AsksFor eq m C v i first) e c, p)
-  circle_asks first k [] P c p q j (inr h) = absurd h
-  circle_asks first k (i ∷ is) P c p q j (inl e) = (i, subst (λ l. AsksFor eq m C v l i) e c.0, q i (inl refl))
-  circle_asks first k (i ∷ is) P c p q j (inr h) = circle_asks first i is P c.1 p (λ l z. q l (inr z)) j h
+  -- each key of a cycle asks a key of it
+  round_asks : (first k : K) (rest : List K) (P : K → Type 0) → GoesRound eq m C v first k rest → P first → ((j : K) → Has rest j → P j) → (j : K) → Has (k ∷ rest) j → (i : K) × AsksFor eq m C v j i × P i
+  round_asks first k [] P c p q j (inl e) = (first, subst (λ i. AsksFor eq m C v i first) e c, p)
+  round_asks first k [] P c p q j (inr h) = absurd h
+  round_asks first k (i ∷ is) P c p q j (inl e) = (i, subst (λ l. AsksFor eq m C v l i) e c.0, q i (inl refl))
+  round_asks first k (i ∷ is) P c p q j (inr h) = round_asks first i is P c.1 p (λ l z. q l (inr z)) j h
 
   on_cycle : (n : ℕ) (k : K) (rest : List K) (x : V) → IsCycle eq m C v (k ∷ rest) → eval eq m n C v k ≡ Some x → ⊥
   on_cycle n k rest x c e =
-      endless (Has (k ∷ rest)) (λ j h. circle_asks k k rest (Has (k ∷ rest)) c.1 (inl refl) (λ l z. inr z) j h) n k x (inl refl) e
+      endless (Has (k ∷ rest)) (λ j h. round_asks k k rest (Has (k ∷ rest)) c.1 (inl refl) (λ l z. inr z) j h) n k x (inl refl) e
 
   reaching : (n : ℕ) (k j : K) (x : V) → Reaches eq m C v k j → ((l : ℕ) (y : V) → eval eq m l C v j ≡ Some y → ⊥) → eval eq m n C v k ≡ Some x → ⊥
   reaching n k j x here f e = f n x e

@@ -5,49 +5,14 @@ use Rattle.std.specs.List.{AllZip}
 use Rattle.std.proofs.lemmas.Option.{none-some}
 use Rattle.dice_key.specs.Meaning.{Meaning, Answered, Step, Asks, Ends}
 use Rattle.dice_key.specs.Lawful.{IsLawful, IsEquality}
+use Rattle.dice_key.proofs.KeySets.{has_or_not}
 use Rattle.dice_key.specs.declared.universe.Kind.{Kind}
 use Rattle.dice_key.specs.declared.universe.Kind.TheVariants.{Injected, Computed, Projection}
-use Rattle.dice_model.specs.Log.{input, Has, AreDistinct}
+use Rattle.dice_model.specs.Log.{input}
 use Rattle.dice_model.specs.Eval.{answers, on_step, reached, by_kind, eval, HasValue}
-use Rattle.dice_model.specs.Asks.{Goes, AsksFor, Reaches, here, through, IsCircle, IsCycle, IsClosed, ReachesCycle}
-
--- ---- lists without repetition
-
-module _ {X : Type 0} where
-  -- a list without one element that it has
-  without : (x : X) (all : List X) → Has all x → (rest : List X) × (length all ≡ suc (length rest)) × ((y : X) → Has all y → (y ≡ x → ⊥) → Has rest y)
-  without x [] h = absurd h
-  without x (z ∷ zs) (inl e) = (zs, refl, λ y h n. elim h as (λ _. Has zs y) [ inl f ↦ absurd (n (sym f ∙ e)) | inr g ↦ g ])
-  without x (z ∷ zs) (inr h) =
-      let r = without x zs h in
-      (z ∷ r.0, ap suc r.1, λ y h n. elim h as (λ _. (z ≡ y) ⊎ Has r.0 y) [ inl f ↦ inl f | inr g ↦ inr (r.2 y g n) ])
-
-  -- distinct elements of a list are no more than it has
-  pub few : (xs all : List X) → AreDistinct xs → ((x : X) → Has xs x → Has all x) → length xs ≤ length all
-  few [] all d h = omega arith
-  few (x ∷ xs) all d h =
-      let r = without x all (h x (inl refl)) in
-      let i : length xs ≤ length r.0 = few xs r.0 d.1 (λ y p. r.2 y (h y (inr p)) (λ e. d.0 (subst (Has xs) e p))) in
-      let j : length all ≡ suc (length r.0) = r.1 in
-      let k : length (x ∷ xs) ≡ suc (length xs) = refl in
-      omega arith
-
-module _ {K : Type 0} (eq : K → K → Bool) (law : IsEquality eq) where
-  by_answer : (x y : K) (r : Bool) → eq x y ≡ r → (x ≡ y) ⊎ (x ≡ y → ⊥)
-  by_answer x y true e = inl (law.same x y e)
-  by_answer x y false e = inr (λ p. let a : false ≡ true = sym e ∙ (ap (eq x) (sym p) ∙ law.itself x) in cc)
-
-  -- whether a key is one of these
-  pub has_or_not : (xs : List K) (k : K) → Has xs k ⊎ (Has xs k → ⊥)
-  has_or_not [] k = inr (λ h. h)
-  has_or_not (x ∷ xs) k =
-      elim (by_answer x k (eq x k) refl) as (λ _. Has (x ∷ xs) k ⊎ (Has (x ∷ xs) k → ⊥)) [
-        | inl e ↦ inl (inl e)
-        | inr n ↦ elim (has_or_not xs k) as (λ _. Has (x ∷ xs) k ⊎ (Has (x ∷ xs) k → ⊥)) [
-          | inl h ↦ inl (inr h)
-          | inr q ↦ inr (λ h. elim h as (λ _. ⊥) [ inl e ↦ n e | inr g ↦ q g ])
-        ]
-      ]
+use Rattle.dice_model.specs.Asks.{Goes, AsksFor, Reaches, here, through, GoesRound, IsCycle, IsClosed, ReachesCycle}
+use Rattle.lists.proofs.Distinct.{few}
+use Rattle.lists.specs.Lists.{AreDistinct, Has}
 
 -- ---- what has no value asks something that has none
 
@@ -102,15 +67,15 @@ module _ {K V : Type 0} (eq : K → K → Bool) (m : Meaning K V) (law : IsLawfu
   reaches_on a k j here q = through q here
   reaches_on a k j (through p r) q = through p (reaches_on _ k j r q)
 
-  -- the keys up to j are a circle
-  closes : (j i : K) (path acc : List K) → Chain (i ∷ path) → AreDistinct (i ∷ path) → Has (i ∷ path) j → AreDistinct (i ∷ acc) → ((x : K) → Has acc x → Has path x → ⊥) → IsCircle eq m C v j i acc → (rest : List K) × IsCycle eq m C v (j ∷ rest)
-  closes j i path acc ch d (inl e) da apart circle = (acc, (subst AreDistinct (ap (λ x. x ∷ acc) e) da, subst (λ x. IsCircle eq m C v j x acc) e circle))
-  closes j i [] acc ch d (inr h) da apart circle = absurd h
-  closes j i (l ∷ ls) acc ch d (inr h) da apart circle =
+  -- the keys up to j are a cycle
+  closes : (j i : K) (path acc : List K) → Chain (i ∷ path) → AreDistinct (i ∷ path) → Has (i ∷ path) j → AreDistinct (i ∷ acc) → ((x : K) → Has acc x → Has path x → ⊥) → GoesRound eq m C v j i acc → (rest : List K) × IsCycle eq m C v (j ∷ rest)
+  closes j i path acc ch d (inl e) da apart cycle = (acc, (subst AreDistinct (ap (λ x. x ∷ acc) e) da, subst (λ x. GoesRound eq m C v j x acc) e cycle))
+  closes j i [] acc ch d (inr h) da apart cycle = absurd h
+  closes j i (l ∷ ls) acc ch d (inr h) da apart cycle =
       closes j l ls (i ∷ acc) ch.1 d.1 h
       ((λ g. elim g as (λ _. ⊥) [ inl e ↦ d.0 (inl (sym e)) | inr a ↦ apart l a (inl refl) ]), da)
       (λ x g a. elim g as (λ _. ⊥) [ inl e ↦ d.0 (inr (subst (Has ls) (sym e) a)) | inr b ↦ apart x b (inr a) ])
-      (ch.0, circle)
+      (ch.0, cycle)
 
   module _ (equal : IsEquality eq) (all : List K) (closed : IsClosed eq m C v all) where
     walks : (n : ℕ) (a k : K) (path : List K) → Chain (k ∷ path) → AreDistinct (k ∷ path) → ((x : K) → Has (k ∷ path) x → Has all x) → ((x : K) → Has (k ∷ path) x → Reaches eq m C v a x) → length all < length (k ∷ path) + n → eval eq m n C v k ≡ None → ReachesCycle eq m C v a

@@ -5,26 +5,19 @@ use Rattle.std.specs.List.{AllByRecursion}
 use Rattle.dice_key.specs.Meaning.{Meaning}
 use Rattle.dice_key.specs.Lawful.{IsEquality}
 use Rattle.dice_key.specs.declared.universe.Kind.TheVariants.{Injected}
-use Rattle.dice_model.specs.Log.{Has, AreDistinct, IsLog, IsCommit, input, version_of, last_value_of}
+use Rattle.dice_model.specs.Log.{IsLog, IsCommit, input, version_of, last_value_of}
 use Rattle.dice_model.specs.Eval.{HasValue}
 use Rattle.dice_model.specs.Newest.{IsNewest, IsUnset}
-use Rattle.dice_model.proofs.Finite.{has_or_not}
+use Rattle.dice_key.proofs.KeySets.{has_or_not}
+use Rattle.lists.proofs.Each.{all_take}
+use Rattle.lists.proofs.Members.{has_middle}
+use Rattle.lists.specs.Lists.{AreDistinct, Has}
 
 module _ {X : Type 0} where
-  has_middle : (xs ys : List X) (x : X) → Has (xs ++ x ∷ ys) x
-  has_middle [] ys x = inl refl
-  has_middle (z ∷ zs) ys x = inr (has_middle zs ys x)
-
   all_has : (P : X → Type 0) (xs : List X) (x : X) → AllByRecursion P xs → Has xs x → P x
   all_has P [] x a h = absurd h
   all_has P (y ∷ ys) x a (inl e) = subst P e a.0
   all_has P (y ∷ ys) x a (inr h) = all_has P ys x a.1 h
-
-  all_first : (P : X → Type 0) (n : ℕ) (xs : List X) → AllByRecursion P xs → AllByRecursion P (take n xs)
-  all_first P zero [] a = tt
-  all_first P zero (x ∷ xs) a = tt
-  all_first P (suc n) [] a = tt
-  all_first P (suc n) (x ∷ xs) a = (a.0, all_first P n xs a.1)
 
 module _ {K V : Type 0} where
   key_has : (c : List (K × V)) (k : K) (x : V) → Has c (k, x) → Has (keys_of c) k
@@ -51,7 +44,7 @@ module _ {K V : Type 0} (eq : K → K → Bool) (law : IsEquality eq) where
       at true e r = absurd (d.0 (subst (Has (keys_of c)) (law.same k p.0 e) (key_has c k x h)))
       at false e r = rw e r
 
-  lookup_unset : (c : List (K × V)) (k : K) → (Has (keys_of c) k → ⊥) → lookup (eq k) c ≡ None
+  pub lookup_unset : (c : List (K × V)) (k : K) → (Has (keys_of c) k → ⊥) → lookup (eq k) c ≡ None
   lookup_unset [] k n = refl
   lookup_unset (p ∷ c) k n = at (eq k p.0) refl (lookup_unset c k (λ h. n (inr h)))
     where
@@ -71,7 +64,7 @@ module _ {K V : Type 0} (eq : K → K → Bool) (law : IsEquality eq) where
       ap (last_value_of (eq k) y) n.parts ∙ (last_append (eq k) n.earlier (n.commit ∷ n.later) y ∙ rw e (last_unset k x n.later n.unset))
 
   pub newest_input : (m : Meaning K V) (C : List (List (K × V))) (v : ℕ) (k : K) (x : V) → IsLog m C → IsNewest k x (version_of C v) → input eq m C v k ≡ x
-  newest_input m C v k x l n = last_newest m k x (m.absent k) (version_of C v) (all_first (IsCommit m) v C l) n
+  newest_input m C v k x l n = last_newest m k x (m.absent k) (version_of C v) (all_take (IsCommit m) v C l) n
 
   pub unset_input : (m : Meaning K V) (C : List (List (K × V))) (v : ℕ) (k : K) → IsUnset k (version_of C v) → input eq m C v k ≡ m.absent k
   unset_input m C v k u = last_unset k (m.absent k) (version_of C v) u

@@ -11,7 +11,8 @@ use Rattle.dice_key.specs.declared.universe.Kind.TheVariants.{Injected, Computed
 use Rattle.dice_key.specs.declared.batch.Move.{Move}
 use Rattle.dice_key.specs.declared.batch.Move.TheVariants.{Ask, Done}
 use Rattle.dice_model.specs.Eval.{answers, reached, by_kind, eval}
-use Rattle.dice_model.proofs.EvalLaws.{chained, mapped}
+use Rattle.dice_model.proofs.EvalLaws.{mapped}
+use Rattle.lists.proofs.Options.{chained}
 
 pub of_computed : {V : Type 0} (kd : Kind) (a b : Option V) → (kd ≡ Injected → ⊥) → by_kind kd a b ≡ b
 of_computed Injected a b h = absurd (h refl)

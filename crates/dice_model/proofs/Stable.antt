@@ -3,7 +3,7 @@ use Rattle.std.proofs.Common.{◌≤◌, ℕ, List, [], ◌∷◌, ◌++◌, len
 use Rattle.std.specs.List.{AllZip}
 use Rattle.dice_key.specs.Meaning.{Meaning, Answered}
 use Rattle.dice_model.specs.Eval.{HasValue}
-use Rattle.dice_model.specs.Asks.{AllTrue, Goes, AsksFor, Reaches, here, through, IsCircle, IsCycle, ReachesCycle}
+use Rattle.dice_model.specs.Asks.{AllTrue, Goes, AsksFor, Reaches, here, through, GoesRound, IsCycle, ReachesCycle}
 use Rattle.dice_model.proofs.EvalLaws.{eval_stable}
 use Rattle.dice_model.proofs.Traces.{zip_map}
 
@@ -29,13 +29,13 @@ module _ {K V : Type 0} (eq : K → K → Bool) (m : Meaning K V) (C D : List (L
   reaches_stable k j here = here
   reaches_stable k j (through {i = i} a r) = through (asks_stable k i a) (reaches_stable i j r)
 
-  circle_stable : (first k : K) (rest : List K) → IsCircle eq m C v first k rest → IsCircle eq m (C ++ D) v first k rest
-  circle_stable first k [] c = asks_stable k first c
-  circle_stable first k (j ∷ js) c = (asks_stable k j c.0, circle_stable first j js c.1)
+  round_stable : (first k : K) (rest : List K) → GoesRound eq m C v first k rest → GoesRound eq m (C ++ D) v first k rest
+  round_stable first k [] c = asks_stable k first c
+  round_stable first k (j ∷ js) c = (asks_stable k j c.0, round_stable first j js c.1)
 
   pub cycle_stable : (ks : List K) → IsCycle eq m C v ks → IsCycle eq m (C ++ D) v ks
   cycle_stable [] c = c
-  cycle_stable (k ∷ ks) c = (c.0, circle_stable k k ks c.1)
+  cycle_stable (k ∷ ks) c = (c.0, round_stable k k ks c.1)
 
   pub reaches_cycle_stable : (k : K) → ReachesCycle eq m C v k → ReachesCycle eq m (C ++ D) v k
   reaches_cycle_stable k r = record { first = r.first; rest = r.rest; cycle = cycle_stable (r.first ∷ r.rest) r.cycle; reaches = reaches_stable k r.first r.reaches }

@@ -6,12 +6,14 @@ use Rattle.std.proofs.lemmas.Option.{same_Some, none-some}
 use Rattle.dice_key.specs.Meaning.{Meaning, Answered, Step, Asks, Ends}
 use Rattle.dice_key.specs.Lawful.{IsLawful}
 use Rattle.dice_key.specs.declared.universe.Kind.TheVariants.{Injected}
-use Rattle.dice_model.specs.Log.{input, Has}
+use Rattle.dice_model.specs.Log.{input}
 use Rattle.dice_model.specs.Eval.{answers, on_step, reached, eval, HasValue}
 use Rattle.dice_model.specs.Asks.{AllTrue, Goes, AsksFor, IsTrace}
-use Rattle.dice_model.proofs.EvalLaws.{chained, mapped, answers_grow, eval_more, one_value}
+use Rattle.dice_model.proofs.EvalLaws.{mapped, answers_grow, eval_more, one_value}
 use Rattle.dice_model.proofs.Runs.{reached_end, reached_more, of_computed}
 use Rattle.dice_model.proofs.Finite.{goes_last}
+use Rattle.lists.proofs.Options.{chained}
+use Rattle.lists.specs.Lists.{Has}
 
 pub not_le : (a b : ℕ) → (a ≤ b → ⊥) → b < a
 not_le zero b h = absurd (h (omega arith))

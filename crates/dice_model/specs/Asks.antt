@@ -3,8 +3,8 @@ use Rattle.std.specs.Prelude.{◌≡◌, ◌≢◌, ℕ, List, [], ◌∷◌, �
 use Rattle.std.specs.List.{AllZip}
 use Rattle.dice_key.specs.Meaning.{Meaning, Answered, Asks, Ends}
 use Rattle.dice_key.specs.declared.universe.Kind.TheVariants.{Injected}
-use Rattle.dice_model.specs.Log.{Has, AreDistinct}
 use Rattle.dice_model.specs.Eval.{HasValue}
+use Rattle.lists.specs.Lists.{AreDistinct, Has}
 
 -- each answer of these batches is allowed by R
 abbrev pub AllTrue : {K V : Type 0} → (K → V → Type 0) → List (Answered K V) → Type 0
@@ -38,14 +38,14 @@ module _ {K V : Type 0} (eq : K → K → Bool) (m : Meaning K V) (C : List (Lis
     through : {k i j : K} → AsksFor k i → Reaches i j → Reaches k j
 
   -- each key asks the next, and the last asks `first`
-  abbrev pub IsCircle : K → K → List K → Type 0
-  IsCircle first k [] = AsksFor k first
-  IsCircle first k (j ∷ js) = AsksFor k j × IsCircle first j js
+  abbrev pub GoesRound : K → K → List K → Type 0
+  GoesRound first k [] = AsksFor k first
+  GoesRound first k (j ∷ js) = AsksFor k j × GoesRound first j js
 
   -- distinct keys, one or more; each asks the next and the last asks the first
   abbrev pub IsCycle : List K → Type 0
   IsCycle [] = ⊥
-  IsCycle (k ∷ ks) = AreDistinct (k ∷ ks) × IsCircle k k ks
+  IsCycle (k ∷ ks) = AreDistinct (k ∷ ks) × GoesRound k k ks
 
   -- k reaches a key of a cycle
   pub record ReachesCycle (k : K) : Type 0 where

@@ -7,6 +7,7 @@ use Rattle.std.specs.Map.{lookup, keys_of}
 use Rattle.std.specs.List.{AllByRecursion}
 use Rattle.dice_key.specs.Meaning.{Meaning}
 use Rattle.dice_key.specs.declared.universe.Kind.TheVariants.{Injected}
+use Rattle.lists.specs.Lists.{AreDistinct, Has}
 
 -- a log of commits, each a list of pairs of an injected key and its value; version v is what its first v commits make
 abbrev pub Log : Type 0 → Type 0 → Type 0
@@ -14,16 +15,6 @@ Log K V = List (List (K × V))
 
 abbrev pub version_of : {K V : Type 0} → Log K V → ℕ → Log K V
 version_of C v = take v C
-
--- x is one of the elements
-abbrev pub Has : {X : Type 0} → List X → X → Type 0
-Has [] x = ⊥
-Has (y ∷ ys) x = (y ≡ x) ⊎ Has ys x
-
--- no element stands twice
-abbrev pub AreDistinct : {X : Type 0} → List X → Type 0
-AreDistinct [] = Unit {0}
-AreDistinct (x ∷ xs) = (Has xs x → ⊥) × AreDistinct xs
 
 -- a pair, without where it lies in memory
 abbrev pub pair_of : {K V A B : Type 0} → Arc K A × Arc V B → K × V

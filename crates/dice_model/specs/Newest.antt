@@ -1,7 +1,7 @@
 -- What the input of a key is, in words of commits alone.
 use Rattle.std.specs.Prelude.{◌≡◌, List, ◌++◌, ◌∷◌}
 use Rattle.std.specs.Map.{keys_of}
-use Rattle.dice_model.specs.Log.{Has}
+use Rattle.lists.specs.Lists.{Has}
 
 -- none of these commits has a value for k
 abbrev pub IsUnset : {K V : Type 0} → K → List (List (K × V)) → Type 0

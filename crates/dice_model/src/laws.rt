@@ -3,9 +3,10 @@ ghost use Rattle.std.specs.Prelude.{◌≡◌, ◌≢◌, ◌⊎◌, ◌≤◌, 
 ghost use Rattle.dice_key.specs.Meaning.{Answered};
 ghost use Rattle.dice_key.specs.declared.universe.Kind.TheVariants.{Injected};
 ghost use Rattle.dice_model.specs.Eval.{eval, HasValue};
-ghost use Rattle.dice_model.specs.Log.{Has, IsLog, input, version_of};
+ghost use Rattle.dice_model.specs.Log.{IsLog, input, version_of};
 ghost use Rattle.dice_model.specs.Newest.{IsNewest, IsUnset};
 ghost use Rattle.dice_model.specs.Asks.{AllTrue, IsTrace, ReachesCycle, IsClosed};
+ghost use Rattle.lists.specs.Lists.{Has};
 
 use dice_key::{Universe, laws_of};
 

@@ -10,6 +10,3 @@ pub use evaluator::plain;
 pub use laws::{
     inputs_are_settled, same_answers_give_the_value, traces_are_settled, values_are_settled,
 };
-
-#[cfg(test)]
-mod tests;

@@ -6,7 +6,7 @@ use Rattle.std.specs.List.{AllByRecursion}
 use Rattle.std.specs.Str.{bytes_eq}
 use Rattle.std.proofs.Math.Seq.{take-length}
 use Rattle.dice_key.specs.declared.universe.Kind.TheVariants.{Injected}
-use Rattle.dice_model.specs.Log.{Has, AreDistinct, IsCommit, input, last_value_of}
+use Rattle.dice_model.specs.Log.{IsCommit, input, last_value_of}
 use Rattle.action_digest.specs.declared.key.Key.{Key}
 use Rattle.action_digest.specs.declared.key.Key.TheVariants as key
 use Rattle.action_digest.specs.declared.value.Value.{Value}
@@ -17,6 +17,7 @@ use Rattle.script.specs.Plan.{Change, file_in, file_after, newest, differs}
 use Rattle.dice_run.specs.Output.{pair_of_change, pairs_of_changes, log_of}
 use Rattle.dice_run.specs.Commits.{AreDistinctSources, differs_from}
 use Rattle.dice_run.specs.Driving.{paths_of}
+use Rattle.lists.specs.Lists.{AreDistinct, Has}
 
 -- ---- lists
 

@@ -2,7 +2,6 @@
 use Rattle.std.proofs.Common.{◌≡◌, ◌⊎◌, inl, inr, ℕ, Bool, true, false, cond, List, [], ◌∷◌, ◌++◌, Option, Some, None, refl, sym, ap, ◌∙◌, subst, append-nil, append_assoc}
 use Rattle.std.specs.Str.{bytes_eq}
 use Rattle.atomic_table.specs.Seated.{TableId}
-use Rattle.dice_model.specs.Log.{Has}
 use Rattle.journal.specs.declared.event.Told.{Told}
 use Rattle.journal.specs.declared.event.Told.TheVariants as told
 use Rattle.journal.specs.Tell.{event_by}
@@ -25,12 +24,8 @@ use Rattle.dice_run.proofs.Steps.{own_name, by_name, close_stands}
 use Rattle.dice_run.proofs.Ending.{closed_fate}
 use Rattle.dice_run.proofs.Recorded.{begins_on, begins_itself, decided_on, knows_closed}
 use Rattle.dice_run.proofs.Deciding.{decided_at_close}
-
-some_same : {X : Type 0} {x y : X} → Some x ≡ Some y → x ≡ y
-some_same e = cc
-
-none_some : {X : Type 0} {x : X} → None ≡ Some x → ⊥
-none_some e = cc
+use Rattle.lists.specs.Lists.{Has}
+use Rattle.lists.proofs.Options.{none_some, some_same}
 
 -- ---- the end, before all lines
 

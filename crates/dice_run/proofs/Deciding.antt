@@ -14,16 +14,11 @@ use Rattle.action_digest.specs.declared.key.Key.{Key}
 use Rattle.action_digest.specs.declared.value.Value.{Value}
 use Rattle.action_digest.specs.Buck.{buck}
 use Rattle.action_digest.specs.Same.{key_equal}
-use Rattle.dice_model.specs.Log.{Has}
 use Rattle.dice_run.specs.Events.{Events, IsDecidedIn}
 use Rattle.dice_run.specs.Recording.{WasDecided}
 use Rattle.dice_run.proofs.Seating.{stands_below}
-
-some_same : {X : Type 0} {x y : X} → Some x ≡ Some y → x ≡ y
-some_same e = cc
-
-none_some : {X : Type 0} {x : X} → None ≡ Some x → ⊥
-none_some e = cc
+use Rattle.lists.specs.Lists.{Has}
+use Rattle.lists.proofs.Options.{none_some, some_same}
 
 abbrev IsDecidedBack : Events → ℕ → Key → Type 0
 IsDecidedBack R v k = (d : Decision) × (decided key_equal R v k ≡ Some d)

@@ -4,7 +4,6 @@ use Rattle.std.specs.Option.{option_map}
 use Rattle.std.specs.Str.{bytes_eq}
 use Rattle.std.proofs.lemmas.Slice.Eq.{bytes_eq-Decides}
 use Rattle.atomic_table.specs.Seated.{TableId}
-use Rattle.dice_model.specs.Log.{Has}
 use Rattle.script.specs.declared.line.Line.{Line}
 use Rattle.script.specs.declared.line.Line.TheVariants.{Put, Drop, Commit, Open, Ask, Action, Wait, Cancel, Close}
 use Rattle.script.specs.declared.fate.Fate.{Fate}
@@ -25,12 +24,10 @@ use Rattle.dice_run.specs.Recording.{Records, RecordsStep}
 use Rattle.dice_run.specs.Printing.{IsDone}
 use Rattle.dice_run.specs.declared.driver.Driver.{Driver}
 use Rattle.dice_run.proofs.Recorded.{records_first}
-
-some_same : {X : Type 0} {x y : X} → Some x ≡ Some y → x ≡ y
-some_same e = cc
-
-none_some : {X : Type 0} {x : X} → None ≡ Some x → ⊥
-none_some e = cc
+use Rattle.lists.proofs.Members.{has_end, has_last, has_more}
+use Rattle.lists.proofs.Places.{drop_item}
+use Rattle.lists.specs.Lists.{Has}
+use Rattle.lists.proofs.Options.{none_some, some_same}
 
 -- ---- the lines
 
@@ -98,12 +95,6 @@ going_end id ls d g = record {
 
 -- ---- requests and lines
 
-last_or_before : {X : Type 0} (xs : List X) (x y : X) → Has (xs ++ x ∷ []) y → Has xs y ⊎ (x ≡ y)
-last_or_before [] x y (inl e) = inr e
-last_or_before [] x y (inr h) = absurd h
-last_or_before (z ∷ zs) x y (inl e) = inl (inl e)
-last_or_before (z ∷ zs) x y (inr h) = elim (last_or_before zs x y h) as (λ _. Has (z ∷ zs) y ⊎ (x ≡ y)) [ inl a ↦ inl (inr a) | inr e ↦ inr e ]
-
 asked_or_before : (ends : Ends) (ls : List Line) (p : Plan) (r : Planned) → Has (plan_from ends p ls).requests r → Has p.requests r ⊎ AskedIn ls r.name
 asked_or_before ends [] p r h = inl h
 asked_or_before ends (Put path bytes ∷ ls) p r h = asked_or_before ends ls (planned ends p (Put path bytes)) r h
@@ -114,22 +105,13 @@ asked_or_before ends (Wait n ∷ ls) p r h = asked_or_before ends ls (planned en
 asked_or_before ends (Cancel n ∷ ls) p r h = asked_or_before ends ls (planned ends p (Cancel n)) r h
 asked_or_before ends (Close t ∷ ls) p r h = asked_or_before ends ls (planned ends p (Close t)) r h
 asked_or_before ends (Ask q ∷ ls) p r h = elim (asked_or_before ends ls (planned ends p (Ask q)) r h) as (λ _. Has p.requests r ⊎ AskedIn (Ask q ∷ ls) r.name) [
-  | inl a ↦ elim (last_or_before p.requests _ r a) as (λ _. Has p.requests r ⊎ AskedIn (Ask q ∷ ls) r.name) [ inl b ↦ inl b | inr e ↦ inr (inl (ap (λ (s : Planned). s.name) e)) ]
+  | inl a ↦ elim (has_end p.requests _ r a) as (λ _. Has p.requests r ⊎ AskedIn (Ask q ∷ ls) r.name) [ inl b ↦ inl b | inr e ↦ inr (inl (ap (λ (s : Planned). s.name) e)) ]
   | inr b ↦ inr (inr b)
 ]
 asked_or_before ends (Action q ∷ ls) p r h = elim (asked_or_before ends ls (planned ends p (Action q)) r h) as (λ _. Has p.requests r ⊎ AskedIn (Action q ∷ ls) r.name) [
-  | inl a ↦ elim (last_or_before p.requests _ r a) as (λ _. Has p.requests r ⊎ AskedIn (Action q ∷ ls) r.name) [ inl b ↦ inl b | inr e ↦ inr (inl (ap (λ (s : Planned). s.name) e)) ]
+  | inl a ↦ elim (has_end p.requests _ r a) as (λ _. Has p.requests r ⊎ AskedIn (Action q ∷ ls) r.name) [ inl b ↦ inl b | inr e ↦ inr (inl (ap (λ (s : Planned). s.name) e)) ]
   | inr b ↦ inr (inr b)
 ]
-
-has_kept_end : {X : Type 0} (xs : List X) (y z : X) → Has xs z → Has (xs ++ y ∷ []) z
-has_kept_end [] y z h = absurd h
-has_kept_end (u ∷ us) y z (inl i) = inl i
-has_kept_end (u ∷ us) y z (inr h) = inr (has_kept_end us y z h)
-
-pub has_last : {X : Type 0} (xs : List X) (y : X) → Has (xs ++ y ∷ []) y
-has_last [] y = inl refl
-has_last (z ∷ zs) y = inr (has_last zs y)
 
 -- requests that a plan has are had later on
 pub had_later : (ends : Ends) (ls : List Line) (p : Plan) (r : Planned) → Has p.requests r → Has (plan_from ends p ls).requests r
@@ -141,15 +123,15 @@ had_later ends (Open t ∷ ls) p r h = had_later ends ls (planned ends p (Open t
 had_later ends (Wait n ∷ ls) p r h = had_later ends ls (planned ends p (Wait n)) r h
 had_later ends (Cancel n ∷ ls) p r h = had_later ends ls (planned ends p (Cancel n)) r h
 had_later ends (Close t ∷ ls) p r h = had_later ends ls (planned ends p (Close t)) r h
-had_later ends (Ask q ∷ ls) p r h = had_later ends ls (planned ends p (Ask q)) r (has_kept_end p.requests _ r h)
-had_later ends (Action q ∷ ls) p r h = had_later ends ls (planned ends p (Action q)) r (has_kept_end p.requests _ r h)
+had_later ends (Ask q ∷ ls) p r h = had_later ends ls (planned ends p (Ask q)) r (has_more p.requests _ r h)
+had_later ends (Action q ∷ ls) p r h = had_later ends ls (planned ends p (Action q)) r (has_more p.requests _ r h)
 
 -- each request says whether its name is given up
 abbrev pub AllSay : Ends → List Planned → Type 0
 AllSay ends rs = (r : Planned) → Has rs r → r.cancelled ≡ ends r.name
 
 say_end : (ends : Ends) (rs : List Planned) (s : Planned) → AllSay ends rs → s.cancelled ≡ ends s.name → AllSay ends (rs ++ s ∷ [])
-say_end ends rs s a e r h = elim (last_or_before rs s r h) as (λ _. r.cancelled ≡ ends r.name) [ inl b ↦ a r b | inr i ↦ subst (λ (t : Planned). t.cancelled ≡ ends t.name) i e ]
+say_end ends rs s a e r h = elim (has_end rs s r h) as (λ _. r.cancelled ≡ ends r.name) [ inl b ↦ a r b | inr i ↦ subst (λ (t : Planned). t.cancelled ≡ ends t.name) i e ]
 
 pub all_say : (ends : Ends) (ls : List Line) (p : Plan) → AllSay ends p.requests → AllSay ends (plan_from ends p ls).requests
 all_say ends [] p a = a
@@ -307,9 +289,6 @@ closing_done id ls rest d s = record {
 }
 
 -- ---- lists, from a place on
-
-pub drop_item : {X : Type 0} (xs : List X) (k : ℕ) (x : X) → k < length xs → x ≡ get_or xs k x → drop k xs ≡ x ∷ drop (k + 1) xs
-drop_item xs k x h e = drop-cons xs k x h ∙ ap (λ (y : _). y ∷ drop (suc k) xs) (sym e) ∙ ap (λ (n : ℕ). x ∷ drop n xs) (sym (add-one k))
 
 pub drop_whole : {X : Type 0} (xs : List X) (k : ℕ) → length xs ≤ k → drop k xs ≡ []
 drop_whole [] zero h = refl

@@ -5,7 +5,6 @@ use Rattle.std.specs.Map.{lookup}
 use Rattle.std.specs.Str.{bytes_eq}
 use Rattle.std.specs.HashMap.{get}
 use Rattle.std.specs.Cmp.Lexicographic.{pointwise, nat_list_eq_equiv}
-use Rattle.dice_model.specs.Log.{Has}
 use Rattle.dice_model.specs.Asks.{IsCycle}
 use Rattle.dice_model.specs.Eval.{HasValue}
 use Rattle.dice_model.proofs.EvalLaws.{cyclic-no-value}
@@ -27,6 +26,9 @@ use Rattle.dice_run.specs.Printing.{IsDone, Stands, IsNext, Prints, Told, Opened
 use Rattle.dice_run.specs.declared.driver.Driver.{Driver}
 use Rattle.dice_run.specs.declared.printer.Printer.{Printer}
 use Rattle.dice_run.proofs.Ending.{had_later}
+use Rattle.lists.proofs.Members.{has_end}
+use Rattle.lists.specs.Lists.{Has}
+use Rattle.lists.proofs.Options.{none_some}
 
 some_false : Some false ≡ Some true → ⊥
 some_false e = cc
@@ -193,10 +195,6 @@ module _ (ls rest : List Line) (d : Driver) (t : Printer) (p : Plan) (past : Pas
           (ap (λ n. r.name ++ 32 ∷ decimal n ++ 32 ∷ e.0) (sym version_is) ∙ sym e.2)
           (answered_so (log_of (plan_of ls).log) (wanted (is_cancelled ls) p r w) e.0 (subst (IsToldOf (log_of (plan_of ls).log) (version_of r.transaction p.opened) (key_of w)) same a.2))
 
-has_last : {X : Type 0} (xs : List X) (y : X) → Has (xs ++ y ∷ []) y
-has_last [] y = inl refl
-has_last (z ∷ zs) y = inr (has_last zs y)
-
 replied_stands : (ls rest : List Line) (d : Driver) (t u : Printer) (p q : Plan) (past new : Past) (l : Line) → u.told ≡ t.told → u.newest ≡ t.newest → u.versions ≡ t.versions → Stands ls rest d t q new → Stands ls rest d u q new
 replied_stands ls rest d t u p q past new l et en ev s = record {
   newest = en ∙ s.newest;
@@ -210,7 +208,7 @@ pub ask_prints : (ls : List Line) (d : Driver) (t u : Printer) (r : Request) →
 ask_prints ls d t u r done x = record {
   text = x.text;
   out = x.out;
-  printed = λ rest p past s. replied ls rest d t p past (Ask r) s done r (Digest r.label) (has_last p.requests _) x.version x.known x.text x.reply;
+  printed = λ rest p past s. replied ls rest d t p past (Ask r) s done r (Digest r.label) (has_end p.requests _) x.version x.known x.text x.reply;
   stands = λ rest p past s. replied_stands ls rest d t u p (planned (is_cancelled ls) p (Ask r)) past (after past (Ask r)) (Ask r) x.told x.newest x.versions
       (quiet_stands ls rest d t p (planned (is_cancelled ls) p (Ask r)) past (after past (Ask r)) (Ask r) refl refl (λ n h. h) refl refl s);
 }
@@ -219,16 +217,16 @@ pub action_prints : (ls : List Line) (d : Driver) (t u : Printer) (r : Request) 
 action_prints ls d t u r done x = record {
   text = x.text;
   out = x.out;
-  printed = λ rest p past s. replied ls rest d t p past (Action r) s done r (Text r.label) (has_last p.requests _) x.version x.known x.text x.reply;
+  printed = λ rest p past s. replied ls rest d t p past (Action r) s done r (Text r.label) (has_end p.requests _) x.version x.known x.text x.reply;
   stands = λ rest p past s. replied_stands ls rest d t u p (planned (is_cancelled ls) p (Action r)) past (after past (Action r)) (Action r) x.told x.newest x.versions
       (quiet_stands ls rest d t p (planned (is_cancelled ls) p (Action r)) past (after past (Action r)) (Action r) refl refl (λ n h. h) refl refl s);
 }
 
 pub ask_may_reply : (ls rest : List Line) (d : Driver) (t : Printer) (p : Plan) (past : Past) (r : Request) → Stands ls (Ask r ∷ rest) d t p past → IsDone ls d → IsNew past r → MayReply ls d t r
-ask_may_reply ls rest d t p past r s done n = may_reply ls rest d t p past (Ask r) s done r (Digest r.label) (has_last p.requests _) n
+ask_may_reply ls rest d t p past r s done n = may_reply ls rest d t p past (Ask r) s done r (Digest r.label) (has_end p.requests _) n
 
 pub action_may_reply : (ls rest : List Line) (d : Driver) (t : Printer) (p : Plan) (past : Past) (r : Request) → Stands ls (Action r ∷ rest) d t p past → IsDone ls d → IsNew past r → MayReply ls d t r
-action_may_reply ls rest d t p past r s done n = may_reply ls rest d t p past (Action r) s done r (Text r.label) (has_last p.requests _) n
+action_may_reply ls rest d t p past r s done n = may_reply ls rest d t p past (Action r) s done r (Text r.label) (has_end p.requests _) n
 
 -- ---- the whole script
 
@@ -239,9 +237,6 @@ pub record Printing (ls rest : List Line) (d : Driver) (t : Printer) : Type 0 wh
   pub stands : Stands ls rest d t plan past
   pub order : InOrder past rest
   pub goes_on : (more : List ℕ) → IsOutputFrom (log_of (plan_of ls).log) (is_cancelled ls) plan rest more → IsOutput ls (t.out.items ++ more)
-
-none_some : {X : Type 0} {x : X} → None ≡ Some x → ⊥
-none_some e = cc
 
 pub printing_first : (ls : List Line) (d : Driver) (t : Printer) → IsDone ls d → InOrder nothing ls → t.out.items ≡ [] → t.told ≡ 0 → t.newest ≡ 0 → ((q : List ℕ) → get (pointwise nat_eq) t.versions q ≡ None) → Printing ls ls d t
 printing_first ls d t done o eo et en ev = record {

@@ -7,7 +7,6 @@ use Rattle.std.specs.Arc.{arc_value}
 use Rattle.std.specs.Cmp.Lexicographic.{pointwise}
 use Rattle.atomic_table.specs.Seated.{TableId}
 use Rattle.dice_key.specs.declared.universe.Kind.TheVariants.{Injected}
-use Rattle.dice_model.specs.Log.{Has}
 use Rattle.journal.specs.declared.event.Told.{Told}
 use Rattle.journal.specs.declared.event.Told.TheVariants as told
 use Rattle.journal.specs.Events.{NotClosed}
@@ -18,7 +17,7 @@ use Rattle.dice_engine.specs.Calls.{differing_from}
 use Rattle.dice_engine.specs.Conditions.{StandsAt}
 use Rattle.dice_engine.specs.declared.promise.Transaction.{Transaction}
 use Rattle.dice_engine.proofs.Callers.{stands_longer}
-use Rattle.dice_engine.proofs.Indices.{has_left, closed_free, free_closed}
+use Rattle.dice_engine.proofs.Indices.{closed_free, free_closed}
 use Rattle.script.specs.declared.line.Line.{Line}
 use Rattle.script.specs.declared.line.Line.TheVariants as line
 use Rattle.script.specs.declared.line.Request.{Request}
@@ -42,13 +41,11 @@ use Rattle.dice_run.specs.Recording.{WasDecided, IsRecorded, KnowsIndices, Recor
 use Rattle.dice_run.specs.declared.driver.Driver.{Driver}
 use Rattle.dice_run.proofs.Changing.{differing_same}
 use Rattle.dice_run.proofs.Seating.{stands_below}
-use Rattle.dice_run.proofs.Steps.{own_name, at_name, past_name, other_name, by_name, other_request, live_there}
-
-some_same : {X : Type 0} {x y : X} → Some x ≡ Some y → x ≡ y
-some_same e = cc
-
-none_some : {X : Type 0} {x : X} → None ≡ Some x → ⊥
-none_some e = cc
+use Rattle.dice_run.proofs.Steps.{own_name, at_name, past_name, by_name, other_request, live_there}
+use Rattle.lists.proofs.Members.{has_left}
+use Rattle.lists.specs.Lists.{Has}
+use Rattle.bulk_script.proofs.Blocks.{differ}
+use Rattle.lists.proofs.Options.{none_some, some_same}
 
 pub begins_on : (I J K : Events) → StartsWith K J → StartsWith J I → StartsWith K I
 begins_on I J K a b = (b.0 ++ a.0, a.1 ∙ (ap (λ (x : Events). x ++ a.0) b.1 ∙ append_assoc I b.0 a.0))
@@ -175,7 +172,7 @@ module _ (id : TableId) (d e : Driver) (p : Plan) (past : Past) (t : List ℕ) (
         (λ f. (let c = i.closed u (sym (ap (λ b. cond b (Some true) (past.opened u)) f) ∙ h) in
         (c.0, ap (λ b. cond b (Some x.transaction.opened) (n.opened u)) f ∙ c.1, subst (λ (xs : Events). Has xs (told.Close 0 c.0)) (sym x.opens.goes.mine) (has_left d.seat.mine open_own _ c.2))));
     requests = λ r h. (let z = i.requests r h in
-        let f = other_name t r.transaction (λ s. z.known (ap past.opened (sym s) ∙ new)) in
+        let f = differ t r.transaction (λ s. z.known (ap past.opened (sym s) ∙ new)) in
         recorded_on d.seat.seen e.seat.seen n (record n { opened = with_entry t x.transaction.opened n.opened }) past (after past (line.Open t)) r x.opens.goes.later.begins
         (ap (λ b. cond b (Some x.transaction.opened) (n.opened r.transaction)) f) (λ g y. g (sym (ap (λ b. cond b (Some true) (past.opened r.transaction)) f) ∙ y)) (λ y. y) z);
   }

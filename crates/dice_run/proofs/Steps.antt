@@ -10,7 +10,6 @@ use Rattle.std.specs.Cmp.Lexicographic.{pointwise, nat_list_eq_equiv}
 use Rattle.std.proofs.lemmas.Slice.Eq.{bytes_eq-Decides}
 use Rattle.atomic_table.specs.Seated.{TableId}
 use mathlib.Core.List.{map-append}
-use Rattle.dice_model.specs.Log.{Has, AreDistinct}
 use Rattle.dice_model.proofs.Stable.{value_stable, reaches_stable, cycle_stable}
 use Rattle.journal.specs.declared.event.Told.{Told}
 use Rattle.journal.specs.declared.event.Told.TheVariants.{Open, Close, Ask, Leave}
@@ -42,12 +41,11 @@ use Rattle.dice_run.specs.Driving.{Pledge, transaction_of, pledge_of, answer_of,
 use Rattle.dice_run.specs.declared.driver.Driver.{Driver}
 use Rattle.dice_run.proofs.Changing.{differing_same}
 use Rattle.dice_run.proofs.Seating.{Onward, onward, onward_same, still_open, still_asks, seen_longer, log_open, log_close, log_ask, log_leave, log_none, log_commit, commit_closes_none, commit_leaves_none, open_below, ask_below}
-
-some_same : {X : Type 0} {x y : X} → Some x ≡ Some y → x ≡ y
-some_same e = cc
-
-none_some : {X : Type 0} {x : X} → None ≡ Some x → ⊥
-none_some e = cc
+use Rattle.lists.proofs.Distinct.{distinct_end}
+use Rattle.lists.proofs.Members.{has_last}
+use Rattle.lists.specs.Lists.{AreDistinct, Has}
+use Rattle.bulk_script.proofs.Blocks.{differ}
+use Rattle.lists.proofs.Options.{none_some, some_same}
 
 -- what is told of a key is so over each log that goes on
 pub told_on : (C D : List (List (Key × Value))) (v : ℕ) (k : Key) (text : List ℕ) → v ≤ length C → IsToldOf C v k text → IsToldOf (C ++ D) v k text
@@ -98,19 +96,6 @@ module _ (d e : Driver) (own : List (Told Key Value)) (o : Onward d.seat e.seat 
 
 -- ---- put and drop
 
-has_end : {X : Type 0} (xs : List X) (x y : X) → Has (xs ++ x ∷ []) y → Has xs y ⊎ (x ≡ y)
-has_end [] x y (inl e) = inr e
-has_end [] x y (inr h) = absurd h
-has_end (z ∷ zs) x y (inl e) = inl (inl e)
-has_end (z ∷ zs) x y (inr h) = elim (has_end zs x y h) as (λ _. Has (z ∷ zs) y ⊎ (x ≡ y)) [ inl a ↦ inl (inr a) | inr e ↦ inr e ]
-
-distinct_end : {X : Type 0} (xs : List X) (x : X) → AreDistinct xs → (Has xs x → ⊥) → AreDistinct (xs ++ x ∷ [])
-distinct_end [] x d n = ((λ h. h), tt)
-distinct_end (z ∷ zs) x d n = (
-  (λ h. elim (has_end zs x z h) as (λ _. ⊥) [ inl a ↦ d.0 a | inr e ↦ n (inl (sym e)) ]),
-  distinct_end zs x d.1 (λ h. n (inr h)),
-)
-
 put_gathered : (g : List (Key × Value)) (cs : List Change) (c : Change) → g ≡ pairs_of_changes cs → g ++ pair_of_change c ∷ [] ≡ pairs_of_changes (cs ++ c ∷ [])
 put_gathered g cs c e = ap (λ (x : List (Key × Value)). x ++ pair_of_change c ∷ []) e ∙ sym (map-append pair_of_change cs (c ∷ []))
 
@@ -122,7 +107,7 @@ if_not true c e = cc
 if_not false c e = e
 
 put_touched : (past : Past) (path q : List ℕ) (xs : List (List ℕ)) → ((p : List ℕ) → past.touched p ≡ false → Has xs p → ⊥) → cond (bytes_eq path q) true (past.touched q) ≡ false → Has (xs ++ path ∷ []) q → ⊥
-put_touched past path q xs t e h = elim (has_end xs path q h) as (λ _. ⊥) [
+put_touched past path q xs t e h = elim (has_last xs path q h) as (λ _. ⊥) [
   | inl a ↦ t q (if_not (bytes_eq path q) (past.touched q) e) a
   | inr s ↦ (let b : bytes_eq path q ≡ true = (bytes_eq-Decides path q).1 s in let f : cond true true (past.touched q) ≡ false = subst (λ (x : Bool). cond x true (past.touched q) ≡ false) b e in cc)
 ]
@@ -232,13 +217,6 @@ at_name t x f = ap (λ b. cond b x (f t)) (own_name t)
 pub past_name : {X : Type 0} (t q : List ℕ) (x : Option X) (f : List ℕ → Option X) → bytes_eq t q ≡ false → with_named t x f q ≡ f q
 past_name t q x f e = ap (λ b. cond b x (f q)) e
 
-pub other_name : (t q : List ℕ) → (t ≡ q → ⊥) → bytes_eq t q ≡ false
-other_name t q n = by_test (bytes_eq t q) refl
-  where
-    by_test : (b : Bool) → bytes_eq t q ≡ b → bytes_eq t q ≡ false
-    by_test true e = absurd (n (same_name t q e))
-    by_test false e = e
-
 -- either it is the name, or it is another
 pub by_name : (t q : List ℕ) (G : Type 0) → (t ≡ q → G) → (bytes_eq t q ≡ false → G) → G
 by_name t q G f g = by_test (bytes_eq t q) refl
@@ -274,7 +252,7 @@ module _ (id : TableId) (ends : Ends) (d e : Driver) (p : Plan) (past : Past) (t
 
   -- an open transaction has another name than the new one
   other : (q : List ℕ) (y : Transaction) → transaction_of d q ≡ Some y → bytes_eq t q ≡ false
-  other q y h = other_name t q (λ s. none_some (sym new ∙ (ap past.opened s ∙ (m.open_ q y h).2)))
+  other q y h = differ t q (λ s. none_some (sym new ∙ (ap past.opened s ∙ (m.open_ q y h).2)))
 
   opens_kept : (q : List ℕ) (y : Transaction) → transaction_of d q ≡ Some y → transaction_of e q ≡ Some y
   opens_kept q y h = x.transactions q ∙ (past_name t q (Some x.transaction) (transaction_of d) (other q y h) ∙ h)
@@ -346,7 +324,7 @@ module _ (id : TableId) (ends : Ends) (d e : Driver) (p : Plan) (past : Past) (t
 
 -- a request that was made before has another name than a new one
 pub other_request : (id : TableId) (d : Driver) (p : Plan) (past : Past) (q : List ℕ) (r : Planned) → Matches id d p past → past.asked q ≡ None → Has p.requests r → bytes_eq q r.name ≡ false
-other_request id d p past q r m new h = other_name q r.name (λ s. none_some (sym new ∙ (ap past.asked s ∙ (m.requests r h).made)))
+other_request id d p past q r m new h = differ q r.name (λ s. none_some (sym new ∙ (ap past.asked s ∙ (m.requests r h).made)))
 
 module _ (id : TableId) (ends : Ends) (d e : Driver) (p : Plan) (past : Past) (r : Request) (w : Wish) (m : Matches id d p past) (new : IsNew past r) (x : DidAsk id r (key_of w) d e) where
   abbrev pub asks_own : List (Told Key Value)
@@ -396,7 +374,7 @@ module _ (id : TableId) (ends : Ends) (d e : Driver) (p : Plan) (past : Past) (r
       (ap (λ v. option_map (λ u. u.items) (get (pointwise nat_eq) v s.name)) x.answers) (λ y i. asks_transaction s.transaction ∙ i) (m.requests s h)
 
   asks_requests : (s : Planned) → Has (p.requests ++ asked_now ∷ []) s → IsMade e (after past (line.Ask r)) s
-  asks_requests s h = elim (has_end p.requests asked_now s h) as (λ _. IsMade e (after past (line.Ask r)) s) [
+  asks_requests s h = elim (has_last p.requests asked_now s h) as (λ _. IsMade e (after past (line.Ask r)) s) [
     | inl a ↦ old_made s a
     | inr i ↦ subst (IsMade e (after past (line.Ask r))) i new_made
   ]

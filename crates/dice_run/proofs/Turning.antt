@@ -5,7 +5,6 @@ use Rattle.std.specs.Map.{keys_of}
 use Rattle.std.specs.List.{AllByRecursion}
 use Rattle.atomic_table.specs.Seated.{TableId}
 use Rattle.dice_key.specs.declared.universe.Kind.TheVariants.{Injected}
-use Rattle.dice_model.specs.Log.{Has, AreDistinct}
 use Rattle.dice_core.specs.Commits.{Fault, NotInjected, Twice, fault_of, IsFirstFault}
 use Rattle.dice_core.specs.declared.commit.CommitRefusal.{CommitRefusal}
 use Rattle.dice_core.specs.declared.commit.CommitRefusal.TheVariants as refusal
@@ -31,6 +30,10 @@ use Rattle.action_digest.specs.Buck.{buck}
 use Rattle.action_digest.specs.Same.{key_equal, value_equal}
 use Rattle.dice_run.specs.Seats.{Place, log_in, IsOurs, Goes, Commits, Opens, Asks}
 use Rattle.dice_run.proofs.Seating.{onward, still_asks}
+use Rattle.lists.proofs.Distinct.{distinct_before}
+use Rattle.lists.proofs.Each.{all_middle}
+use Rattle.lists.proofs.Members.{has_middle}
+use Rattle.lists.specs.Lists.{AreDistinct, Has}
 
 abbrev Events : Type 0
 Events = List (Told Key Value)
@@ -164,23 +167,10 @@ all_keys : (P : Key → Type 0) (ps : List (Key × Value)) → AllByRecursion (�
 all_keys P [] a = tt
 all_keys P (p ∷ ps) a = (a.0, all_keys P ps a.1)
 
-all_mid : {X : Type 0} (P : X → Type 0) (xs ys : List X) (x : X) → AllByRecursion P (xs ++ x ∷ ys) → P x
-all_mid P [] ys x a = a.0
-all_mid P (z ∷ zs) ys x a = all_mid P zs ys x a.1
-
-has_mid : {X : Type 0} (xs ys : List X) (x : X) → Has (xs ++ x ∷ ys) x
-has_mid [] ys x = inl refl
-has_mid (z ∷ zs) ys x = inr (has_mid zs ys x)
-
-distinct_mid : {X : Type 0} (xs ys : List X) (x : X) → AreDistinct (xs ++ x ∷ ys) → Has xs x → ⊥
-distinct_mid [] ys x d h = h
-distinct_mid (z ∷ zs) ys x d (inl e) = d.0 (subst (λ y. Has (zs ++ x ∷ ys) y) (sym e) (has_mid zs ys x))
-distinct_mid (z ∷ zs) ys x d (inr h) = distinct_mid zs ys x d.1 h
-
 no_fault : (ps : List (Key × Value)) → AreDistinctSources ps → (f : Fault Key) → IsFirstFault buck (keys_of ps) f → ⊥
 no_fault ps d (NotInjected k) f =
-    f.fault (all_mid (λ (q : Key). buck.kind q ≡ Injected) f.before f.later k (subst (AllByRecursion (λ (q : Key). buck.kind q ≡ Injected)) f.all (all_keys (λ (q : Key). buck.kind q ≡ Injected) ps d.sources)))
-no_fault ps d (Twice k) f = distinct_mid f.before f.later k (subst AreDistinct f.all d.distinct) f.fault.1
+    f.fault (all_middle (λ (q : Key). buck.kind q ≡ Injected) f.before f.later k (subst (AllByRecursion (λ (q : Key). buck.kind q ≡ Injected)) f.all (all_keys (λ (q : Key). buck.kind q ≡ Injected) ps d.sources)))
+no_fault ps d (Twice k) f = distinct_before f.before f.later k (subst AreDistinct f.all d.distinct) f.fault.1
 
 abbrev pub is_memory : {U K V R : Type 0} → CommitRefusal U K V R → Bool
 is_memory (refusal.NotInjected k) = false

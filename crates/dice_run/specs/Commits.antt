@@ -3,11 +3,12 @@ use Rattle.std.specs.Prelude.{◌≡◌, Bool, not, List, [], ◌∷◌, ◌++�
 use Rattle.std.specs.Map.{keys_of}
 use Rattle.std.specs.List.{AllByRecursion}
 use Rattle.dice_key.specs.declared.universe.Kind.TheVariants.{Injected}
-use Rattle.dice_model.specs.Log.{input, AreDistinct}
+use Rattle.dice_model.specs.Log.{input}
 use Rattle.action_digest.specs.declared.key.Key.{Key}
 use Rattle.action_digest.specs.declared.value.Value.{Value}
 use Rattle.action_digest.specs.Buck.{buck}
 use Rattle.action_digest.specs.Same.{key_equal, value_equal}
+use Rattle.lists.specs.Lists.{AreDistinct}
 
 -- whether a pair's value is another than the newest
 abbrev pub differs_from : List (List (Key × Value)) → Key × Value → Bool

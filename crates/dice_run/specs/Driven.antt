@@ -1,7 +1,6 @@
 -- A script whose lines were carried out, and whose requests are waited for at its end.
 use Rattle.std.specs.Prelude.{◌≡◌, ◌⊎◌, ℕ, false, List, [], ◌∷◌, cond, Some, None}
 use Rattle.atomic_table.specs.Seated.{TableId}
-use Rattle.dice_model.specs.Log.{Has}
 use Rattle.script.specs.declared.line.Line.{Line}
 use Rattle.script.specs.declared.line.Line.TheVariants.{Put, Drop, Commit, Open, Ask, Action, Wait, Cancel, Close}
 use Rattle.script.specs.declared.fate.Fate.TheVariants as fate
@@ -10,6 +9,7 @@ use Rattle.script.specs.Plan.{Plan, Planned, no_plan, plan_from, plan_of}
 use Rattle.dice_run.specs.Driving.{Matches, DidClose, transaction_of, newest_from}
 use Rattle.dice_run.specs.Recording.{Records, RecordsEnds}
 use Rattle.dice_run.specs.declared.driver.Driver.{Driver}
+use Rattle.lists.specs.Lists.{Has}
 
 -- the lines were carried out
 pub record Carried (id : TableId) (ls : List Line) (d : Driver) : Type 0 where

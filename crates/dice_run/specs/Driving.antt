@@ -8,7 +8,6 @@ use Rattle.std.specs.Cmp.Lexicographic.{pointwise}
 use Rattle.std.specs.Option.{option_map}
 use Rattle.atomic_table.specs.Seated.{TableId}
 use Rattle.dice_key.specs.declared.universe.Kind.TheVariants.{Injected}
-use Rattle.dice_model.specs.Log.{Has, AreDistinct}
 use Rattle.journal.specs.declared.event.Told.TheVariants.{Close, Leave}
 use Rattle.journal.specs.Events.{NotClosed}
 use Rattle.dice_engine.specs.Conditions.{HasOpen, HasAsk}
@@ -33,6 +32,7 @@ use Rattle.dice_run.specs.Answers.{IsToldOf}
 use Rattle.dice_run.specs.Events.{IsDecidedIn}
 use Rattle.dice_run.specs.Seats.{log_in, IsOurs, Goes, Opens, Asks}
 use Rattle.dice_run.specs.declared.driver.Driver.{Driver}
+use Rattle.lists.specs.Lists.{AreDistinct, Has}
 
 abbrev pub paths_of : List Change → List (List ℕ)
 paths_of cs = map (λ c. c.path) cs

@@ -1,6 +1,5 @@
 -- What the lines of a script have the journal say. All events that tell a number tell 0, that of the driver's seat.
 use Rattle.std.specs.Prelude.{◌≡◌, ℕ, Bool, true, false, List, [], ◌∷◌, ◌++◌, length, take, reverse, filter, Option, Some, None}
-use Rattle.dice_model.specs.Log.{Has}
 use Rattle.journal.specs.declared.event.Told.{Told}
 use Rattle.journal.specs.declared.event.Told.TheVariants as told
 use Rattle.journal.specs.Events.{Decision, decided}
@@ -19,6 +18,7 @@ use Rattle.action_digest.specs.declared.value.Value.{Value}
 use Rattle.action_digest.specs.Buck.{buck}
 use Rattle.action_digest.specs.Same.{key_equal}
 use Rattle.dice_run.specs.Output.{pairs_of_changes, key_of}
+use Rattle.lists.specs.Lists.{Has}
 
 abbrev pub Events : Type 0
 Events = List (Told Key Value)

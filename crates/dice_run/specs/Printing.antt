@@ -4,7 +4,6 @@ use Rattle.std.specs.Map.{lookup}
 use Rattle.std.specs.Str.{bytes_eq}
 use Rattle.std.specs.HashMap.{get}
 use Rattle.std.specs.Cmp.Lexicographic.{pointwise}
-use Rattle.dice_model.specs.Log.{Has}
 use Rattle.script.specs.declared.line.Line.{Line}
 use Rattle.script.specs.declared.line.Request.{Request}
 use Rattle.script.specs.Past.{Past, after, is_cancelled}
@@ -15,6 +14,7 @@ use Rattle.dice_run.specs.Answers.{IsToldOf}
 use Rattle.dice_run.specs.Driving.{answer_of, newest_from, with_named}
 use Rattle.dice_run.specs.declared.driver.Driver.{Driver}
 use Rattle.dice_run.specs.declared.printer.Printer.{Printer}
+use Rattle.lists.specs.Lists.{Has}
 
 -- the lines were carried out: each request that they do not cancel was answered, and what the commits print is known
 pub record IsDone (ls : List Line) (d : Driver) : Type 0 where

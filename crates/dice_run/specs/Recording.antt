@@ -1,6 +1,5 @@
 -- What the driver knows of its journal while it carries out a script.
 use Rattle.std.specs.Prelude.{◌≡◌, ◌≢◌, ◌⊎◌, ℕ, Bool, true, false, List, [], ◌∷◌, ◌++◌, Some, None}
-use Rattle.dice_model.specs.Log.{Has}
 use Rattle.journal.specs.declared.event.Told.TheVariants as told
 use Rattle.journal.specs.Events.{NotClosed}
 use Rattle.turnstile.specs.Events.{StartsWith}
@@ -16,6 +15,7 @@ use Rattle.dice_run.specs.Output.{key_of}
 use Rattle.dice_run.specs.Events.{Events, Indices, no_indices, AddsLines, AddsEnds, IsDecidedIn}
 use Rattle.dice_run.specs.Driving.{Pledge, transaction_of, pledge_of}
 use Rattle.dice_run.specs.declared.driver.Driver.{Driver}
+use Rattle.lists.specs.Lists.{Has}
 
 -- at some time (v, k) was decided, and the transaction of this index was open at v
 pub record WasDecided (J : Events) (transaction v : ℕ) (k : Key) : Type 0 where

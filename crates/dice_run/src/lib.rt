@@ -23,8 +23,3 @@ pub use kept::Kept;
 pub use run_of::run;
 pub use status::Status;
 pub use workers::drive;
-
-#[cfg(test)]
-mod run_tests;
-#[cfg(test)]
-mod tests;

@@ -7,14 +7,13 @@ use Rattle.std.proofs.lemmas.Option.{none-some, same_Some}
 use Rattle.dice_key.specs.Meaning.{Meaning}
 use Rattle.dice_key.specs.Lawful.{IsLawful, IsEquality}
 use Rattle.dice_key.specs.declared.universe.Kind.TheVariants.{Injected}
-use Rattle.dice_model.specs.Log.{Has, input}
+use Rattle.dice_model.specs.Log.{input}
 use Rattle.dice_model.specs.Eval.{HasValue, by_kind, reached, eval}
 use Rattle.dice_model.specs.Asks.{AsksFor}
 use Rattle.dice_jobs.specs.Jobs.{Assigned, Waits, answered_more}
 use Rattle.task_share.specs.Asked.{By, Tasked, WaitOf, Leads, stays, IsDone}
-use Rattle.task_share.specs.Lists as Shared
 use Rattle.task_share.specs.Seen.{Share, task_at, is_live, asks, asked_of, asker_room, wait_room}
-use Rattle.cycle_guard.specs.Circle.{IsRound, WouldWait}
+use Rattle.cycle_guard.specs.WaitCycle.{IsRound, WouldWait}
 use Rattle.injected.specs.Seen.{Seen, cell_at}
 use Rattle.injected.specs.Inputs.{AreOf}
 use Rattle.journal.specs.declared.event.Told.{Told}
@@ -24,15 +23,15 @@ use Rattle.versioned_graph.specs.Looks.{Matches}
 use Rattle.core_laws.specs.Tasks.{IsReady, IsOut, IsWaiting, Standing, Works, Ended, WithValue, WithCycle, WithNothing, is_going, value_of, value_in}
 use Rattle.core_laws.specs.Stands.{AsksNext, TaskStands, IsStanding, VersionStands, CycleStands}
 use Rattle.core_laws.specs.Desk.{World, out_in}
-use Rattle.core_laws.proofs.Cycles.{cycle_above, circle_is_cycle}
+use Rattle.core_laws.proofs.Cycles.{cycle_above, round_is_cycle}
 use Rattle.core_laws.proofs.Held.{wanted_next}
 use Rattle.core_laws.proofs.Parks.{asks_of_next}
-use Rattle.core_laws.proofs.Shapes.{same_or_other, not_both, leads_fewer}
+use Rattle.core_laws.proofs.Shapes.{same_or_other, not_both}
 use Rattle.core_laws.proofs.StepsWanted.{IsOfTask}
 use Rattle.core_laws.proofs.Turns.{stands_here}
 use Rattle.dice_steps.specs.AtHand.{AtHand}
-use Rattle.dice_tasks.specs.Circles.{path_in, path_with}
-use Rattle.dice_tasks.specs.Helds.{Held, Ahead, task_of, held_of, held_ended, doing}
+use Rattle.dice_tasks.specs.CyclePaths.{path_in, path_with}
+use Rattle.dice_tasks.specs.Helds.{Held, Ahead, task_of, held_of, held_ended}
 use Rattle.dice_tasks.specs.Hands.{DeskSeen, desk_of, Working, tasks_of}
 use Rattle.dice_tasks.specs.Entries.{EntriesStand}
 use Rattle.dice_tasks.specs.Endings.{AreTasked, Knows}
@@ -42,12 +41,14 @@ use Rattle.dice_steps.specs.Plans.{key_in, wait_for, waits_of, AreParts, ArePlac
 use Rattle.dice_steps.specs.Batches.{IsOfMakes, ending_events, GivesUp, LeavesOut, MakesOn, IsBeside, HasRoomToMake, MakesParts, TakesUp}
 use Rattle.dice_steps.specs.declared.plan.Part.{Part}
 use Rattle.dice_tasks.proofs.EndsLemmas.{working_knows}
-use Rattle.dice_tasks.proofs.Lists.{has_right}
 use Rattle.dice_tasks.proofs.LooksLemmas.{look_stands}
 use Rattle.dice_steps.proofs.MakesLemmas.{makes_more_keys, makes_tasks}
-use Rattle.dice_steps.proofs.PartLemmas.{has_mapped, there_waits, wait_there, zip_on}
+use Rattle.dice_steps.proofs.PartLemmas.{there_waits, wait_there, zip_on}
 use Rattle.dice_steps.proofs.QuietLemmas.{commits_after, cells_after, open_after}
 use Rattle.dice_tasks.proofs.WaitLemmas.{waits_there, waits_only, key_there, wait_of}
+use Rattle.lists.proofs.Members.{has_mapped, has_right}
+use Rattle.lists.specs.Lists.{Has}
+use Rattle.task_share.proofs.Leads.{leads_fewer}
 
 -- ---- what is true of the keys of the batch
 
@@ -63,7 +64,7 @@ module _ {K V : Type 0} where
       by_standing (Ended (WithCycle p)) i = absurd (none-some x (sym (ap value_in i) ∙ e))
       by_standing (Ended WithNothing) i = absurd (none-some x (sym (ap value_in i) ∙ e))
 
-  -- a task that has a circle has ended with it
+  -- a task that has a cycle has ended with it
   path_so : (o : Option (Held K V)) (path : List K) → path_with o ≡ Some path → (h : Held K V) × (o ≡ Some h) × (h.standing ≡ Ended (WithCycle path))
   path_so None path e = absurd (none-some path e)
   path_so (Some h) path e = (h, refl, by_standing h.standing refl)
@@ -93,19 +94,19 @@ module _ {K V : Type 0} (eq : K → K → Bool) (equality : IsEquality eq) (m : 
     pub stood : TaskStands eq m (reverse d.events) v a.name.key (task_of (held_of a IsOut))
     stood = here.each a.name.key (task_of (held_of a IsOut)) (ap (option_map task_of) out)
 
-    module _ (next : AsksNext eq m v a.name.key (doing a.work) a.answered (IsWaiting ks)) where
+    module _ (next : AsksNext eq m v a.name.key a.work a.answered (IsWaiting ks)) where
       -- each key of the batch is asked
       asked_next : (q : K) → Has ks q → AsksFor eq m (commits_of (reverse d.events)) v a.name.key q
-      asked_next q h = asks_of_next eq equality m law (reverse d.events) v a.name.key (doing a.work) a.answered ks stood.standing.work next stood.computed q h
+      asked_next q h = asks_of_next eq equality m law (reverse d.events) v a.name.key a.work a.answered ks stood.standing.work next stood.computed q h
 
       key_among : (path : List K) (h : IsPathOf eq ps m a.name.key ks path) → Has ks h.key
       key_among path h = subst (λ z. Has z h.key) (sym h.all) (has_right h.before (h.key ∷ h.later) h.key (inl refl))
 
-      -- a circle to which a key comes is a cycle that the task's key reaches
+      -- a cycle to which a key comes is a cycle that the task's key reaches
       pub path_stands : (path : List K) → IsPathOf eq ps m a.name.key ks path → CycleStands eq m (commits_of (reverse d.events)) v a.name.key path
       path_stands path h = elim h.found as (λ _. CycleStands eq m (commits_of (reverse d.events)) v a.name.key path) [
         | inl c ↦ subst (CycleStands eq m (commits_of (reverse d.events)) v a.name.key) (sym c.begins)
-            (circle_is_cycle eq m (commits_of (reverse d.events)) v a.name.key (IsRound (WouldWait (asked_of eq ps) a.name.key h.key) a.name.key) (λ j r. waits_on j a.name.key r) (λ i j js r. (waits_on i j r.0, r.1)) c.rest (subst Shared.AreDistinct c.begins c.distinct) c.round)
+            (round_is_cycle eq m (commits_of (reverse d.events)) v a.name.key (IsRound (WouldWait (asked_of eq ps) a.name.key h.key) a.name.key) (λ j r. waits_on j a.name.key r) (λ i j js r. (waits_on i j r.0, r.1)) c.rest (subst AreDistinct c.begins c.distinct) c.round)
         | inr g ↦ (let t = path_so (task_at eq ps h.key) path g in let s : IsStanding eq m (reverse d.events) v h.key (Ended (WithCycle path)) = subst (IsStanding eq m (reverse d.events) v h.key) t.2 (here.each h.key (task_of t.0) (ap (option_map task_of) t.1)).standing in
             cycle_above eq m (commits_of (reverse d.events)) v a.name.key h.key path (asked_next h.key (key_among path h)) s.0)
       ]
@@ -137,7 +138,7 @@ module _ {K V : Type 0} (eq : K → K → Bool) (equality : IsEquality eq) (m : 
 -- ---- before the parts are made
 
 module _ {U K V R : Type 0} (eq : K → K → Bool) (equality : IsEquality eq) (m : Meaning K V) (law : IsLawful m) (v : ℕ) (w : World K V) (owed : ℕ) (a : Assigned K V) (ks : List K) (xs : List (Part U K V R)) (ps : List (K × Share K (Held K V))) (d : DeskSeen K V) (es : List (K × Stored K V)) (s : Seen K V)
-    (hand : AtHand eq m v w owed ps d es s) (out : task_at eq ps a.name.key ≡ Some (held_of a IsOut)) (next : AsksNext eq m v a.name.key (doing a.work) a.answered (IsWaiting ks)) (roomy : IsRoomy eq m v owed a ks ps d es s xs) where
+    (hand : AtHand eq m v w owed ps d es s) (out : task_at eq ps a.name.key ≡ Some (held_of a IsOut)) (next : AsksNext eq m v a.name.key a.work a.answered (IsWaiting ks)) (roomy : IsRoomy eq m v owed a ks ps d es s xs) where
   pub makes_on : MakesOn eq m v [] w owed xs ps d es
   makes_on =
       let room = roomy.desk.spare in
@@ -310,9 +311,9 @@ module _ {U K V R : Type 0} (eq : K → K → Bool) (equality : IsEquality eq) (
   -- ---- what the task that is to wait needs
 
   module _ (parts : AreParts {U = U} {R = R} eq m v (length d.events) ps es a.name.key ks xs) (ws : List (WaitOf K)) (waits : ws ≡ waits_of a.name.key xs) where
-    pub may_park : (p : Waits K V) → p.job ≡ a → p.keys ≡ ks → AsksNext eq m v a.name.key (doing a.work) a.answered (IsWaiting ks) → (x : WaitOf K) × Has ws x → MayPark eq m v a.name.key p ws qs
+    pub may_park : (p : Waits K V) → p.job ≡ a → p.keys ≡ ks → AsksNext eq m v a.name.key a.work a.answered (IsWaiting ks) → (x : WaitOf K) × Has ws x → MayPark eq m v a.name.key p ws qs
     may_park p job keys next some = record {
-      next = subst (λ (z : Assigned K V). AsksNext eq m v a.name.key (doing z.work) z.answered (IsWaiting p.keys)) (sym job) (subst (λ z. AsksNext eq m v a.name.key (doing a.work) a.answered (IsWaiting z)) (sym keys) next);
+      next = subst (λ (z : Assigned K V). AsksNext eq m v a.name.key z.work z.answered (IsWaiting p.keys)) (sym job) (subst (λ z. AsksNext eq m v a.name.key a.work a.answered (IsWaiting z)) (sym keys) next);
       some = some;
       own = λ x h. ap (λ (z : WaitOf K). z.asker) (part_of x h).3;
       within = λ x h. (let r = part_of x h in subst (λ z. Has z x.key) (sym keys) (subst (Has ks) (sym (ap (λ (z : WaitOf K). z.key) r.3)) (parts.among r.0 r.1)));
@@ -356,12 +357,12 @@ module _ {K V : Type 0} (eq : K → K → Bool) (m : Meaning K V) (v : ℕ) (a :
 -- ---- the whole
 
 module _ {K V : Type 0} (eq : K → K → Bool) (equality : IsEquality eq) (m : Meaning K V) (law : IsLawful m) (v : ℕ) (k : K) (a : Assigned K V) (own : a.name.key ≡ k) (ks : List K) (w : World K V) (owed : ℕ) (ps : List (K × Share K (Held K V))) (d : DeskSeen K V) (es : List (K × Stored K V)) (s : Seen K V)
-    (hand : AtHand eq m v w owed ps d es s) (out : task_at eq ps k ≡ Some (held_of a IsOut)) (next : AsksNext eq m v k (doing a.work) a.answered (IsWaiting ks)) where
+    (hand : AtHand eq m v w owed ps d es s) (out : task_at eq ps k ≡ Some (held_of a IsOut)) (next : AsksNext eq m v k a.work a.answered (IsWaiting ks)) where
   pub own_out : task_at eq ps a.name.key ≡ Some (held_of a IsOut)
   own_out = subst (λ z. task_at eq ps z ≡ Some (held_of a IsOut)) (sym own) out
 
-  pub own_next : AsksNext eq m v a.name.key (doing a.work) a.answered (IsWaiting ks)
-  own_next = subst (λ z. AsksNext eq m v z (doing a.work) a.answered (IsWaiting ks)) (sym own) next
+  pub own_next : AsksNext eq m v a.name.key a.work a.answered (IsWaiting ks)
+  own_next = subst (λ z. AsksNext eq m v z a.work a.answered (IsWaiting ks)) (sym own) next
 
   pub own_live : is_live eq ps k ≡ true
   own_live = subst (λ z. is_live eq ps z ≡ true) own (live_own eq equality m law v w owed ps d hand.working a ks own_out)
@@ -370,7 +371,7 @@ module _ {K V : Type 0} (eq : K → K → Bool) (equality : IsEquality eq) (m : 
   own_path path h = subst (λ z. CycleStands eq m (commits_of (reverse d.events)) v z path) own (path_stands eq equality m law v w owed ps d hand.working a ks own_out own_next path h)
 
 module _ {U K V R : Type 0} (eq : K → K → Bool) (equality : IsEquality eq) (m : Meaning K V) (law : IsLawful m) (v : ℕ) (k : K) (a : Assigned K V) (own : a.name.key ≡ k) (ks : List K) (xs : List (Part U K V R)) (w : World K V) (owed : ℕ) (ps : List (K × Share K (Held K V))) (d : DeskSeen K V) (es : List (K × Stored K V)) (s : Seen K V)
-    (hand : AtHand eq m v w owed ps d es s) (out : task_at eq ps k ≡ Some (held_of a IsOut)) (next : AsksNext eq m v k (doing a.work) a.answered (IsWaiting ks)) where
+    (hand : AtHand eq m v w owed ps d es s) (out : task_at eq ps k ≡ Some (held_of a IsOut)) (next : AsksNext eq m v k a.work a.answered (IsWaiting ks)) where
   module _ (roomy : IsRoomy eq m v owed a ks ps d es s xs) where
     pub own_makes : MakesOn eq m v [] w owed xs ps d es
     own_makes = makes_on eq equality m law v w owed a ks xs ps d es s hand (own_out eq equality m law v k a own ks w owed ps d es s hand out next) (own_next eq equality m law v k a own ks w owed ps d es s hand out next) roomy

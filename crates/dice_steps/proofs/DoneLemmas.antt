@@ -6,7 +6,6 @@ use Rattle.std.proofs.lemmas.Option.{none-some}
 use Rattle.dice_key.specs.Meaning.{Meaning}
 use Rattle.dice_key.specs.Lawful.{IsLawful, IsEquality}
 use Rattle.dice_key.specs.declared.universe.Kind.TheVariants.{Injected}
-use Rattle.dice_model.specs.Log.{Has}
 use Rattle.dice_jobs.specs.Jobs.{Assigned, Waits, answered_more}
 use Rattle.task_share.specs.Asked.{By, Tasked, WaitOf, is_by}
 use Rattle.task_share.specs.Seen.{Share, task_at, is_live, asks, asked_of}
@@ -31,7 +30,9 @@ use Rattle.dice_steps.specs.Batches.{AreMakable, MakesParted, MakesParts}
 use Rattle.dice_steps.specs.declared.plan.Part.{Part}
 use Rattle.dice_steps.proofs.BatchLemmas.{ended_so}
 use Rattle.dice_steps.proofs.MakesLemmas.{value_there}
-use Rattle.dice_steps.proofs.PartLemmas.{map_has, there_waits, wait_there}
+use Rattle.dice_steps.proofs.PartLemmas.{there_waits, wait_there}
+use Rattle.lists.proofs.Members.{has_map}
+use Rattle.lists.specs.Lists.{Has}
 
 or_and : (x y t : Bool) → ((x && t) || (y && t)) ≡ ((x || y) && t)
 or_and true true true = refl
@@ -115,7 +116,7 @@ module _ {U K V R : Type 0} (eq : K → K → Bool) (equality : IsEquality eq) (
     waits_for = record {
       held = to.tasks a.name.key ∙ (ap (λ c. cond c (Some (held_of p.job (IsWaiting p.keys))) (task_at eq qs a.name.key)) (equality.itself a.name.key) ∙ (λ i. Some (held_of (job i) (IsWaiting (keys i)))));
       awaited = map (λ (x : WaitOf K). x.key) ws;
-      some = (some.0.key, map_has (λ (x : WaitOf K). x.key) ws some.0 some.1);
+      some = (some.0.key, has_map (λ (x : WaitOf K). x.key) ws some.0 some.1);
       each = λ q h. (let y = waited_part q h in record {
         among = subst (Has ks) y.3 (parts.among y.0 y.1);
         computed = subst (λ z. m.kind z ≢ Injected) y.3 (parts.each y.0 y.1).computed;

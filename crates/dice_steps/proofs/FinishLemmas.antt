@@ -5,7 +5,6 @@ use Rattle.std.specs.Option.{option_map}
 use Rattle.dice_key.specs.Lawful.{IsEquality, IsLawful}
 use Rattle.dice_key.specs.Meaning.{Meaning, Answered, Step, Asks, Ends}
 use Rattle.dice_key.specs.declared.universe.Kind.TheVariants.{Injected}
-use Rattle.dice_model.specs.Log.{Has}
 use Rattle.dice_model.specs.Asks.{IsTrace}
 use Rattle.dice_model.proofs.Traces.{trace_value}
 use Rattle.dep_recorder.specs.Checks.{Finding, Wants, IsSame, HasChanged, finding, values_of}
@@ -23,9 +22,9 @@ use Rattle.core_laws.specs.Tasks.{IsReady, IsOut, WithValue, Works, batch_of, wa
 use Rattle.core_laws.specs.Stands.{VersionStands}
 use Rattle.core_laws.specs.Changes.{ChangesFirst}
 use Rattle.core_laws.specs.Desk.{World, ready_in}
-use Rattle.core_laws.proofs.Shapes.{both_parts, same_or_other}
+use Rattle.core_laws.proofs.Shapes.{same_or_other}
 use Rattle.core_laws.proofs.Turns.{stands_here}
-use Rattle.dice_tasks.specs.Helds.{Held, Ahead, task_of, held_of, held_ended, doing}
+use Rattle.dice_tasks.specs.Helds.{Held, Ahead, task_of, held_of, held_ended}
 use Rattle.dice_tasks.specs.Hands.{DeskSeen, desk_of, tasks_of, KeepsHands, KeepsDeskRoom, Working}
 use Rattle.dice_tasks.specs.Endings.{TellsEnd, BeginsAnew, AreTasked}
 use Rattle.dice_tasks.specs.Entries.{EntriesStand}
@@ -39,6 +38,9 @@ use Rattle.dice_tasks.proofs.EndedLemmas.{value_on, kept_on}
 use Rattle.dice_tasks.proofs.EntriesLemmas.{stand_start}
 use Rattle.dice_tasks.proofs.TellLemmas.{told_events, told_ended}
 use Rattle.dice_steps.proofs.WokenLemmas.{may_wake}
+use Rattle.lists.specs.Lists.{Has}
+use Rattle.std.proofs.Math.Bool.{and-true}
+use Rattle.std.proofs.lemmas.Bool.{and_parts}
 
 -- ---- more room
 
@@ -124,10 +126,6 @@ module _ {K V : Type 0} (eq : K → K → Bool) (m : Meaning K V) (v : ℕ) (R :
 
 -- ---- the task of a key, which is out
 
-and_true : (b : Bool) → (b && true) ≡ b
-and_true true = refl
-and_true false = refl
-
 module _ {K V : Type 0} (eq : K → K → Bool) (equality : IsEquality eq) (m : Meaning K V) (law : IsLawful m) (v : ℕ) (k : K) where
   module _ (R : List (Told K V)) (W : List K) (ps : List (K × Share K (Held K V))) (stands : VersionStands eq m R v W (asked_of eq ps) (tasks_of eq ps)) (a : Assigned K V) (out : task_at eq ps k ≡ Some (held_of a IsOut)) where
     -- it asks for nothing
@@ -140,10 +138,10 @@ module _ {K V : Type 0} (eq : K → K → Bool) (equality : IsEquality eq) (m : 
 
     -- so nothing is withdrawn when it ends
     pub asks_same : (qs : List (K × Share K (Held K V))) → ((q : K) (b : By K) → asks eq qs q b ≡ (asks eq ps q b && not (is_by eq (Tasked k) b))) → (q : K) (b : By K) → asks eq qs q b ≡ asks eq ps q b
-    asks_same qs gone q (Promised n) = gone q (Promised n) ∙ and_true (asks eq ps q (Promised n))
+    asks_same qs gone q (Promised n) = gone q (Promised n) ∙ and-true (asks eq ps q (Promised n))
     asks_same qs gone q (Tasked j) = elim (same_or_other eq equality k j) as (λ _. asks eq qs q (Tasked j) ≡ asks eq ps q (Tasked j)) [
       | inl i ↦ (let n : asks eq ps q (Tasked j) ≡ false = subst (λ z. asks eq ps q (Tasked z) ≡ false) i (out_asks q) in gone q (Tasked j) ∙ (ap (λ b. b && not (eq k j)) n ∙ sym n))
-      | inr o ↦ gone q (Tasked j) ∙ (ap (λ b. asks eq ps q (Tasked j) && not b) o ∙ and_true (asks eq ps q (Tasked j)))
+      | inr o ↦ gone q (Tasked j) ∙ (ap (λ b. asks eq ps q (Tasked j) && not b) o ∙ and-true (asks eq ps q (Tasked j)))
     ]
 
     pub within : v ≤ length (commits_of R)
@@ -168,11 +166,11 @@ module _ {K V : Type 0} (eq : K → K → Bool) (equality : IsEquality eq) (m : 
       | inl i ↦ (
           let z = valued m veq a x (sym step.outcome ∙ i.0) in
           let n = work.named k (held_of a IsOut) out in
-          value_on eq equality m law v k h ps qs d e x t tells W w owed work i.1 (held_of a IsOut) a.answered out (ap (λ o. Works (doing o) IsOut a.answered) z.0)
+          value_on eq equality m law v k h ps qs d e x t tells W w owed work i.1 (held_of a IsOut) a.answered out (ap (λ o. Works o IsOut a.answered) z.0)
           (subst (λ q. m.next q a.answered v ≡ Ends x) n.1 (subst (λ u. m.next a.name.key a.answered u ≡ Ends x) n.0 z.1)))
       | inr i ↦ (
           let work_is : a.work ≡ Checks x i.1 i.2 = subst (λ (z : Assigned K V). z.work ≡ Checks x i.1 i.2) job i.3 in
-          kept_on eq equality m law v k h ps qs d e x t tells W w owed work i.2 i.4 (held_of a IsOut) i.1 a.answered out (ap (λ o. Works (doing o) IsOut a.answered) work_is)
+          kept_on eq equality m law v k h ps qs d e x t tells W w owed work i.2 i.4 (held_of a IsOut) i.1 a.answered out (ap (λ o. Works o IsOut a.answered) work_is)
           (unchanged m veq a s step x i.1 i.2 work_is i.0))
     ]
 
@@ -207,7 +205,7 @@ module _ {K V : Type 0} (eq : K → K → Bool) (equality : IsEquality eq) (m : 
             told = so.desk.ended ∙ (told_ended eq v k h (WithValue x) t ps qs d e tells ∙ at.told);
             tasked = tasked;
             done = λ q on. (
-                let b = both_parts (is_live eq ps q) (not (eq k q)) (sym (so.live q ∙ tells.ends.live q) ∙ on) in
+                let b = and_parts (is_live eq ps q) (not (eq k q)) (sym (so.live q ∙ tells.ends.live q) ∙ on) in
                 let r = at.done q b.0 in
                 (r.0, so.elsewhere q r.0 (not_true (eq k q) b.1) ∙ (asked q r.0 ∙ r.1)));
             opened = subst (λ (R : List (Told K V)). 0 < open_count R v) (sym back) (subst (λ n. 0 < n) (sym (quiet_open (reverse d.events) v)) at.opened);

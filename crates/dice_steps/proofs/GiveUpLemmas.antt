@@ -6,7 +6,6 @@ use Rattle.std.proofs.lemmas.List.{reverse-append}
 use Rattle.std.proofs.lemmas.Option.{none-some, same_Some}
 use Rattle.dice_key.specs.Meaning.{Meaning}
 use Rattle.dice_key.specs.Lawful.{IsEquality}
-use Rattle.dice_model.specs.Log.{Has, AreDistinct}
 use Rattle.task_share.specs.Asked.{Asked, IsDone, Cascade}
 use Rattle.task_share.specs.Seen.{Share, task_at, is_live, asked_of}
 use Rattle.injected.specs.Seen.{Seen}
@@ -28,13 +27,15 @@ use Rattle.dice_tasks.specs.Endings.{ComesOf, told_end, EndsTasks, DropsTasks, A
 use Rattle.dice_steps.specs.Batches.{LeavesOut, GivesUp, ending_events}
 use Rattle.dice_tasks.proofs.Dropped.{cascade_live, cascade_distinct}
 use Rattle.dice_tasks.proofs.EntriesLemmas.{stand_after}
-use Rattle.dice_tasks.proofs.Lists.{distinct_both}
-use Rattle.dice_steps.proofs.QuietLemmas.{all_both, cells_after, open_after}
+use Rattle.dice_steps.proofs.QuietLemmas.{cells_after, open_after}
+use Rattle.lists.proofs.Distinct.{distinct_both}
+use Rattle.lists.proofs.Each.{all_append}
+use Rattle.lists.specs.Lists.{AreDistinct, Has}
 
 -- ---- the events
 
 module _ {K V : Type 0} (v : ℕ) where
-  -- a task that is given up ends with a circle, or with nothing
+  -- a task that is given up ends with a cycle, or with nothing
   gives_up : (path : Option (List K)) (o : Outcome K V) → ComesOf path o → ((p : List K) × (o ≡ WithCycle p)) ⊎ (o ≡ WithNothing)
   gives_up None o c = inr c
   gives_up (Some p) o (inl e) = inl (p, e)
@@ -58,10 +59,10 @@ module _ {K V : Type 0} (v : ℕ) where
 
   -- the events are of tasks, and leave the entries
   pub ending_tasks : (path : Option (List K)) (os : List (K × Outcome K V)) (ds : List K) → ((p : K × Outcome K V) → Has os p → ComesOf path p.1) → AllByRecursion IsOfTask (ending_events v os ds)
-  ending_tasks path os ds c = all_both IsOfTask (map (λ (p : K × Outcome K V). told_end v p.0 p.1) os) (map (Drop v) ds) (ends_all IsOfTask (λ k p. tt) (λ k. tt) path os c) (drops_all IsOfTask (λ k. tt) ds)
+  ending_tasks path os ds c = all_append IsOfTask (map (λ (p : K × Outcome K V). told_end v p.0 p.1) os) (map (Drop v) ds) (ends_all IsOfTask (λ k p. tt) (λ k. tt) path os c) (drops_all IsOfTask (λ k. tt) ds)
 
   pub ending_leaves : (path : Option (List K)) (os : List (K × Outcome K V)) (ds : List K) → ((p : K × Outcome K V) → Has os p → ComesOf path p.1) → AllByRecursion LeavesEntries (ending_events v os ds)
-  ending_leaves path os ds c = all_both LeavesEntries (map (λ (p : K × Outcome K V). told_end v p.0 p.1) os) (map (Drop v) ds) (ends_all LeavesEntries (λ k p. tt) (λ k. tt) path os c) (drops_all LeavesEntries (λ k. tt) ds)
+  ending_leaves path os ds c = all_append LeavesEntries (map (λ (p : K × Outcome K V). told_end v p.0 p.1) os) (map (Drop v) ds) (ends_all LeavesEntries (λ k p. tt) (λ k. tt) path os c) (drops_all LeavesEntries (λ k. tt) ds)
 
   -- the last event that is no Drop is such an end
   pub ended_last : (path : Option (List K)) (J : List (Told K V)) (os : List (K × Outcome K V)) (x : K × Outcome K V) → Has os x → ((p : K × Outcome K V) → Has os p → ComesOf path p.1) → ended_at (reverse (J ++ map (λ (p : K × Outcome K V). told_end v p.0 p.1) os)) ≡ Some v

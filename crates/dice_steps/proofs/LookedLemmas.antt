@@ -4,26 +4,26 @@ use Rattle.std.specs.Option.{option_map}
 use Rattle.std.proofs.lemmas.List.{append-nil}
 use Rattle.dice_key.specs.Meaning.{Meaning}
 use Rattle.dice_key.specs.Lawful.{IsEquality}
-use Rattle.dice_model.specs.Log.{Has, AreDistinct}
 use Rattle.task_share.specs.Seen.{Share, task_at}
 use Rattle.journal.specs.declared.event.Told.TheVariants.{Start}
 use Rattle.versioned_graph.specs.Entries.{Stored, entry_at, seen_at}
 use Rattle.versioned_graph.specs.Looks.{look}
-use Rattle.core_laws.proofs.Counts.{has_append, has_front, has_last}
 use Rattle.core_laws.proofs.Shapes.{same_or_other, not_both}
-use Rattle.dice_tasks.specs.Circles.{path_with}
+use Rattle.dice_tasks.specs.CyclePaths.{path_with}
 use Rattle.dice_tasks.specs.Helds.{Held}
 use Rattle.dice_tasks.specs.Hands.{DeskSeen}
 use Rattle.dice_tasks.specs.Makings.{IsFree, HasTask, IsMaking, IsMade, MakesAlone, task_by, told_by, entry_by}
 use Rattle.dice_tasks.specs.declared.making.Making.{Making}
 use Rattle.dice_tasks.specs.declared.making.Making.TheVariants.{Join, Match, Run, Check}
-use Rattle.dice_tasks.proofs.Lists.{apart, distinct_left}
 use Rattle.dice_tasks.proofs.MakeFrames.{making_on}
 use Rattle.dice_steps.specs.Plans.{key_in, is_awaited, IsPart}
 use Rattle.dice_steps.specs.Taken.{says, told_of}
 use Rattle.dice_steps.specs.Batches.{AreMakable, MakesParted}
 use Rattle.dice_steps.specs.declared.plan.Part.{Part}
-use Rattle.dice_steps.proofs.PartLemmas.{map_has, map_last}
+use Rattle.dice_steps.proofs.PartLemmas.{map_last}
+use Rattle.lists.proofs.Distinct.{apart, distinct_left}
+use Rattle.lists.proofs.Members.{has_end, has_last, has_map, has_more}
+use Rattle.lists.specs.Lists.{AreDistinct, Has}
 
 -- a key that has a task is not free
 has_free : {K V : Type 0} (o : Option (Held K V)) → HasTask o → IsFree o → ⊥
@@ -56,18 +56,18 @@ module _ {U K V R : Type 0} (eq : K → K → Bool) (equality : IsEquality eq) (
   k = key_in p
 
   part : IsPart eq m v born ps es p
-  part = may.each p (has_last rest p)
+  part = may.each p (has_end rest p)
 
   other_key : (x : Part U K V R) → Has rest x → eq k (key_in x) ≡ false
   other_key x h = elim (same_or_other eq equality k (key_in x)) as (λ _. eq k (key_in x) ≡ false) [
-    | inl i ↦ absurd (apart (map key_in rest) (k ∷ []) (key_in x) (subst AreDistinct (map_last key_in rest p) may.distinct) (map_has key_in rest x h) (inl i))
+    | inl i ↦ absurd (apart (map key_in rest) (k ∷ []) (key_in x) (subst AreDistinct (map_last key_in rest p) may.distinct) (has_map key_in rest x h) (inl i))
     | inr n ↦ n
   ]
 
   -- the others are still to be made
   pub makable_next : AreMakable eq m v born rest qs fs
   makable_next = record {
-    each = λ x i. (let b = may.each x (has_front rest p x i) in let o = other_key x i in record {
+    each = λ x i. (let b = may.each x (has_more rest p x i) in let o = other_key x i in record {
       computed = b.computed;
       whole = ap path_with (alone.tasks (key_in x) o) ∙ b.whole;
       making = making_on eq m v k (key_in x) o ps qs d e es fs alone born x.making b.making;
@@ -99,9 +99,9 @@ module _ {U K V R : Type 0} (eq : K → K → Bool) (equality : IsEquality eq) (
     makes_one t free put is entry told = record {
       made = k ∷ h.made;
       distinct = (not_made, h.distinct);
-      of_part = λ q i. elim i as (λ _. (x : Part U K V R) × Has (rest ++ p ∷ []) x × (key_in x ≡ q)) [ inl j ↦ (p, has_last rest p, j) | inr j ↦ (let r = h.of_part q j in (r.0, has_front rest p r.0 r.1, r.2)) ];
+      of_part = λ q i. elim i as (λ _. (x : Part U K V R) × Has (rest ++ p ∷ []) x × (key_in x ≡ q)) [ inl j ↦ (p, has_end rest p, j) | inr j ↦ (let r = h.of_part q j in (r.0, has_more rest p r.0 r.1, r.2)) ];
       free = λ q i. elim i as (λ _. IsFree (task_at eq ps q)) [ inl j ↦ subst (λ z. IsFree (task_at eq ps z)) j free | inr j ↦ subst IsFree (alone.tasks q (later q j)) (h.free q j) ];
-      all = λ x i g. elim (has_append rest p x i) as (λ _. Has (k ∷ h.made) (key_in x)) [ inl o ↦ inr (h.all x o (subst IsFree (sym (alone.tasks (key_in x) (other_key x o))) g)) | inr s ↦ inl (ap key_in s) ];
+      all = λ x i g. elim (has_end rest p x i) as (λ _. Has (k ∷ h.made) (key_in x)) [ inl o ↦ inr (h.all x o (subst IsFree (sym (alone.tasks (key_in x) (other_key x o))) g)) | inr s ↦ inl (ap key_in s) ];
       these = record {
         tasks = λ q i. elim i as (λ _. task_at eq rs q ≡ Some (task_by v q born (says eq m v es q))) [
           | inl j ↦ subst (λ z. task_at eq rs z ≡ Some (task_by v z born (says eq m v es z))) j (h.others k not_made ∙ ((put k ∙ ap (λ b. cond b (Some t) (task_at eq ps k)) (equality.itself k)) ∙ ap Some is))
@@ -123,9 +123,9 @@ module _ {U K V R : Type 0} (eq : K → K → Bool) (equality : IsEquality eq) (
     joins_one has w = record {
       made = w.made;
       distinct = w.distinct;
-      of_part = λ q i. (let r = w.of_part q i in (r.0, has_front rest p r.0 r.1, r.2));
+      of_part = λ q i. (let r = w.of_part q i in (r.0, has_more rest p r.0 r.1, r.2));
       free = w.free;
-      all = λ x i g. elim (has_append rest p x i) as (λ _. Has w.made (key_in x)) [ inl o ↦ w.all x o g | inr s ↦ absurd (has_free (task_at eq ps k) has (subst (λ (z : Part U K V R). IsFree (task_at eq ps (key_in z))) (sym s) g)) ];
+      all = λ x i g. elim (has_end rest p x i) as (λ _. Has w.made (key_in x)) [ inl o ↦ w.all x o g | inr s ↦ absurd (has_free (task_at eq ps k) has (subst (λ (z : Part U K V R). IsFree (task_at eq ps (key_in z))) (sym s) g)) ];
       these = w.these;
       others = w.others;
     }

@@ -6,7 +6,6 @@ use Rattle.std.proofs.lemmas.List.{append-nil}
 use Rattle.std.proofs.lemmas.Option.{none-some}
 use Rattle.dice_key.specs.Meaning.{Meaning}
 use Rattle.dice_key.specs.Lawful.{IsLawful, IsEquality}
-use Rattle.dice_model.specs.Log.{Has, AreDistinct}
 use Rattle.dice_jobs.specs.Jobs.{Assigned}
 use Rattle.task_share.specs.Seen.{Share, task_at, is_live, asks, asked_of, asker_room, KeepsAsks}
 use Rattle.journal.specs.declared.event.Told.{Told}
@@ -15,11 +14,10 @@ use Rattle.versioned_graph.specs.Entries.{Stored}
 use Rattle.core_laws.specs.Tasks.{IsOut, Standing, Works, Ended, WithValue, WithCycle, WithNothing, goes_on, is_going, value_of, value_in}
 use Rattle.core_laws.specs.Stands.{VersionStands}
 use Rattle.core_laws.specs.Desk.{World, out_in}
-use Rattle.core_laws.proofs.Counts.{has_append, has_front, has_last}
 use Rattle.core_laws.proofs.Shapes.{same_or_other, not_both}
 use Rattle.core_laws.proofs.StepsWanted.{IsOfTask}
 use Rattle.core_laws.proofs.Turns.{stands_here}
-use Rattle.dice_tasks.specs.Circles.{path_in, path_with}
+use Rattle.dice_tasks.specs.CyclePaths.{path_in, path_with}
 use Rattle.dice_tasks.specs.Helds.{Held, task_of, held_of}
 use Rattle.dice_tasks.specs.Hands.{DeskSeen, desk_of, Working, tasks_of}
 use Rattle.dice_tasks.specs.Entries.{EntriesStand}
@@ -29,11 +27,13 @@ use Rattle.dice_steps.specs.Batches.{IsOfMakes, MakesOn, IsBeside, HasRoomToMake
 use Rattle.dice_tasks.specs.declared.making.Making.{Making}
 use Rattle.dice_tasks.specs.declared.making.Making.TheVariants.{Join, Match, Run, Check}
 use Rattle.dice_steps.specs.declared.plan.Part.{Part}
-use Rattle.dice_tasks.proofs.Lists.{apart, distinct_left}
 use Rattle.dice_tasks.proofs.MakeLemmas.{free_idle, same_asks}
 use Rattle.dice_tasks.proofs.MakeFrames.{making_on, may_more, can_make}
-use Rattle.dice_steps.proofs.PartLemmas.{map_has, map_last}
-use Rattle.dice_steps.proofs.QuietLemmas.{all_both}
+use Rattle.dice_steps.proofs.PartLemmas.{map_last}
+use Rattle.lists.proofs.Distinct.{apart, distinct_left}
+use Rattle.lists.proofs.Each.{all_append}
+use Rattle.lists.proofs.Members.{has_end, has_last, has_map, has_more}
+use Rattle.lists.specs.Lists.{AreDistinct, Has}
 
 module _ {K V : Type 0} where
   -- what is seen of a task that may not be there
@@ -48,7 +48,7 @@ module _ {K V : Type 0} where
   free_home None f = refl
   free_home (Some h) f = ap out_in f
 
-  -- a task that is there, was not given up, is not at work and has not ended with a circle has ended with a value
+  -- a task that is there, was not given up, is not at work and has not ended with a cycle has ended with a value
   pub value_there : (o : Option (Held K V)) → HasTask o → is_going (option_map task_of o) ≡ false → path_with o ≡ None → (x : V) × (value_of (option_map task_of o) ≡ Some x)
   value_there None t off whole = absurd t
   value_there (Some h) t off whole = by_standing h.standing refl
@@ -213,7 +213,7 @@ module _ {U K V R : Type 0} (eq : K → K → Bool) (equality : IsEquality eq) (
     -- the last is apart from the others
     last_apart : IsBeside eq rest (key_in p)
     last_apart x h = elim (same_or_other eq equality (key_in x) (key_in p)) as (λ _. eq (key_in x) (key_in p) ≡ false) [
-      | inl i ↦ absurd (apart (map key_in rest) (key_in p ∷ []) (key_in x) (subst AreDistinct (map_last key_in rest p) distinct) (map_has key_in rest x h) (inl (sym i)))
+      | inl i ↦ absurd (apart (map key_in rest) (key_in p ∷ []) (key_in x) (subst AreDistinct (map_last key_in rest p) distinct) (has_map key_in rest x h) (inl (sym i)))
       | inr n ↦ n
     ]
 
@@ -231,19 +231,19 @@ module _ {U K V R : Type 0} (eq : K → K → Bool) (equality : IsEquality eq) (
         let n = length-append rest (p ∷ []) in
         let one : length (p ∷ []) ≡ 1 = refl in
         let count : owed + 3 * length (rest ++ p ∷ []) ≡ owed + 3 * length rest + 3 = omega arith in
-        let last = has_last rest p in
+        let last = has_end rest p in
         let k = kept w W (owed + 3 * length rest) h.born (subst (λ z. Working eq m v W w z ps d) count h.working) h.entries (h.may p last) (h.each p last).making in record {
           working = k.0;
           entries = k.1;
           born = h.born;
-          each = λ x i. (let b = h.each x (has_front rest p x i) in let o = others_apart x i in record {
+          each = λ x i. (let b = h.each x (has_more rest p x i) in let o = others_apart x i in record {
             computed = b.computed;
             whole = ap path_with (alone.tasks (key_in x) o) ∙ b.whole;
             making = making_on eq m v (key_in p) (key_in x) o ps qs d e es fs alone h.born x.making b.making;
             own = b.own;
             awaited = b.awaited ∙ by_making (key_in x) o x.making;
           });
-          may = λ x i. may_more eq equality m law v (key_in p) (key_in x) h.born ps qs d e es fs alone (h.may x (has_front rest p x i));
+          may = λ x i. may_more eq equality m law v (key_in p) (key_in x) h.born ps qs d e es fs alone (h.may x (has_more rest p x i));
           distinct = distinct_front (subst AreDistinct (map_last key_in rest p) h.distinct);
         }
       where
@@ -261,7 +261,7 @@ module _ {U K V R : Type 0} (eq : K → K → Bool) (equality : IsEquality eq) (
     room_after r =
         let n = length-append rest (p ∷ []) in
         let one : length (p ∷ []) ≡ 1 = refl in record {
-          places = λ x i. alone.room.places (key_in x) (others_apart x i) (r.places x (has_front rest p x i));
+          places = λ x i. alone.room.places (key_in x) (others_apart x i) (r.places x (has_more rest p x i));
           spare = (let a = r.spare in let b = alone.spare in omega arith);
           ready = (let a = r.ready in let b = alone.ready_room in omega arith);
           live = (let a = r.live in let b = alone.live_room in omega arith);
@@ -269,25 +269,25 @@ module _ {U K V R : Type 0} (eq : K → K → Bool) (equality : IsEquality eq) (
 
     module _ (born : ℕ) (part : IsPart eq m v born ps es p) (W : List K) (w : World K V) (owed : ℕ) (work : Working eq m v W w owed ps d) (rs : List (K × Share K (Held K V))) (f : DeskSeen K V) (h : MakesParts eq rest v qs e rs f) where
       all_has : (q : K) → Has (map key_in rest) q → Has (map key_in (rest ++ p ∷ [])) q
-      all_has q i = subst (λ z. Has z q) (sym (map_last key_in rest p)) (has_front (map key_in rest) (key_in p) q i)
+      all_has q i = subst (λ z. Has z q) (sym (map_last key_in rest p)) (has_more (map key_in rest) (key_in p) q i)
 
       last_has : Has (map key_in (rest ++ p ∷ [])) (key_in p)
-      last_has = subst (λ z. Has z (key_in p)) (sym (map_last key_in rest p)) (has_last (map key_in rest) (key_in p))
+      last_has = subst (λ z. Has z (key_in p)) (sym (map_last key_in rest p)) (has_end (map key_in rest) (key_in p))
 
       front : (q : K) → IsBeside eq (rest ++ p ∷ []) q → IsBeside eq rest q
-      front q n x i = n x (has_front rest p x i)
+      front q n x i = n x (has_more rest p x i)
 
       -- the last one is made, and then the others
       pub makes_more : MakesParts eq (rest ++ p ∷ []) v ps d rs f
       makes_more = record {
         asks = λ q a. h.asks q a ∙ asks_made eq equality m law v p ps qs d e es fs born part made alone W w owed work q a;
-        others = λ q n. h.others q (front q n) ∙ alone.tasks q (n p (has_last rest p));
-        lives = λ q n. h.lives q (front q n) ∙ alone.lives q (n p (has_last rest p));
-        awaited = λ x i. elim (has_append rest p x i) as (λ _. is_live eq rs (key_in x) ≡ x.awaited) [
+        others = λ q n. h.others q (front q n) ∙ alone.tasks q (n p (has_end rest p));
+        lives = λ q n. h.lives q (front q n) ∙ alone.lives q (n p (has_end rest p));
+        awaited = λ x i. elim (has_end rest p x i) as (λ _. is_live eq rs (key_in x) ≡ x.awaited) [
           | inl o ↦ h.awaited x o
           | inr s ↦ subst (λ (z : Part U K V R). is_live eq rs (key_in z) ≡ z.awaited) s (h.lives (key_in p) last_apart ∙ live_made eq equality m law v p ps qs d e es fs born part made alone)
         ];
-        valued = λ x i off. elim (has_append rest p x i) as (λ _. (y : V) × (value_of (tasks_of eq rs (key_in x)) ≡ Some y)) [
+        valued = λ x i off. elim (has_end rest p x i) as (λ _. (y : V) × (value_of (tasks_of eq rs (key_in x)) ≡ Some y)) [
           | inl o ↦ h.valued x o off
           | inr s ↦ subst (λ (z : Part U K V R). (y : V) × (value_of (tasks_of eq rs (key_in z)) ≡ Some y)) s
               (let r = value_made eq equality m law v p ps qs d e es fs born part made alone W w owed work (ap (λ (z : Part U K V R). z.awaited) s ∙ off) in
@@ -296,16 +296,16 @@ module _ {U K V R : Type 0} (eq : K → K → Bool) (equality : IsEquality eq) (
         stays = λ q g t. (let r = stays_made eq equality m law v p ps qs d e es fs born part made alone q g t in h.stays q r.0 r.1);
         out = λ q a t. h.out q a (out_made eq equality m law v p ps qs d e es fs born part made alone q a t);
         only = λ q a t. only_made eq equality m law v p ps qs d e es fs born part made alone q a (h.only q a t);
-        askers = λ x i on. elim (has_append rest p x i) as (λ _. asker_room eq ps (key_in x) ≤ asker_room eq rs (key_in x)) [
+        askers = λ x i on. elim (has_end rest p x i) as (λ _. asker_room eq ps (key_in x) ≤ asker_room eq rs (key_in x)) [
           | inl o ↦ (let a = alone.room.askers (key_in x) (others_apart x o) in let b = h.askers x o on in omega arith)
           | inr s ↦ subst (λ (z : Part U K V R). asker_room eq ps (key_in z) ≤ asker_room eq rs (key_in z)) s
               (let a = askers_made eq equality m law v p ps qs d e es fs born part made alone (ap (λ (z : Part U K V R). z.awaited) s ∙ on) in let b = h.other_askers (key_in p) last_apart in omega arith)
         ];
-        other_askers = λ q n. (let a = alone.room.askers q (n p (has_last rest p)) in let b = h.other_askers q (front q n) in omega arith);
-        waits = λ q n. (let a = alone.room.waits q (n p (has_last rest p)) in let b = h.waits q (front q n) in omega arith);
+        other_askers = λ q n. (let a = alone.room.askers q (n p (has_end rest p)) in let b = h.other_askers q (front q n) in omega arith);
+        waits = λ q n. (let a = alone.room.waits q (n p (has_end rest p)) in let b = h.waits q (front q n) in omega arith);
         events = alone.events ++ h.events;
         told = h.told ∙ (ap (λ (xs : List (Told K V)). xs ++ h.events) alone.told ∙ append_assoc d.events alone.events h.events);
-        of_makes = all_both (IsOfMakes v (map key_in (rest ++ p ∷ []))) alone.events h.events (of_keys v (key_in p) (map key_in (rest ++ p ∷ [])) last_has alone.events alone.of_make) (makes_more_keys v (map key_in rest) (map key_in (rest ++ p ∷ [])) all_has h.events h.of_makes);
+        of_makes = all_append (IsOfMakes v (map key_in (rest ++ p ∷ []))) alone.events h.events (of_keys v (key_in p) (map key_in (rest ++ p ∷ [])) last_has alone.events alone.of_make) (makes_more_keys v (map key_in rest) (map key_in (rest ++ p ∷ [])) all_has h.events h.of_makes);
         ended = h.ended ∙ alone.ended;
       }
 
@@ -321,7 +321,7 @@ module _ {U K V R : Type 0} (eq : K → K → Bool) (m : Meaning K V) (v : ℕ) 
 
 module _ {U K V R : Type 0} (eq : K → K → Bool) (equality : IsEquality eq) (m : Meaning K V) (law : IsLawful m) (v : ℕ) (xs rest : List (Part U K V R)) (p : Part U K V R) (split : xs ≡ rest ++ p ∷ []) (W : List K) (w : World K V) (owed : ℕ) (ps : List (K × Share K (Held K V))) (d : DeskSeen K V) (es : List (K × Stored K V)) (on : MakesOn eq m v W w owed xs ps d es) where
   last_in : Has xs p
-  last_in = subst (λ z. Has z p) (sym split) (has_last rest p)
+  last_in = subst (λ z. Has z p) (sym split) (has_end rest p)
 
   -- the last part is made next
   pub next_part : IsPart eq m v on.born ps es p

@@ -7,13 +7,11 @@ use Rattle.std.specs.Option.{option_map}
 use Rattle.std.proofs.lemmas.List.{map-append, reverse-append, take_more}
 use Rattle.dice_key.specs.Meaning.{Meaning}
 use Rattle.dice_key.specs.declared.universe.Kind.TheVariants.{Injected}
-use Rattle.dice_model.specs.Log.{Has, AreDistinct}
 use Rattle.task_share.specs.Asked.{WaitOf, Leads}
 use Rattle.task_share.specs.Seen.{Share, asked_of, KeepsTasks, KeepsAsks}
 use Rattle.versioned_graph.specs.Entries.{Stored}
-use Rattle.core_laws.proofs.Counts.{has_append, has_front, has_last}
 use Rattle.core_laws.specs.Tasks.{value_of}
-use Rattle.dice_tasks.specs.Circles.{path_with}
+use Rattle.dice_tasks.specs.CyclePaths.{path_with}
 use Rattle.dice_tasks.specs.Helds.{Held, task_of}
 use Rattle.dice_tasks.specs.Makings.{IsFree, HasTask, IsMaking}
 use Rattle.dice_steps.specs.Plans.{key_in, wait_for, waits_of, is_awaited, IsPart, AreParts, IsAtHand}
@@ -21,63 +19,24 @@ use Rattle.dice_tasks.specs.declared.making.Making.{Making}
 use Rattle.dice_tasks.specs.declared.making.Making.TheVariants.{Join, Match, Run, Check}
 use Rattle.dice_steps.specs.declared.plan.Part.{Part}
 use Rattle.dice_tasks.proofs.EndsLemmas.{same_asked}
-
-module _ {X : Type 0} where
-  -- a list in which y comes last
-  pub distinct_last : (xs : List X) (y : X) → AreDistinct xs → (Has xs y → ⊥) → AreDistinct (xs ++ y ∷ [])
-  distinct_last [] y d n = ((λ h. h), tt)
-  distinct_last (x ∷ xs) y d n = (
-    λ h. elim (has_append xs y x h) as (λ _. ⊥) [ inl i ↦ d.0 i | inr e ↦ n (inl (sym e)) ],
-    distinct_last xs y d.1 (λ h. n (inr h)),
-  )
-
-  turn_more : (x : X) (xs : List X) → reverse (x ∷ xs) ≡ reverse xs ++ x ∷ []
-  turn_more x xs = reverse-append (x ∷ []) xs
-
-  pub has_turned : (xs : List X) (y : X) → Has (reverse xs) y → Has xs y
-  has_turned [] y h = h
-  has_turned (x ∷ xs) y h = elim (has_append (reverse xs) x y (subst (λ zs. Has zs y) (turn_more x xs) h)) as (λ _. Has (x ∷ xs) y) [ inl i ↦ inr (has_turned xs y i) | inr e ↦ inl e ]
-
-  pub turned_has : (xs : List X) (y : X) → Has xs y → Has (reverse xs) y
-  turned_has [] y h = h
-  turned_has (x ∷ xs) y (inl e) = subst (λ zs. Has zs y) (sym (turn_more x xs)) (subst (λ z. Has (reverse xs ++ x ∷ []) z) e (has_last (reverse xs) x))
-  turned_has (x ∷ xs) y (inr h) = subst (λ zs. Has zs y) (sym (turn_more x xs)) (has_front (reverse xs) x y (turned_has xs y h))
+use Rattle.lists.proofs.Distinct.{distinct_end}
+use Rattle.lists.proofs.Each.{zip_end, zip_length}
+use Rattle.lists.proofs.Members.{has_end, has_last, has_map, has_mapped, has_more, has_reverse, reverse_has, reverse_more}
+use Rattle.lists.specs.Lists.{AreDistinct, Has}
 
 module _ {X Y : Type 0} (f : X → Y) where
-  pub map_has : (xs : List X) (x : X) → Has xs x → Has (map f xs) (f x)
-  map_has [] x h = h
-  map_has (y ∷ xs) x (inl e) = inl (ap f e)
-  map_has (y ∷ xs) x (inr h) = inr (map_has xs x h)
-
-  pub has_mapped : (xs : List X) (y : Y) → Has (map f xs) y → (x : X) × Has xs x × (f x ≡ y)
-  has_mapped [] y h = absurd h
-  has_mapped (x ∷ xs) y (inl e) = (x, inl refl, e)
-  has_mapped (x ∷ xs) y (inr h) = let r = has_mapped xs y h in (r.0, inr r.1, r.2)
-
   pub map_last : (xs : List X) (x : X) → map f (xs ++ x ∷ []) ≡ map f xs ++ f x ∷ []
   map_last xs x = map-append f xs (x ∷ [])
 
   pub distinct_turned : (xs : List X) → AreDistinct (map f xs) → AreDistinct (map f (reverse xs))
   distinct_turned [] d = d
   distinct_turned (x ∷ xs) d =
-      subst AreDistinct (sym (ap (map f) (turn_more x xs) ∙ map_last (reverse xs) x))
-      (distinct_last (map f (reverse xs)) (f x) (distinct_turned xs d.1)
-      (λ h. (let r = has_mapped (reverse xs) (f x) h in d.0 (subst (λ y. Has (map f xs) y) r.2 (map_has xs r.0 (has_turned xs r.0 r.1))))))
+      subst AreDistinct (sym (ap (map f) (reverse_more x xs) ∙ map_last (reverse xs) x))
+      (distinct_end (map f (reverse xs)) (f x) (distinct_turned xs d.1)
+      (λ h. (let r = has_mapped (reverse xs) (f x) h in d.0 (subst (λ y. Has (map f xs) y) r.2 (has_map xs r.0 (has_reverse xs r.0 r.1))))))
 
 -- of two lists place by place
 module _ {A B : Type 0} (P : A → B → Type 0) where
-  pub zip_last : (xs : List A) (ys : List B) (x : A) (y : B) → AllZip P xs ys → P x y → AllZip P (xs ++ x ∷ []) (ys ++ y ∷ [])
-  zip_last [] [] x y z p = (p, tt)
-  zip_last [] (b ∷ ys) x y z p = absurd z
-  zip_last (a ∷ xs) [] x y z p = absurd z
-  zip_last (a ∷ xs) (b ∷ ys) x y z p = (z.0, zip_last xs ys x y z.1 p)
-
-  pub zip_count : (xs : List A) (ys : List B) → AllZip P xs ys → length ys ≡ length xs
-  zip_count [] [] z = refl
-  zip_count [] (b ∷ ys) z = absurd z
-  zip_count (a ∷ xs) [] z = absurd z
-  zip_count (a ∷ xs) (b ∷ ys) z = let n = zip_count xs ys z.1 in omega arith
-
   pub zip_on : (Q : A → B → Type 0) → ((x : A) (y : B) → P x y → Q x y) → (xs : List A) (ys : List B) → AllZip P xs ys → AllZip Q xs ys
   zip_on Q f [] [] z = tt
   zip_on Q f [] (b ∷ ys) z = absurd z
@@ -96,10 +55,10 @@ module _ {U K V R : Type 0} (eq : K → K → Bool) (m : Meaning K V) (v born : 
   pub parts_skip : (ks : List K) (q : K) (xs : List (Part U K V R)) → AreParts eq m v born ps es k ks xs → (m.kind q ≡ Injected) ⊎ Has (map key_in xs) q → AreParts eq m v born ps es k (ks ++ q ∷ []) xs
   parts_skip ks q xs h known = record {
     each = h.each;
-    among = λ p i. has_front ks q (key_in p) (h.among p i);
+    among = λ p i. has_more ks q (key_in p) (h.among p i);
     apart = h.apart;
     distinct = h.distinct;
-    all = λ j i. elim (has_append ks q j i) as (λ _. (m.kind j ≡ Injected) ⊎ ((p : Part U K V R) × Has xs p × (key_in p ≡ j))) [
+    all = λ j i. elim (has_end ks q j i) as (λ _. (m.kind j ≡ Injected) ⊎ ((p : Part U K V R) × Has xs p × (key_in p ≡ j))) [
       | inl o ↦ h.all j o
       | inr e ↦ subst (λ z. (m.kind z ≡ Injected) ⊎ ((p : Part U K V R) × Has xs p × (key_in p ≡ z))) e (elim known as (λ _. (m.kind q ≡ Injected) ⊎ ((p : Part U K V R) × Has xs p × (key_in p ≡ q))) [ inl n ↦ inl n | inr n ↦ inr (has_mapped key_in xs q n) ])
     ];
@@ -108,26 +67,26 @@ module _ {U K V R : Type 0} (eq : K → K → Bool) (m : Meaning K V) (v born : 
   -- one more part
   pub parts_more : (ks : List K) (xs : List (Part U K V R)) (p : Part U K V R) → AreParts eq m v born ps es k ks xs → IsPart eq m v born ps es p → (Leads (asked_of eq ps) (key_in p) k → ⊥) → (Has (map key_in xs) (key_in p) → ⊥) → AreParts eq m v born ps es k (ks ++ key_in p ∷ []) (xs ++ p ∷ [])
   parts_more ks xs p h part apart new = record {
-    each = λ x i. elim (has_append xs p x i) as (λ _. IsPart eq m v born ps es x) [ inl o ↦ h.each x o | inr e ↦ subst (λ (z : Part U K V R). IsPart eq m v born ps es z) e part ];
-    among = λ x i. elim (has_append xs p x i) as (λ _. Has (ks ++ key_in p ∷ []) (key_in x)) [
-      | inl o ↦ has_front ks (key_in p) (key_in x) (h.among x o)
-      | inr e ↦ subst (λ (z : Part U K V R). Has (ks ++ key_in p ∷ []) (key_in z)) e (has_last ks (key_in p))
+    each = λ x i. elim (has_end xs p x i) as (λ _. IsPart eq m v born ps es x) [ inl o ↦ h.each x o | inr e ↦ subst (λ (z : Part U K V R). IsPart eq m v born ps es z) e part ];
+    among = λ x i. elim (has_end xs p x i) as (λ _. Has (ks ++ key_in p ∷ []) (key_in x)) [
+      | inl o ↦ has_more ks (key_in p) (key_in x) (h.among x o)
+      | inr e ↦ subst (λ (z : Part U K V R). Has (ks ++ key_in p ∷ []) (key_in z)) e (has_end ks (key_in p))
     ];
-    apart = λ x i. elim (has_append xs p x i) as (λ _. Leads (asked_of eq ps) (key_in x) k → ⊥) [ inl o ↦ h.apart x o | inr e ↦ subst (λ (z : Part U K V R). Leads (asked_of eq ps) (key_in z) k → ⊥) e apart ];
-    distinct = subst AreDistinct (sym (map_last key_in xs p)) (distinct_last (map key_in xs) (key_in p) h.distinct new);
-    all = λ j i. elim (has_append ks (key_in p) j i) as (λ _. (m.kind j ≡ Injected) ⊎ ((x : Part U K V R) × Has (xs ++ p ∷ []) x × (key_in x ≡ j))) [
-      | inl o ↦ elim (h.all j o) as (λ _. (m.kind j ≡ Injected) ⊎ ((x : Part U K V R) × Has (xs ++ p ∷ []) x × (key_in x ≡ j))) [ inl n ↦ inl n | inr r ↦ inr (r.0, has_front xs p r.0 r.1, r.2) ]
-      | inr e ↦ inr (p, has_last xs p, e)
+    apart = λ x i. elim (has_end xs p x i) as (λ _. Leads (asked_of eq ps) (key_in x) k → ⊥) [ inl o ↦ h.apart x o | inr e ↦ subst (λ (z : Part U K V R). Leads (asked_of eq ps) (key_in z) k → ⊥) e apart ];
+    distinct = subst AreDistinct (sym (map_last key_in xs p)) (distinct_end (map key_in xs) (key_in p) h.distinct new);
+    all = λ j i. elim (has_end ks (key_in p) j i) as (λ _. (m.kind j ≡ Injected) ⊎ ((x : Part U K V R) × Has (xs ++ p ∷ []) x × (key_in x ≡ j))) [
+      | inl o ↦ elim (h.all j o) as (λ _. (m.kind j ≡ Injected) ⊎ ((x : Part U K V R) × Has (xs ++ p ∷ []) x × (key_in x ≡ j))) [ inl n ↦ inl n | inr r ↦ inr (r.0, has_more xs p r.0 r.1, r.2) ]
+      | inr e ↦ inr (p, has_end xs p, e)
     ];
   }
 
   pub parts_turned : (ks : List K) (xs : List (Part U K V R)) → AreParts eq m v born ps es k ks xs → AreParts eq m v born ps es k ks (reverse xs)
   parts_turned ks xs h = record {
-    each = λ p i. h.each p (has_turned xs p i);
-    among = λ p i. h.among p (has_turned xs p i);
-    apart = λ p i. h.apart p (has_turned xs p i);
+    each = λ p i. h.each p (has_reverse xs p i);
+    among = λ p i. h.among p (has_reverse xs p i);
+    apart = λ p i. h.apart p (has_reverse xs p i);
     distinct = distinct_turned key_in xs h.distinct;
-    all = λ q i. elim (h.all q i) as (λ _. (m.kind q ≡ Injected) ⊎ ((p : Part U K V R) × Has (reverse xs) p × (key_in p ≡ q))) [ inl n ↦ inl n | inr r ↦ inr (r.0, turned_has xs r.0 r.1, r.2) ];
+    all = λ q i. elim (h.all q i) as (λ _. (m.kind q ≡ Injected) ⊎ ((p : Part U K V R) × Has (reverse xs) p × (key_in p ≡ q))) [ inl n ↦ inl n | inr r ↦ inr (r.0, reverse_has xs r.0 r.1, r.2) ];
   }
 
 -- ---- over another table with the same tasks and asks

@@ -3,10 +3,10 @@ use Rattle.std.proofs.Common.{◌≡◌, ◌<◌, inl, inr, Bool, true, false, c
 use Rattle.std.specs.Prelude.{Option, Some, None, is_some}
 use Rattle.std.specs.Map.{lookup}
 use Rattle.task_share.specs.Seen.{Share, number_for, has_place, asker_room, KeepsTasks, KeepsAsks, KeepsRoom}
-use Rattle.core_laws.proofs.Counts.{has_append}
 use Rattle.dice_tasks.specs.Helds.{Held}
 use Rattle.dice_steps.specs.Plans.{key_in, wait_for, waits_of, ArePlaced}
 use Rattle.dice_steps.specs.declared.plan.Part.{Part}
+use Rattle.lists.proofs.Members.{has_last}
 
 module _ {K T : Type 0} (eq : K → K → Bool) (ps qs rs : List (K × Share K T)) where
   pub tasks_on : KeepsTasks eq ps qs → KeepsTasks eq qs rs → KeepsTasks eq ps rs
@@ -57,8 +57,8 @@ module _ {U K V R : Type 0} (eq : K → K → Bool) (ps qs : List (K × Share K 
 
   pub placed_more : (p : Part U K V R) → has_place eq qs (key_in p) ≡ true → (p.awaited ≡ true → 0 < asker_room eq qs (key_in p)) → ArePlaced eq (xs ++ p ∷ []) qs
   placed_more p place asker = record {
-    places = λ x i. elim (has_append xs p x i) as (λ _. has_place eq qs (key_in x) ≡ true) [ inl o ↦ placed_on.places x o | inr e ↦ subst (λ (z : Part U K V R). has_place eq qs (key_in z) ≡ true) e place ];
-    askers = λ x i on. elim (has_append xs p x i) as (λ _. 0 < asker_room eq qs (key_in x)) [
+    places = λ x i. elim (has_last xs p x i) as (λ _. has_place eq qs (key_in x) ≡ true) [ inl o ↦ placed_on.places x o | inr e ↦ subst (λ (z : Part U K V R). has_place eq qs (key_in z) ≡ true) e place ];
+    askers = λ x i on. elim (has_last xs p x i) as (λ _. 0 < asker_room eq qs (key_in x)) [
       | inl o ↦ placed_on.askers x o on
       | inr e ↦ subst (λ (z : Part U K V R). 0 < asker_room eq qs (key_in z)) e (asker (ap (λ (z : Part U K V R). z.awaited) e ∙ on))
     ];

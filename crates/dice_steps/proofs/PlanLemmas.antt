@@ -7,7 +7,6 @@ use Rattle.std.proofs.lemmas.Bool.{eqb-true}
 use Rattle.std.proofs.lemmas.Option.{none-some, same_Some}
 use Rattle.dice_key.specs.Meaning.{Meaning}
 use Rattle.dice_key.specs.Lawful.{IsEquality}
-use Rattle.dice_model.specs.Log.{Has}
 use Rattle.dice_jobs.specs.Jobs.{Assigned, Waits, Outcome, Wanting, waiting_after, answered_more}
 use Rattle.task_share.specs.Asked.{Tasked, WaitOf, is_by}
 use Rattle.task_share.specs.Seen.{Share, task_at, is_live, asked_of, wait_room, KeepsTasks, KeepsAsks}
@@ -28,7 +27,7 @@ use Rattle.dice_tasks.specs.Hands.{DeskSeen, KeepsHands, HasDeskRoom, desk_of, W
 use Rattle.dice_tasks.specs.Entries.{EntriesStand}
 use Rattle.dice_tasks.specs.Makings.{IsFree, IsMaking, task_by}
 use Rattle.dice_steps.specs.Plans.{key_in, wait_for, waits_of, is_awaited, HasNone, IsPart, AreParts, ArePlaced, IsAtHand, IsRoomy, GoesOnSo, WaitsSo, IsPlan, IsPlanDone, IfEnds}
-use Rattle.dice_steps.specs.Taken.{says, told_of, NeedsTask, MakesTasks, WaitsFor, GoesOnWith, EndsByCircle, IsBatchDone}
+use Rattle.dice_steps.specs.Taken.{says, told_of, NeedsTask, MakesTasks, WaitsFor, GoesOnWith, EndsByCycle, IsBatchDone}
 use Rattle.dice_steps.specs.Batches.{TakesUp}
 use Rattle.dice_tasks.specs.declared.making.Making.{Making}
 use Rattle.dice_tasks.specs.declared.making.Making.TheVariants.{Join, Match, Run, Check}
@@ -38,8 +37,10 @@ use Rattle.dice_steps.specs.declared.plan.Plan.TheVariants as plan
 use Rattle.dice_tasks.proofs.CascadeLemmas.{done_same}
 use Rattle.dice_tasks.proofs.EndsLemmas.{same_table}
 use Rattle.dice_steps.proofs.MakesLemmas.{value_there}
-use Rattle.dice_steps.proofs.PartLemmas.{parts_same, wait_there, zip_count}
+use Rattle.dice_steps.proofs.PartLemmas.{parts_same, wait_there}
 use Rattle.dice_tasks.proofs.TaskedLemmas.{tasked_same}
+use Rattle.lists.proofs.Each.{zip_length}
+use Rattle.lists.specs.Lists.{Has}
 
 -- nothing is there
 pub none_there : (b : Bool) (n : ℕ) → b ≡ (n == 0) → b ≡ true → n ≡ 0
@@ -134,7 +135,7 @@ module _ {K V : Type 0} (eq : K → K → Bool) (m : Meaning K V) (v : ℕ) (ps 
 
     -- whatever was planned
     pub done_from : {U R : Type 0} (owed : ℕ) (z : Plan U K V R) → IfEnds z ((qs ≡ ps) × (e ≡ d)) → IsPlanDone eq m v owed a ks qs e es s z rs f fs → IsBatchDone eq m v a ks s ps d es rs f fs
-    done_from owed (plan.Ends path own) still h = inl (subst (λ (x : List (K × Share K (Held K V))). EndsByCircle eq m v a ks s x d es rs f fs) still.0 (subst (λ (x : DeskSeen K V). EndsByCircle eq m v a ks s qs x es rs f fs) still.1 h))
+    done_from owed (plan.Ends path own) still h = inl (subst (λ (x : List (K × Share K (Held K V))). EndsByCycle eq m v a ks s x d es rs f fs) still.0 (subst (λ (x : DeskSeen K V). EndsByCycle eq m v a ks s qs x es rs f fs) still.1 h))
     done_from owed (plan.GoesOn xs n) still h = inr (inr (makes_from h.0, goes_from h.1))
     done_from owed (plan.Waits xs ws) still h = inr (inl (makes_from h.0, waits_from h.1))
 
@@ -163,7 +164,7 @@ module _ {U K V R : Type 0} (eq : K → K → Bool) (equality : IsEquality eq) (
       roomy = roomy_so;
       known = λ p h. by_test p h p.awaited refl;
       job = (λ z. (is z).job) ∙ (λ z. answered_more a ks ((sym is z).values));
-      count = (λ z. length ((is z).values)) ∙ zip_count (IsAtHand eq m v qs es s) ks ys zip;
+      count = (λ z. length ((is z).values)) ∙ zip_length (IsAtHand eq m v qs es s) ks ys zip;
       answers = subst (AllZip (IsAtHand eq m v qs es s) ks) (λ z. (sym is z).values) zip;
     }
       where

@@ -9,6 +9,7 @@ use Rattle.journal.specs.declared.event.Told.TheVariants.{Start, Keep, End, Cycl
 use Rattle.journal.specs.Events.{commits_of, open_count}
 use Rattle.core_laws.proofs.StepsWanted.{IsOfTask}
 use Rattle.dice_steps.specs.Cells.{CellsStand}
+use Rattle.lists.proofs.Each.{all_append}
 
 module _ {K V : Type 0} where
   commits_on : (x : Told K V) (R : List (Told K V)) → IsOfTask x → commits_of (x ∷ R) ≡ commits_of R
@@ -52,8 +53,3 @@ module _ {K V : Type 0} where
 
   pub open_after : (J I E : List (Told K V)) (v : ℕ) → I ≡ J ++ E → AllByRecursion IsOfTask E → 0 < open_count (reverse J) v → 0 < open_count (reverse I) v
   open_after J I E v told t h = subst (λ n. 0 < n) (sym (ap (λ (X : List (Told K V)). open_count (reverse X) v) told ∙ opens_after J E v t)) h
-
--- what holds of each of a list and of each of another holds of each of both
-pub all_both : {X : Type 0} (P : X → Type 0) (xs ys : List X) → AllByRecursion P xs → AllByRecursion P ys → AllByRecursion P (xs ++ ys)
-all_both P [] ys a b = b
-all_both P (x ∷ xs) ys a b = (a.0, all_both P xs ys a.1 b)

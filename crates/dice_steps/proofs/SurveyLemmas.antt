@@ -6,7 +6,6 @@ use Rattle.std.specs.List.{list_any}
 use Rattle.dice_key.specs.Meaning.{Meaning}
 use Rattle.dice_key.specs.Lawful.{IsEquality}
 use Rattle.dice_key.specs.declared.universe.Kind.TheVariants.{Injected}
-use Rattle.dice_model.specs.Log.{Has}
 use Rattle.task_share.specs.Asked.{Leads}
 use Rattle.task_share.specs.Seen.{Share, asked_of}
 use Rattle.versioned_graph.specs.Entries.{Stored}
@@ -15,8 +14,11 @@ use Rattle.dice_tasks.specs.Helds.{Held}
 use Rattle.dice_steps.specs.Plans.{key_in, IsPart, AreParts}
 use Rattle.dice_steps.specs.Taken.{MayWaitFor}
 use Rattle.dice_steps.specs.declared.plan.Part.{Part}
-use Rattle.dice_steps.proofs.NotedLemmas.{AreSeen, seen_more, any_has, has_any}
-use Rattle.dice_steps.proofs.PartLemmas.{keys_next, map_has, parts_skip, parts_more}
+use Rattle.dice_steps.proofs.NotedLemmas.{AreSeen, seen_more}
+use Rattle.dice_steps.proofs.PartLemmas.{keys_next, parts_skip, parts_more}
+use Rattle.dice_key.proofs.KeySets.{any_has, has_any}
+use Rattle.lists.proofs.Members.{has_map}
+use Rattle.lists.specs.Lists.{Has}
 
 -- what stands at an index is in the list
 get_has : {X : Type 0} (xs : List X) (i : ℕ) (x : X) → i < length xs → x ≡ get_or xs i x → Has xs x
@@ -33,7 +35,7 @@ batch_at (y ∷ ys) (suc i) x l e = let r = batch_at ys i x (omega arith) e in (
 module _ {K A : Type 0} (eq : K → K → Bool) (equality : IsEquality eq) where
   -- a key of a batch
   pub key_of_batch : (items : List (Arc K A)) (ks : List K) (i : ℕ) (x : Arc K A) → map arc_value items ≡ ks → i < length items → x ≡ get_or items i x → Has ks (arc_value x)
-  key_of_batch items ks i x all l e = subst (λ z. Has z (arc_value x)) all (map_has arc_value items x (get_has items i x l e))
+  key_of_batch items ks i x all l e = subst (λ z. Has z (arc_value x)) all (has_map arc_value items x (get_has items i x l e))
 
   module _ (old new : List (Arc K A)) (ks : List K) (k : K) (seen : AreSeen eq old ks) where
     -- no key was noted
@@ -56,7 +58,7 @@ module _ {K A : Type 0} (eq : K → K → Bool) (equality : IsEquality eq) where
     unseen e h = not_both (has_any eq equality ks k h) (sym (seen k) ∙ e)
 
 module _ {U K V R A : Type 0} (eq : K → K → Bool) (equality : IsEquality eq) (m : Meaning K V) (v born : ℕ) (ps : List (K × Share K (Held K V))) (es : List (K × Stored K V)) (k : K) (items : List (Arc K A)) (i : ℕ) (x : Arc K A) (l : i < length items) (e : x ≡ get_or items i x) (xs : List (Part U K V R)) (so_far : AreParts eq m v born ps es k (map arc_value (take i items)) xs) where
-  -- those that were looked at come to no circle
+  -- those that were looked at come to no cycle
   pub comes_to_none : (q : K) → Has (map arc_value (take i items)) q → (m.kind q ≡ Injected) ⊎ MayWaitFor eq ps k q
   comes_to_none q h = elim (so_far.all q h) as (λ _. (m.kind q ≡ Injected) ⊎ MayWaitFor eq ps k q) [
     | inl j ↦ inl j

@@ -1,26 +1,25 @@
 -- Tasks go on when the last key that they waited for has a value, and all others that asked for it wait on.
 use Rattle.std.proofs.Common.{◌≡◌, ◌≤◌, ◌⊎◌, inl, inr, ◌+◌, ◌*◌, ℕ, Bool, true, false, cond, not, ◌&&◌, eqb, List, [], ◌∷◌, ◌++◌, length, map, reverse, Option, Some, refl, sym, ap, ◌∙◌, subst, arith, length-append}
-use Rattle.std.proofs.lemmas.Bool.{eq-eqb}
+use Rattle.std.proofs.lemmas.Bool.{eq-eqb, and_parts}
 use Rattle.std.proofs.lemmas.List.{map-append}
 use Rattle.std.specs.Option.{option_map}
 use Rattle.dice_key.specs.Lawful.{IsEquality, IsLawful}
 use Rattle.dice_key.specs.Meaning.{Meaning}
-use Rattle.dice_model.specs.Log.{Has, AreDistinct}
 use Rattle.dice_jobs.specs.Jobs.{Assigned, answered_more}
 use Rattle.task_share.specs.Asked.{By, Tasked, is_by}
 use Rattle.task_share.specs.Seen.{Share, task_at, asks, asked_of, KeepsTasks, KeepsAsks}
 use Rattle.journal.specs.declared.event.Told.{Told}
 use Rattle.core_laws.specs.Tasks.{IsReady, IsWaiting, Task, value_of}
 use Rattle.core_laws.specs.Desk.{World, DeskTurns, Stand, AreAll, with_version, is_ready, is_out}
-use Rattle.core_laws.proofs.Counts.{has_append}
-use Rattle.core_laws.proofs.Shapes.{both_parts}
 use Rattle.core_laws.proofs.StepsWaits.{released_ready_stand, released_on_stand, told_stand}
-use Rattle.dice_tasks.specs.Helds.{Held, FollowsOn, task_of, held_of, doing}
+use Rattle.dice_tasks.specs.Helds.{Held, FollowsOn, task_of, held_of}
 use Rattle.dice_tasks.specs.Hands.{DeskSeen, desk_of, tasks_of, seen_world, Readies, Working}
 use Rattle.dice_tasks.specs.Waitings.{IsTurned, Wakes, WakesOne, IsWoken, MayWake, WaitsOn}
-use Rattle.dice_tasks.proofs.Lists.{distinct_left, apart, has_left, has_right}
 use Rattle.dice_tasks.proofs.EndsLemmas.{puts_of, same_tasks, same_table}
 use Rattle.dice_tasks.proofs.WaitLemmas.{works_on}
+use Rattle.lists.proofs.Distinct.{apart, distinct_left}
+use Rattle.lists.proofs.Members.{has_last, has_left, has_right}
+use Rattle.lists.specs.Lists.{AreDistinct, Has}
 
 -- the asks of the one that is taken away, where it asked for this key alone
 none_other : (a b c : Bool) → (a ≡ true → b ≡ true) → c ≡ true → (a && not (b && c)) ≡ false
@@ -61,7 +60,7 @@ module _ {K V : Type 0} (eq : K → K → Bool) (equality : IsEquality eq) where
     wakes_here : (u : ℕ) → IsWoken eq m (reverse d.events) u k y ps → (W : List K) (w : World K V) (owed : ℕ) → Working eq m y.place.0 W w owed ps d → Working eq m y.place.0 W w owed qs e
     wakes_here u i W w owed work =
         works_on eq equality m v j (held_of a (IsWaiting ks)) (held_of b IsReady) ps qs was tasks one.live refl d e false false refl refl one.desk.out one.desk.rest.events W W w owed owed work
-        (released_ready_stand eq equality m law (reverse d.events) v w W (asked_of eq ps) (asked_of eq qs) (tasks_of eq ps) (tasks_of eq qs) k j (task_of (held_of a (IsWaiting ks))) (doing a.work) a.answered ks y.ahead.values (desk_of d) (desk_of e) owed owed work.stand
+        (released_ready_stand eq equality m law (reverse d.events) v w W (asked_of eq ps) (asked_of eq qs) (tasks_of eq ps) (tasks_of eq qs) k j (task_of (held_of a (IsWaiting ks))) a.work a.answered ks y.ahead.values (desk_of d) (desk_of e) owed owed work.stand
         one.asks one.live none there refl i.truly (puts_of eq j (Some (held_of b IsReady)) ps qs tasks) turns room)
       where
         v : ℕ
@@ -108,7 +107,7 @@ module _ {K V : Type 0} (eq : K → K → Bool) (equality : IsEquality eq) where
         held = i.held;
         was = one.tasks x.place.1 ∙ (ap (λ c. cond c (Some (held_of y.ahead.job IsReady)) (task_at eq ps x.place.1)) (other x h) ∙ i.was);
         follows = i.follows;
-        only = λ q on. i.only q (both_parts (asks eq ps q (Tasked x.place.1)) (not (eq k q && eq y.place.1 x.place.1)) (sym (one.asks q (Tasked x.place.1)) ∙ on)).0;
+        only = λ q on. i.only q (and_parts (asks eq ps q (Tasked x.place.1)) (not (eq k q && eq y.place.1 x.place.1)) (sym (one.asks q (Tasked x.place.1)) ∙ on)).0;
         truly = i.truly;
       });
       distinct = distinct_left (map (λ (z : Wakes K V). z.place.1) xs) (y.place.1 ∷ []) apart_all;
@@ -144,7 +143,7 @@ module _ {K V : Type 0} (eq : K → K → Bool) (equality : IsEquality eq) where
 
         others : (j : K) → asks eq qs k (Tasked j) ≡ true → ((x : Wakes K V) × Has xs x × (x.place.1 ≡ j)) ⊎ ((q : K) × (eq k q ≡ false) × (asks eq qs q (Tasked j) ≡ true))
         others j on = elim (may.others j b.0) as (λ _. ((x : Wakes K V) × Has xs x × (x.place.1 ≡ j)) ⊎ ((q : K) × (eq k q ≡ false) × (asks eq qs q (Tasked j) ≡ true))) [
-          | inl x ↦ elim (has_append xs y x.0 (subst (λ z. Has z x.0) split x.1)) as (λ _. ((x : Wakes K V) × Has xs x × (x.place.1 ≡ j)) ⊎ ((q : K) × (eq k q ≡ false) × (asks eq qs q (Tasked j) ≡ true))) [
+          | inl x ↦ elim (has_last xs y x.0 (subst (λ z. Has z x.0) split x.1)) as (λ _. ((x : Wakes K V) × Has xs x × (x.place.1 ≡ j)) ⊎ ((q : K) × (eq k q ≡ false) × (asks eq qs q (Tasked j) ≡ true))) [
             | inl h ↦ inl (x.0, h, x.2)
             | inr s ↦ absurd (not_left (ap (λ (z : Wakes K V). z.place.1) s ∙ x.2))
           ]
@@ -152,7 +151,7 @@ module _ {K V : Type 0} (eq : K → K → Bool) (equality : IsEquality eq) where
         ]
           where
             b : (asks eq ps k (Tasked j) ≡ true) × (not (eq k k && eq y.place.1 j) ≡ true)
-            b = both_parts (asks eq ps k (Tasked j)) (not (eq k k && eq y.place.1 j)) (sym (one.asks k (Tasked j)) ∙ on)
+            b = and_parts (asks eq ps k (Tasked j)) (not (eq k k && eq y.place.1 j)) (sym (one.asks k (Tasked j)) ∙ on)
 
             not_left : y.place.1 ≡ j → ⊥
             not_left s =
@@ -167,7 +166,7 @@ module _ {K V : Type 0} (eq : K → K → Bool) (equality : IsEquality eq) where
     module _ (j : K) (left : (q : K) (a : By K) → asks eq qs q a ≡ (asks eq ps q a && not (eq k q && is_by eq (Tasked j) a))) where
       pub still_waits : WaitsOn eq k ps → WaitsOn eq k qs
       still_waits on = record {
-        others = λ i h. (let b = both_parts (asks eq ps k (Tasked i)) (not (eq k k && eq j i)) (sym (left k (Tasked i)) ∙ h) in let r = on.others i b.0 in (r.0, r.1, left r.0 (Tasked i) ∙ still_asked (asks eq ps r.0 (Tasked i)) (eq k r.0) (eq j i) r.2 r.1));
+        others = λ i h. (let b = and_parts (asks eq ps k (Tasked i)) (not (eq k k && eq j i)) (sym (left k (Tasked i)) ∙ h) in let r = on.others i b.0 in (r.0, r.1, left r.0 (Tasked i) ∙ still_asked (asks eq ps r.0 (Tasked i)) (eq k r.0) (eq j i) r.2 r.1));
         value = (on.value.0, ap (λ (z : Option (Held K V)). value_of (option_map task_of z)) (kept.tasks k) ∙ on.value.1);
       }
 

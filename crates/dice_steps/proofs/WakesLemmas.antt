@@ -2,17 +2,17 @@
 use Rattle.std.proofs.Common.{◌≡◌, inl, inr, Bool, true, false, cond, not, ◌&&◌, List, [], ◌∷◌, ◌++◌, map, Some, refl, sym, ap, ◌∙◌, subst, append_assoc}
 use Rattle.std.proofs.lemmas.List.{map-append}
 use Rattle.dice_key.specs.Lawful.{IsEquality}
-use Rattle.dice_model.specs.Log.{Has, AreDistinct}
 use Rattle.task_share.specs.Asked.{By, Promised, Tasked, is_by}
 use Rattle.task_share.specs.Seen.{Share, task_at, asks, KeepsTasks}
 use Rattle.core_laws.specs.Tasks.{IsReady}
-use Rattle.core_laws.proofs.Shapes.{both_parts}
 use Rattle.dice_tasks.specs.Helds.{Held, held_of}
 use Rattle.dice_tasks.specs.Hands.{DeskSeen, KeepsDesk}
 use Rattle.dice_tasks.specs.Endings.{AreTasked}
 use Rattle.dice_tasks.specs.Waitings.{Wakes, WakesOne}
 use Rattle.dice_steps.specs.Wokens.{WakesSo}
-use Rattle.dice_tasks.proofs.Lists.{distinct_right}
+use Rattle.lists.proofs.Distinct.{distinct_right}
+use Rattle.lists.specs.Lists.{AreDistinct, Has}
+use Rattle.std.proofs.lemmas.Bool.{and_parts}
 
 -- what is not taken away
 not_for_key : (a b c : Bool) → b ≡ false → (a && not (b && c)) ≡ a
@@ -72,7 +72,7 @@ module _ {K V : Type 0} (eq : K → K → Bool) (equality : IsEquality eq) (k : 
       live = λ q. one.live q ∙ so.live q;
       elsewhere = λ q a n. one.asks q a ∙ (not_for_key (asks eq qs q a) (eq k q) (is_by eq (Tasked y.place.1) a) n ∙ so.elsewhere q a n);
       promises = λ q n. one.asks q (Promised n) ∙ (not_by_task (asks eq qs q (Promised n)) (eq k q) ∙ so.promises q n);
-      fewer = λ q a on. so.fewer q a (both_parts (asks eq qs q a) (not (eq k q && is_by eq (Tasked y.place.1) a)) (sym (one.asks q a) ∙ on)).0;
+      fewer = λ q a on. so.fewer q a (and_parts (asks eq qs q a) (not (eq k q && is_by eq (Tasked y.place.1) a)) (sym (one.asks q a) ∙ on)).0;
       desk = keeps_on d e f so.desk one.desk.rest;
     }
       where
@@ -91,7 +91,7 @@ module _ {K V : Type 0} (eq : K → K → Bool) (equality : IsEquality eq) (k : 
       live = λ q. kept.live q ∙ so.live q;
       elsewhere = λ q a n. left q a ∙ (not_for_key (asks eq qs q a) (eq k q) (is_by eq (Tasked j) a) n ∙ so.elsewhere q a n);
       promises = λ q n. left q (Promised n) ∙ (not_by_task (asks eq qs q (Promised n)) (eq k q) ∙ so.promises q n);
-      fewer = λ q a on. so.fewer q a (both_parts (asks eq qs q a) (not (eq k q && is_by eq (Tasked j) a)) (sym (left q a) ∙ on)).0;
+      fewer = λ q a on. so.fewer q a (and_parts (asks eq qs q a) (not (eq k q && is_by eq (Tasked j) a)) (sym (left q a) ∙ on)).0;
       desk = so.desk;
     }
 
@@ -111,7 +111,7 @@ module _ {K V : Type 0} (eq : K → K → Bool) (equality : IsEquality eq) (k : 
 
   pub tasked_woken : (y : Wakes K V) (ps qs : List (K × Share K (Held K V))) (d e : DeskSeen K V) → WakesOne eq k y ps qs d e → AreTasked eq ps → AreTasked eq qs
   tasked_woken y ps qs d e one tasked q b on =
-      let r = tasked q b (both_parts (asks eq ps q b) (not (eq k q && is_by eq (Tasked y.place.1) b)) (sym (one.asks q b) ∙ on)).0 in
+      let r = tasked q b (and_parts (asks eq ps q b) (not (eq k q && is_by eq (Tasked y.place.1) b)) (sym (one.asks q b) ∙ on)).0 in
       by_test r.0 r.1 (eq y.place.1 q) (one.tasks q)
     where
       by_test : (h : Held K V) → task_at eq ps q ≡ Some h → (c : Bool) → task_at eq qs q ≡ cond c (Some (held_of y.ahead.job IsReady)) (task_at eq ps q) → (r : Held K V) × (task_at eq qs q ≡ Some r)
@@ -120,5 +120,5 @@ module _ {K V : Type 0} (eq : K → K → Bool) (equality : IsEquality eq) (k : 
 
   pub tasked_told : (j : K) (ps qs : List (K × Share K (Held K V))) → KeepsTasks eq ps qs → ((q : K) (a : By K) → asks eq qs q a ≡ (asks eq ps q a && not (eq k q && is_by eq (Tasked j) a))) → AreTasked eq ps → AreTasked eq qs
   tasked_told j ps qs kept left tasked q b on =
-      let r = tasked q b (both_parts (asks eq ps q b) (not (eq k q && is_by eq (Tasked j) b)) (sym (left q b) ∙ on)).0 in
+      let r = tasked q b (and_parts (asks eq ps q b) (not (eq k q && is_by eq (Tasked j) b)) (sym (left q b) ∙ on)).0 in
       (r.0, kept.tasks q ∙ r.1)

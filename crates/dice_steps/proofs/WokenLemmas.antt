@@ -6,52 +6,33 @@ use Rattle.std.specs.List.{list_any, AllByRecursion, AllZip}
 use Rattle.std.specs.Option.{option_map}
 use Rattle.dice_key.specs.Lawful.{IsEquality}
 use Rattle.dice_key.specs.Meaning.{Meaning}
-use Rattle.dice_model.specs.Log.{Has, AreDistinct}
 use Rattle.dice_model.specs.Eval.{HasValue}
 use Rattle.dice_model.proofs.Inputs.{injected_value}
 use Rattle.dice_model.proofs.Traces.{zip_map}
 use Rattle.dice_jobs.specs.Jobs.{Assigned, Waits, Computes, Checks}
 use Rattle.task_share.specs.Asked.{By, Tasked, is_by}
 use Rattle.task_share.specs.Seen.{Share, task_at, asks, asked_of}
-use Rattle.task_share.specs.Lists as shared
 use Rattle.injected.specs.Seen.{Seen}
 use Rattle.injected.proofs.LogLemmas.{log_inputs}
 use Rattle.journal.specs.declared.event.Told.{Told}
 use Rattle.journal.specs.Events.{commits_of}
-use Rattle.core_laws.specs.Tasks.{Computes as DoesCompute, Checks as DoesCheck, IsReady, IsOut, IsWaiting, WithValue, Standing, Works, Ended, batch_of, value_of, waits_for}
+use Rattle.core_laws.specs.Tasks.{IsReady, IsOut, IsWaiting, WithValue, Standing, Works, Ended, batch_of, value_of, waits_for}
 use Rattle.core_laws.specs.Stands.{VersionStands}
 use Rattle.core_laws.proofs.Answered.{ended_value}
-use Rattle.core_laws.proofs.Counts.{has_append, has_front, has_last}
-use Rattle.core_laws.proofs.Shapes.{both_parts, same_or_other, other_way}
+use Rattle.core_laws.proofs.Shapes.{same_or_other, other_way}
 use Rattle.dice_tasks.specs.Helds.{Held, Ahead, FollowsOn, task_of, held_of, held_ended}
 use Rattle.dice_tasks.specs.Hands.{DeskSeen, tasks_of}
 use Rattle.dice_tasks.specs.Endings.{EndsTask}
 use Rattle.dice_steps.specs.Cells.{CellsStand}
 use Rattle.dice_tasks.specs.Waitings.{Wakes, MayWake}
 use Rattle.dice_steps.specs.Wokens.{AsksAlone, AsksMore, HasAnswer, IsAnswer, WaitsAlone, HasAnswers, IsAnswered, AreWoken}
-use Rattle.dice_tasks.proofs.Lists.{apart, has_right}
+use Rattle.lists.proofs.Distinct.{apart, distinct_end}
+use Rattle.lists.proofs.Each.{all_end, zip_end, zip_length}
+use Rattle.lists.proofs.Members.{has_end, has_last, has_more, has_right}
+use Rattle.lists.specs.Lists.{AreDistinct, Has}
+use Rattle.std.proofs.lemmas.Bool.{and_parts}
 
 -- ---- lists
-
-module _ {X : Type 0} where
-  -- things that stand once each, in the other words for it
-  has_again : (xs : List X) (x : X) → Has xs x → shared.Has xs x
-  has_again [] x h = h
-  has_again (y ∷ xs) x (inl e) = inl e
-  has_again (y ∷ xs) x (inr h) = inr (has_again xs x h)
-
-  distinct_again : (xs : List X) → shared.AreDistinct xs → AreDistinct xs
-  distinct_again [] d = tt
-  distinct_again (x ∷ xs) d = (λ h. d.0 (has_again xs x h), distinct_again xs d.1)
-
-  distinct_more : (xs : List X) (y : X) → AreDistinct xs → (Has xs y → ⊥) → AreDistinct (xs ++ y ∷ [])
-  distinct_more [] y d n = ((λ b. b), tt)
-  distinct_more (z ∷ xs) y d n =
-      ((λ h. elim (has_append xs y z h) as (λ _. ⊥) [ inl i ↦ d.0 i | inr e ↦ n (inl (sym e)) ]), distinct_more xs y d.1 (λ h. n (inr h)))
-
-  all_more : (P : X → Type 0) (xs : List X) (y : X) → AllByRecursion P xs → P y → AllByRecursion P (xs ++ y ∷ [])
-  all_more P [] y a p = (p, tt)
-  all_more P (x ∷ xs) y a p = (a.0, all_more P xs y a.1 p)
 
 module _ {X Y : Type 0} (f : X → Y) (xs : List X) (i : ℕ) (x : X) (within : i < length xs) (is : x ≡ get_or xs i x) where
   -- the first of a list with one more
@@ -68,21 +49,9 @@ module _ {X Y : Type 0} (f : X → Y) (xs : List X) (i : ℕ) (x : X) (within : 
   pub is_new : AreDistinct (map f xs) → Has (map f (take i xs)) (f x) → ⊥
   is_new d h = apart (map f (take i xs)) (f x ∷ map f (drop (suc i) xs)) (f x) (subst AreDistinct split d) h (inl refl)
 
-pub zip_more : {A B : Type 0} (R : A → B → Type 0) (xs : List A) (ys : List B) (x : A) (y : B) → AllZip R xs ys → R x y → AllZip R (xs ++ x ∷ []) (ys ++ y ∷ [])
-zip_more R [] [] x y z r = (r, tt)
-zip_more R [] (b ∷ ys) x y z r = absurd z
-zip_more R (a ∷ xs) [] x y z r = absurd z
-zip_more R (a ∷ xs) (b ∷ ys) x y z r = (z.0, zip_more R xs ys x y z.1 r)
-
-pub zip_length : {A B : Type 0} (R : A → B → Type 0) (xs : List A) (ys : List B) → AllZip R xs ys → length ys ≡ length xs
-zip_length R [] [] z = refl
-zip_length R [] (b ∷ ys) z = absurd z
-zip_length R (a ∷ xs) [] z = absurd z
-zip_length R (a ∷ xs) (b ∷ ys) z = ap suc (zip_length R xs ys z.1)
-
 -- one answer more
 pub zip_next : {A B X : Type 0} (R : A → B → Type 0) (f : X → A) (xs : List X) (i : ℕ) (x : X) (ys zs : List B) (y : B) → i < length xs → x ≡ get_or xs i x → AllZip R (map f (take i xs)) ys → R (f x) y → zs ≡ ys ++ y ∷ [] → AllZip R (map f (take (i + 1) xs)) zs
-zip_next R f xs i x ys zs y within is z r e = subst (AllZip R (map f (take (i + 1) xs))) (sym e) (subst (λ us. AllZip R us (ys ++ y ∷ [])) (sym (first_more f xs i x within is)) (zip_more R (map f (take i xs)) ys (f x) y z r))
+zip_next R f xs i x ys zs y within is z r e = subst (AllZip R (map f (take (i + 1) xs))) (sym e) (subst (λ us. AllZip R us (ys ++ y ∷ [])) (sym (first_more f xs i x within is)) (zip_end R (map f (take i xs)) ys (f x) y z r))
 
 -- all of a list
 pub all_taken : {X Y : Type 0} (f : X → Y) (xs : List X) (i : ℕ) → length xs ≤ i → map f (take i xs) ≡ map f xs
@@ -126,7 +95,7 @@ module _ {K V : Type 0} (eq : K → K → Bool) (equality : IsEquality eq) (k : 
 
 -- each of the first is k, with one more
 pub all_same_more : {X K : Type 0} (f : X → K) (k : K) (xs : List X) (i : ℕ) (x : X) → i < length xs → x ≡ get_or xs i x → AllByRecursion (λ z. z ≡ k) (map f (take i xs)) → f x ≡ k → AllByRecursion (λ z. z ≡ k) (map f (take (i + 1) xs))
-all_same_more f k xs i x within is all e = subst (AllByRecursion (λ z. z ≡ k)) (sym (first_more f xs i x within is)) (all_more (λ z. z ≡ k) (map f (take i xs)) (f x) all e)
+all_same_more f k xs i x within is all e = subst (AllByRecursion (λ z. z ≡ k)) (sym (first_more f xs i x within is)) (all_end (λ z. z ≡ k) (map f (take i xs)) (f x) all e)
 
 -- ---- who is woken
 
@@ -157,9 +126,9 @@ module _ {K V : Type 0} (eq : K → K → Bool) (m : Meaning K V) (cells : Seen 
       version = so.version;
       only = so.only;
       answered = so.answered;
-      within = λ y h. has_front done j y.place.1 (so.within y h);
+      within = λ y h. has_more done j y.place.1 (so.within y h);
       distinct = so.distinct;
-      others = λ i h. elim (has_append done j i h) as (λ _. ((y : Wakes K V) × Has ys y × (y.place.1 ≡ i)) ⊎ AsksMore eq k ps i) [
+      others = λ i h. elim (has_end done j i h) as (λ _. ((y : Wakes K V) × Has ys y × (y.place.1 ≡ i)) ⊎ AsksMore eq k ps i) [
         | inl o ↦ so.others i o
         | inr q ↦ inr (subst (AsksMore eq k ps) q more)
       ];
@@ -168,14 +137,14 @@ module _ {K V : Type 0} (eq : K → K → Bool) (m : Meaning K V) (cells : Seen 
     -- one that is woken
     pub woken_more : (j : K) (all : List K) (y : Wakes K V) (zs : List (Wakes K V)) → all ≡ done ++ j ∷ [] → zs ≡ ys ++ y ∷ [] → (Has done j → ⊥) → y.place ≡ (v, j) → AsksAlone eq k ps j → IsAnswered eq m cells v k x ps j y.ahead → SoFar all zs
     woken_more j all y zs d e new is alone answered = subst (λ z. SoFar z zs) (sym d) (subst (SoFar (done ++ j ∷ [])) (sym e) (record {
-      version = λ z h. elim (has_append ys y z h) as (λ _. z.place.0 ≡ v) [ inl o ↦ so.version z o | inr q ↦ subst (λ (a : Wakes K V). a.place.0 ≡ v) q (ap (λ (p : ℕ × K). p.0) is) ];
-      only = λ z h. elim (has_append ys y z h) as (λ _. AsksAlone eq k ps z.place.1) [ inl o ↦ so.only z o | inr q ↦ subst (λ (a : Wakes K V). AsksAlone eq k ps a.place.1) q (subst (AsksAlone eq k ps) (sym key) alone) ];
-      answered = λ z h. elim (has_append ys y z h) as (λ _. IsAnswered eq m cells v k x ps z.place.1 z.ahead) [ inl o ↦ so.answered z o | inr q ↦ subst (λ (a : Wakes K V). IsAnswered eq m cells v k x ps a.place.1 a.ahead) q (subst (λ a. IsAnswered eq m cells v k x ps a y.ahead) (sym key) answered) ];
-      within = λ z h. elim (has_append ys y z h) as (λ _. Has (done ++ j ∷ []) z.place.1) [ inl o ↦ has_front done j z.place.1 (so.within z o) | inr q ↦ subst (λ (a : Wakes K V). Has (done ++ j ∷ []) a.place.1) q (subst (Has (done ++ j ∷ [])) (sym key) (has_last done j)) ];
-      distinct = subst AreDistinct (sym (map-append (λ (z : Wakes K V). z.place.1) ys (y ∷ []))) (distinct_more (map (λ (z : Wakes K V). z.place.1) ys) y.place.1 so.distinct (λ h. new (subst (Has done) key (there ys so.within y.place.1 h))));
-      others = λ i h. elim (has_append done j i h) as (λ _. ((z : Wakes K V) × Has (ys ++ y ∷ []) z × (z.place.1 ≡ i)) ⊎ AsksMore eq k ps i) [
-        | inl o ↦ elim (so.others i o) as (λ _. ((z : Wakes K V) × Has (ys ++ y ∷ []) z × (z.place.1 ≡ i)) ⊎ AsksMore eq k ps i) [ inl r ↦ inl (r.0, has_front ys y r.0 r.1, r.2) | inr r ↦ inr r ]
-        | inr q ↦ inl (y, has_last ys y, key ∙ q)
+      version = λ z h. elim (has_end ys y z h) as (λ _. z.place.0 ≡ v) [ inl o ↦ so.version z o | inr q ↦ subst (λ (a : Wakes K V). a.place.0 ≡ v) q (ap (λ (p : ℕ × K). p.0) is) ];
+      only = λ z h. elim (has_end ys y z h) as (λ _. AsksAlone eq k ps z.place.1) [ inl o ↦ so.only z o | inr q ↦ subst (λ (a : Wakes K V). AsksAlone eq k ps a.place.1) q (subst (AsksAlone eq k ps) (sym key) alone) ];
+      answered = λ z h. elim (has_end ys y z h) as (λ _. IsAnswered eq m cells v k x ps z.place.1 z.ahead) [ inl o ↦ so.answered z o | inr q ↦ subst (λ (a : Wakes K V). IsAnswered eq m cells v k x ps a.place.1 a.ahead) q (subst (λ a. IsAnswered eq m cells v k x ps a y.ahead) (sym key) answered) ];
+      within = λ z h. elim (has_end ys y z h) as (λ _. Has (done ++ j ∷ []) z.place.1) [ inl o ↦ has_more done j z.place.1 (so.within z o) | inr q ↦ subst (λ (a : Wakes K V). Has (done ++ j ∷ []) a.place.1) q (subst (Has (done ++ j ∷ [])) (sym key) (has_end done j)) ];
+      distinct = subst AreDistinct (sym (map-append (λ (z : Wakes K V). z.place.1) ys (y ∷ []))) (distinct_end (map (λ (z : Wakes K V). z.place.1) ys) y.place.1 so.distinct (λ h. new (subst (Has done) key (there ys so.within y.place.1 h))));
+      others = λ i h. elim (has_end done j i h) as (λ _. ((z : Wakes K V) × Has (ys ++ y ∷ []) z × (z.place.1 ≡ i)) ⊎ AsksMore eq k ps i) [
+        | inl o ↦ elim (so.others i o) as (λ _. ((z : Wakes K V) × Has (ys ++ y ∷ []) z × (z.place.1 ≡ i)) ⊎ AsksMore eq k ps i) [ inl r ↦ inl (r.0, has_more ys y r.0 r.1, r.2) | inr r ↦ inr r ]
+        | inr q ↦ inl (y, has_end ys y, key ∙ q)
       ];
     }))
       where
@@ -198,9 +167,6 @@ module _ {K V : Type 0} (eq : K → K → Bool) (m : Meaning K V) (cells : Seen 
     others = λ j on. so.others j (has_any eq equality askers j (are j ∙ on));
   }
 
-pub distinct_askers : {K : Type 0} (ks : List K) → shared.AreDistinct ks → AreDistinct ks
-distinct_askers ks d = distinct_again ks d
-
 -- ---- each that waits for one key alone has answers to its batch
 
 module _ {K V : Type 0} where
@@ -209,8 +175,8 @@ module _ {K V : Type 0} where
   waits_of h ks e = by_standing h.standing refl e
     where
       by_standing : (s : Standing K V) → h.standing ≡ s → waits_for s ≡ Some ks → (a : Assigned K V) × (h ≡ held_of a (IsWaiting ks))
-      by_standing (Works DoesCompute (IsWaiting ls) A) i f = (record { name = h.name; answered = A; work = Computes }, ap (λ s. record { name = h.name; standing = s }) (i ∙ ap (λ z. Works DoesCompute (IsWaiting z) A) (same_Some ls ks f)))
-      by_standing (Works (DoesCheck x T b) (IsWaiting ls) A) i f = (record { name = h.name; answered = A; work = Checks x T b }, ap (λ s. record { name = h.name; standing = s }) (i ∙ ap (λ z. Works (DoesCheck x T b) (IsWaiting z) A) (same_Some ls ks f)))
+      by_standing (Works Computes (IsWaiting ls) A) i f = (record { name = h.name; answered = A; work = Computes }, ap (λ s. record { name = h.name; standing = s }) (i ∙ ap (λ z. Works Computes (IsWaiting z) A) (same_Some ls ks f)))
+      by_standing (Works (Checks x T b) (IsWaiting ls) A) i f = (record { name = h.name; answered = A; work = Checks x T b }, ap (λ s. record { name = h.name; standing = s }) (i ∙ ap (λ z. Works (Checks x T b) (IsWaiting z) A) (same_Some ls ks f)))
       by_standing (Works w IsReady A) i f = absurd (none-some ks f)
       by_standing (Works w IsOut A) i f = absurd (none-some ks f)
       by_standing (Ended o) i f = absurd (none-some ks f)
@@ -280,7 +246,7 @@ module _ {K V : Type 0} (eq : K → K → Bool) (equality : IsEquality eq) (m : 
       distinct = woken.distinct;
       others = λ j on. elim (woken.others j (before k (Tasked j) on)) as (λ _. ((y : Wakes K V) × Has ys y × (y.place.1 ≡ j)) ⊎ ((q : K) × (eq k q ≡ false) × (asks eq qs q (Tasked j) ≡ true))) [
         | inl y ↦ inl y
-        | inr r ↦ inr (r.0, r.1, ends.asks r.0 (Tasked j) ∙ both (asks eq ps r.0 (Tasked j)) (not (eq k j)) r.2 (both_parts (asks eq ps k (Tasked j)) (not (eq k j)) (sym (ends.asks k (Tasked j)) ∙ on)).1)
+        | inr r ↦ inr (r.0, r.1, ends.asks r.0 (Tasked j) ∙ both (asks eq ps r.0 (Tasked j)) (not (eq k j)) r.2 (and_parts (asks eq ps k (Tasked j)) (not (eq k j)) (sym (ends.asks k (Tasked j)) ∙ on)).1)
       ];
       value = (x, ap (λ (z : Option (Held K V)). value_of (option_map task_of z)) (ends.tasks k ∙ ap (λ c. cond c (Some (held_ended h.name (WithValue x))) (task_at eq ps k)) (equality.itself k)));
     }
@@ -290,4 +256,4 @@ module _ {K V : Type 0} (eq : K → K → Bool) (equality : IsEquality eq) (m : 
         both false b p q = p
 
         before : (q : K) (a : By K) → asks eq qs q a ≡ true → asks eq ps q a ≡ true
-        before q a on = (both_parts (asks eq ps q a) (not (is_by eq (Tasked k) a)) (sym (ends.asks q a) ∙ on)).0
+        before q a on = (and_parts (asks eq ps q a) (not (is_by eq (Tasked k) a)) (sym (ends.asks q a) ∙ on)).0

@@ -1,8 +1,7 @@
--- What is done where the task of a key asks a batch: tasks are made for its keys, and it waits or goes on; or it ends with a circle.
+-- What is done where the task of a key asks a batch: tasks are made for its keys, and it waits or goes on; or it ends with a cycle.
 use Rattle.std.specs.Prelude.{◌≡◌, ◌⊎◌, ◌≤◌, ◌+◌, ◌*◌, ℕ, Bool, true, false, List, ◌++◌, length, map, reverse, Option, Some}
 use Rattle.std.specs.List.{AllZip, AllByRecursion}
 use Rattle.dice_key.specs.Meaning.{Meaning}
-use Rattle.dice_model.specs.Log.{Has, AreDistinct}
 use Rattle.dice_model.specs.Eval.{HasValue}
 use Rattle.dice_jobs.specs.Jobs.{Assigned, answered_more}
 use Rattle.task_share.specs.Seen.{Share, task_at, is_live, has_place, asker_room, wait_room, KeepsAsks}
@@ -20,6 +19,7 @@ use Rattle.dice_tasks.specs.Makings.{IsFree, MayMake}
 use Rattle.dice_steps.specs.Plans.{key_in, IsPart}
 use Rattle.dice_steps.specs.Taken.{MakesThese}
 use Rattle.dice_steps.specs.declared.plan.Part.{Part}
+use Rattle.lists.specs.Lists.{AreDistinct, Has}
 
 module _ {K V : Type 0} (v : ℕ) (ks : List K) where
   -- an event of a task that is made for a key of these at v
@@ -110,13 +110,13 @@ module _ {K V : Type 0} (eq : K → K → Bool) (v : ℕ) (path : Option (List K
 
 module _ {K V : Type 0} (eq : K → K → Bool) (m : Meaning K V) (v : ℕ) (a : Assigned K V) (ks : List K) where
   -- the task of a's key, which was out with the job a and asked the batch ks: it goes on with the keys' values, waits for them, or has ended with a
-  -- circle that one of them comes to, or for want of memory
+  -- cycle that one of them comes to, or for want of memory
   abbrev pub IsGiven : List (Told K V) → List (K × Share K (Held K V)) → Type 0
   IsGiven R qs = ((xs : List V) × (task_at eq qs a.name.key ≡ Some (held_of (answered_more a ks xs) IsReady)) × AllZip (HasValue eq m (commits_of R) v) ks xs)
       ⊎ (task_at eq qs a.name.key ≡ Some (held_of a (IsWaiting ks)))
       ⊎ ((path : List K) × (o : Outcome K V) × ComesOf (Some path) o × (task_at eq qs a.name.key ≡ Some (held_ended a.name o)))
 
-  -- what the step tells: keys of the batch are started or kept; or tasks end with a circle, or for want of memory, and others are dropped
+  -- what the step tells: keys of the batch are started or kept; or tasks end with a cycle, or for want of memory, and others are dropped
   abbrev pub IsToldOf : List (Told K V) → Type 0
   IsToldOf xs = AllByRecursion (IsOfMakes v ks) xs ⊎ ((path : List K) × (os : List (K × Outcome K V)) × (ds : List K) × ((p : K × Outcome K V) → Has os p → ComesOf (Some path) p.1) × (xs ≡ ending_events v os ds))
 

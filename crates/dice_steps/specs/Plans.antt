@@ -5,7 +5,6 @@ use Rattle.std.specs.Arc.{arc_value}
 use Rattle.std.specs.List.{AllZip}
 use Rattle.dice_key.specs.Meaning.{Meaning}
 use Rattle.dice_key.specs.declared.universe.Kind.TheVariants.{Injected}
-use Rattle.dice_model.specs.Log.{Has, AreDistinct}
 use Rattle.dice_jobs.specs.Jobs.{Assigned, answered_more}
 use Rattle.task_share.specs.Asked.{WaitOf, Leads}
 use Rattle.task_share.specs.Seen.{Share, is_live, asked_of, has_place, asker_room, wait_room}
@@ -18,12 +17,13 @@ use Rattle.dice_tasks.specs.Hands.{DeskSeen, HasDeskRoom, tasks_of}
 use Rattle.dice_tasks.specs.Makings.{IsMaking, IsOfKey}
 use Rattle.dice_tasks.specs.declared.making.Making.{Making}
 use Rattle.dice_tasks.specs.declared.making.Making.TheVariants.{Join, Match, Run, Check}
-use Rattle.dice_steps.specs.Taken.{HasNoPath, IsPathOf, EndsByCircle, MakesTasks, WaitsFor, GoesOnWith}
+use Rattle.dice_steps.specs.Taken.{HasNoPath, IsPathOf, EndsByCycle, MakesTasks, WaitsFor, GoesOnWith}
 use Rattle.dice_steps.specs.declared.plan.Part.{Part}
 use Rattle.dice_steps.specs.declared.plan.Survey.{Survey}
 use Rattle.dice_steps.specs.declared.plan.Survey.TheVariants as survey
 use Rattle.dice_steps.specs.declared.plan.Plan.{Plan}
 use Rattle.dice_steps.specs.declared.plan.Plan.TheVariants as plan
+use Rattle.lists.specs.Lists.{AreDistinct, Has}
 
 module _ {U K V R : Type 0} where
   -- the key of a part
@@ -57,7 +57,7 @@ module _ {K V : Type 0} (eq : K → K → Bool) (m : Meaning K V) (v : ℕ) (ps 
     pub unmatched : (x : V) (b : ℕ) → look m.is_transient (entry_at eq es q) v ≡ Matches x b → ⊥
 
 module _ {U K V R : Type 0} (eq : K → K → Bool) (m : Meaning K V) (v born : ℕ) (ps : List (K × Share K (Held K V))) (es : List (K × Stored K V)) where
-  -- this is to be made of a key, which is not injected, and whose task has not ended with a circle; and whether it is waited for
+  -- this is to be made of a key, which is not injected, and whose task has not ended with a cycle; and whether it is waited for
   pub record IsPart (p : Part U K V R) : Type 0 where
     pub computed : m.kind (key_in p) ≢ Injected
     pub whole : HasNoPath eq ps (key_in p)
@@ -66,7 +66,7 @@ module _ {U K V R : Type 0} (eq : K → K → Bool) (m : Meaning K V) (v born : 
     pub awaited : p.awaited ≡ is_awaited eq ps (key_in p) p.making
 
   -- these are the parts of the batch ks, which the task of k asks: one for each of its keys that is not injected; and no wait for one of them would
-  -- close a circle
+  -- close a cycle
   pub record AreParts (k : K) (ks : List K) (xs : List (Part U K V R)) : Type 0 where
     pub each : (p : Part U K V R) → Has xs p → IsPart p
     pub among : (p : Part U K V R) → Has xs p → Has ks (key_in p)
@@ -74,9 +74,9 @@ module _ {U K V R : Type 0} (eq : K → K → Bool) (m : Meaning K V) (v born : 
     pub distinct : AreDistinct (map key_in xs)
     pub all : (q : K) → Has ks q → (m.kind q ≡ Injected) ⊎ ((p : Part U K V R) × Has xs p × (key_in p ≡ q))
 
-  -- what a batch comes to: a circle, or its parts
+  -- what a batch comes to: a cycle, or its parts
   abbrev pub IsSurvey : K → List K → Survey U K V R → Type 0
-  IsSurvey k ks (survey.Circle path) = IsPathOf eq ps m k ks (arc_value path)
+  IsSurvey k ks (survey.Cycle path) = IsPathOf eq ps m k ks (arc_value path)
   IsSurvey k ks (survey.Parts xs) = AreParts k ks xs.items
 
 module _ {U K V R : Type 0} (eq : K → K → Bool) (xs : List (Part U K V R)) (ps : List (K × Share K (Held K V))) where
@@ -115,7 +115,7 @@ module _ {U K V R : Type 0} (eq : K → K → Bool) (m : Meaning K V) (v owed : 
 
   -- what is done where this was planned, from the tasks ps, the desk d, the entries es and the cells s
   abbrev pub IsPlanDone : Plan U K V R → List (K × Share K (Held K V)) → DeskSeen K V → List (K × Stored K V) → Type 0
-  IsPlanDone (plan.Ends path own) qs e fs = EndsByCircle eq m v a ks s ps d es qs e fs
+  IsPlanDone (plan.Ends path own) qs e fs = EndsByCycle eq m v a ks s ps d es qs e fs
   IsPlanDone (plan.GoesOn xs n) qs e fs = MakesTasks eq m v a ks s ps d es qs e fs × GoesOnWith eq m v a ks s ps d es qs e fs
   IsPlanDone (plan.Waits xs ws) qs e fs = MakesTasks eq m v a ks s ps d es qs e fs × WaitsFor eq m v a ks s ps d es qs e fs
 

@@ -1,41 +1,41 @@
--- What becomes of the batch that the task of a key asks: a key of it comes to a circle, and the task ends with it; or each key has its task, and the
+-- What becomes of the batch that the task of a key asks: a key of it comes to a cycle, and the task ends with it; or each key has its task, and the
 -- asking task waits for those that have not ended, or goes on with the answers.
 use Rattle.std.specs.Prelude.{◌≡◌, ◌≢◌, ◌⊎◌, ◌&&◌, ◌||◌, ℕ, Bool, true, false, List, [], ◌∷◌, ◌++◌, length, Some, None}
 use Rattle.std.specs.List.{AllZip, list_any}
 use Rattle.dice_key.specs.Meaning.{Meaning}
 use Rattle.dice_key.specs.declared.universe.Kind.TheVariants.{Injected}
-use Rattle.dice_model.specs.Log.{Has, AreDistinct}
 use Rattle.dice_jobs.specs.Jobs.{Assigned, answered_more}
 use Rattle.task_share.specs.Asked.{By, Tasked, Leads, is_by}
 use Rattle.task_share.specs.Seen.{Share, task_at, asks, asked_of, KeepsAsks}
-use Rattle.cycle_guard.specs.Circle.{IsCircle}
+use Rattle.cycle_guard.specs.WaitCycle.{IsWaitCycle}
 use Rattle.injected.specs.Seen.{Seen, cell_at}
 use Rattle.journal.specs.declared.event.Told.{Told}
 use Rattle.versioned_graph.specs.Edges.{is_edge}
 use Rattle.versioned_graph.specs.Entries.{Stored, entry_at}
 use Rattle.versioned_graph.specs.Looks.{Look, look}
 use Rattle.core_laws.specs.Tasks.{IsReady, IsWaiting, is_going, value_of}
-use Rattle.dice_tasks.specs.Circles.{path_with}
+use Rattle.dice_tasks.specs.CyclePaths.{path_with}
 use Rattle.dice_tasks.specs.Endings.{GivesUpAll}
 use Rattle.dice_tasks.specs.Helds.{Held, held_of}
 use Rattle.dice_tasks.specs.Hands.{DeskSeen, tasks_of}
 use Rattle.dice_tasks.specs.Makings.{IsFree, task_by, told_by, entry_by}
+use Rattle.lists.specs.Lists.{AreDistinct, Has}
 
 module _ {K V : Type 0} (eq : K → K → Bool) (ps : List (K × Share K (Held K V))) where
-  -- the task of q has not ended with a circle
+  -- the task of q has not ended with a cycle
   abbrev pub HasNoPath : K → Type 0
   HasNoPath q = path_with (task_at eq ps q) ≡ None
 
-  -- the path is the circle that the wait of the task of k for q would close, or that with which the task of q has ended
+  -- the path is the cycle that the wait of the task of k for q would close, or that with which the task of q has ended
   abbrev pub IsPathAt : K → K → List K → Type 0
-  IsPathAt k q path = IsCircle (asked_of eq ps) k q path ⊎ (path_with (task_at eq ps q) ≡ Some path)
+  IsPathAt k q path = IsWaitCycle (asked_of eq ps) k q path ⊎ (path_with (task_at eq ps q) ≡ Some path)
 
-  -- the task of k may wait for q: the wait would close no circle, and the task of q has not ended with one
+  -- the task of k may wait for q: the wait would close no cycle, and the task of q has not ended with one
   pub record MayWaitFor (k q : K) : Type 0 where
     pub apart : Leads (asked_of eq ps) q k → ⊥
     pub whole : HasNoPath q
 
-  -- the first of these keys, in their order, that comes to a circle, comes to this one
+  -- the first of these keys, in their order, that comes to a cycle, comes to this one
   pub record IsPathOf (m : Meaning K V) (k : K) (ks : List K) (path : List K) : Type 0 where
     pub before : List K
     pub key : K
@@ -65,11 +65,11 @@ module _ {K V : Type 0} (eq : K → K → Bool) (m : Meaning K V) (v : ℕ) (mad
     pub edges : (j q : K) → is_edge eq fs j q ≡ is_edge eq es j q
 
 module _ {K V : Type 0} (eq : K → K → Bool) (m : Meaning K V) (v : ℕ) (a : Assigned K V) (ks : List K) (cells : Seen K V) (ps : List (K × Share K (Held K V))) (d : DeskSeen K V) (es : List (K × Stored K V)) (qs : List (K × Share K (Held K V))) (e : DeskSeen K V) (fs : List (K × Stored K V)) where
-  -- the first key of the batch that comes to a circle comes to this one: nothing is made, no entry changes, and the task that asks ends with just this
-  -- circle, as do all that ask for it, and so on
-  pub record EndsByCircle : Type 0 where
+  -- the first key of the batch that comes to a cycle comes to this one: nothing is made, no entry changes, and the task that asks ends with just this
+  -- cycle, as do all that ask for it, and so on
+  pub record EndsByCycle : Type 0 where
     pub path : List K
-    pub circle : IsPathOf eq ps m a.name.key ks path
+    pub cycle : IsPathOf eq ps m a.name.key ks path
     pub ends : GivesUpAll eq v (Some path) a.name.key ps qs d e
     pub entries : fs ≡ es
 
@@ -117,4 +117,4 @@ module _ {K V : Type 0} (eq : K → K → Bool) (m : Meaning K V) (v : ℕ) (a :
 
   -- what becomes of the batch
   abbrev pub IsBatchDone : Type 0
-  IsBatchDone = EndsByCircle ⊎ (MakesTasks × WaitsFor) ⊎ (MakesTasks × GoesOnWith)
+  IsBatchDone = EndsByCycle ⊎ (MakesTasks × WaitsFor) ⊎ (MakesTasks × GoesOnWith)

@@ -3,7 +3,6 @@ use Rattle.std.specs.Prelude.{◌≡◌, ◌⊎◌, ℕ, Bool, true, false, List
 use Rattle.std.specs.List.{AllZip}
 use Rattle.dice_key.specs.Meaning.{Meaning}
 use Rattle.dice_key.specs.declared.universe.Kind.TheVariants.{Injected}
-use Rattle.dice_model.specs.Log.{Has, AreDistinct}
 use Rattle.dice_jobs.specs.Jobs.{Waits}
 use Rattle.task_share.specs.Asked.{By, Promised, Tasked}
 use Rattle.task_share.specs.Seen.{Share, task_at, is_live, asks}
@@ -12,6 +11,7 @@ use Rattle.core_laws.specs.Tasks.{IsReady, IsWaiting, value_of}
 use Rattle.dice_tasks.specs.Helds.{Held, Ahead, FollowsOn, held_of}
 use Rattle.dice_tasks.specs.Hands.{DeskSeen, KeepsDesk, tasks_of}
 use Rattle.dice_tasks.specs.Waitings.{Wakes}
+use Rattle.lists.specs.Lists.{AreDistinct, Has}
 
 module _ {K V : Type 0} (eq : K → K → Bool) where
   -- the task of j asks for the key k alone, or for another key too

@@ -1,4 +1,4 @@
-//! A batch that a task asks: it waits for the answers, goes on with them, or ends with a circle.
+//! A batch that a task asks: it waits for the answers, goes on with them, or ends with a cycle.
 ghost use Rattle.std.specs.Prelude.{◌≡◌, ◌+◌, ℕ, List, length, reverse, Some, true, OnErr, OnOk, IfErr, IfOk};
 ghost use Rattle.std.specs.Arc.{arc_value};
 ghost use Rattle.std.specs.Option.{option_map};
@@ -11,7 +11,7 @@ ghost use Rattle.core_laws.specs.Tasks.{IsOut, IsWaiting};
 ghost use Rattle.core_laws.specs.Stands.{AsksNext};
 ghost use Rattle.core_laws.specs.Desk.{World};
 ghost use Rattle.dice_steps.specs.AtHand.{AtHand};
-ghost use Rattle.dice_tasks.specs.Helds.{doing, held_of};
+ghost use Rattle.dice_tasks.specs.Helds.{held_of};
 ghost use Rattle.dice_tasks.specs.Hands.{KeepsHands, KeepsDeskRoom, Working};
 ghost use Rattle.dice_tasks.specs.Entries.{EntriesStand};
 ghost use Rattle.dice_tasks.specs.Endings.{ReachesPath, GivesUpAll, path_of};
@@ -29,9 +29,9 @@ use std::alloc::Global;
 use std::sync::Arc;
 use versioned_graph::Graph;
 
-/// Gives up the task at work of a key: it ends as lost, or with a circle that the key reaches, and with it all that ask for it, for
+/// Gives up the task at work of a key: it ends as lost, or with a cycle that the key reaches, and with it all that ask for it, for
 /// one of these, and so on; and what nobody asks for then is dropped. It takes no memory: the task of the key ends with its `own`
-/// circle, and another one for which there is no memory for a copy ends as lost.
+/// cycle, and another one for which there is no memory for a copy ends as lost.
 ///
 /// It costs the number of tasks that it ends and drops, and of the keys that they waited for.
 pub fn give_up<U: Universe>(
@@ -107,7 +107,7 @@ fn take_up<U: Universe>(
 )
     requires own { (parked.job.name.key ≡ arc_value key.now) × (parked.job.name.version ≡ version) }
     requires out { task_at U.Key.eq tasks.old (arc_value key.now) ≡ Some (held_of parked.job IsOut) }
-    requires next { AsksNext U.Key.eq U.meaning version (arc_value key.now) (doing parked.job.work) parked.job.answered (IsWaiting parked.keys) }
+    requires next { AsksNext U.Key.eq U.meaning version (arc_value key.now) parked.job.work parked.job.answered (IsWaiting parked.keys) }
     requires hand { (w : World U.Key U.Value) × (owed : ℕ) × (s : Seen U.Key U.Value) × AtHand U.Key.eq U.meaning version w owed tasks.old desk.old graph.old s × IsPlan U.Key.eq U.meaning version owed parked.job parked.keys tasks.old desk.old graph.old s plan }
     ensures given { TakesUp U.Key.eq U.meaning version parked.job parked.keys tasks.old desk.old tasks.new desk.new }
     ensures done { (w : World U.Key U.Value) (owed : ℕ) (s : Seen U.Key U.Value) → AtHand U.Key.eq U.meaning version w owed tasks.old desk.old graph.old s → IsPlan U.Key.eq U.meaning version owed parked.job parked.keys tasks.old desk.old graph.old s plan → IsPlanDone U.Key.eq U.meaning version owed parked.job parked.keys tasks.old desk.old graph.old s plan tasks.new desk.new graph.new }
@@ -131,7 +131,7 @@ fn take_up<U: Universe>(
 }
 
 /// Takes up the batch that a step of the job of a task asks, which is out: what its keys need is made, and the task waits for it, or
-/// goes on where all keys have values at hand. Where a key comes to a circle nothing is made: the task ends with the circle, and all
+/// goes on where all keys have values at hand. Where a key comes to a cycle nothing is made: the task ends with the cycle, and all
 /// that ask for it.
 ///
 /// Where memory is refused the step is handed back, and all is as before, but for room; there is room for `owed` events beside then
@@ -199,7 +199,7 @@ fn plan_step<U: Universe>(
     ensures key { IfOk result (λ r. arc_value r.0 ≡ step.now.job.name.key) }
     ensures plan { IfOk result (λ r. (ks : List U.Key) → step.now.outcome ≡ Wanting ks → IsPlan U.Key.eq U.meaning step.now.job.name.version owed step.now.job ks tasks.new desk.new graph.now cells.now r.1) }
     ensures still { IfOk result (λ r. IfEnds r.1 ((tasks.new ≡ tasks.old) × (desk.new ≡ desk.old))) }
-    ensures next { IfOk result (λ r. (ks : List U.Key) → step.now.outcome ≡ Wanting ks → AsksNext U.Key.eq U.meaning step.now.job.name.version step.now.job.name.key (doing step.now.job.work) step.now.job.answered (IsWaiting ks)) }
+    ensures next { IfOk result (λ r. (ks : List U.Key) → step.now.outcome ≡ Wanting ks → AsksNext U.Key.eq U.meaning step.now.job.name.version step.now.job.name.key step.now.job.work step.now.job.answered (IsWaiting ks)) }
 {
     laws_of::<U>();
     let assignment = step.assignment();

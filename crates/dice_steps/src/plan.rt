@@ -4,7 +4,6 @@ ghost use Rattle.std.specs.Arc.{arc_value};
 ghost use Rattle.std.specs.List.{list_any, AllZip};
 ghost use Rattle.std.specs.Option.{option_map};
 ghost use Rattle.dice_key.specs.declared.universe.Kind.TheVariants.{Injected};
-ghost use Rattle.dice_model.specs.Log.{Has};
 ghost use Rattle.task_share.specs.Asked.{Leads};
 ghost use Rattle.task_share.specs.Seen.{task_at, asked_of, has_place, asker_room, wait_room, KeepsTasks, KeepsAsks, KeepsRoom};
 ghost use Rattle.versioned_graph.specs.Entries.{entry_at};
@@ -12,10 +11,11 @@ ghost use Rattle.versioned_graph.specs.Looks.{Matches, look};
 ghost use Rattle.core_laws.specs.Tasks.{value_of};
 ghost use Rattle.core_laws.specs.Desk.{World};
 ghost use Rattle.dice_steps.specs.AtHand.{AtHand};
-ghost use Rattle.dice_tasks.specs.Circles.{path_with};
+ghost use Rattle.dice_tasks.specs.CyclePaths.{path_with};
 ghost use Rattle.dice_tasks.specs.Hands.{KeepsHands, KeepsDeskRoom, tasks_of};
 ghost use Rattle.dice_steps.specs.Plans.{key_in, waits_of, is_awaited, IsAtHand, HasNone, IsPart, IsSurvey, ArePlaced, IsPlan, IfEnds};
 ghost use Rattle.dice_steps.specs.Taken.{HasNoPath, IsPathAt};
+ghost use Rattle.lists.specs.Lists.{Has};
 
 use crate::noted::note;
 use cycle_guard::would_close;
@@ -40,8 +40,8 @@ pub(crate) struct Part<U: Universe> {
 /// What the keys of a batch come to.
 #[derive(Drop)]
 pub(crate) enum Survey<U: Universe> {
-    /// A circle: a wait for one of them would close it, or the task of one has ended with it.
-    Circle(Arc<Path<U::Key>>),
+    /// A cycle: a wait for one of them would close it, or the task of one has ended with it.
+    Cycle(Arc<Path<U::Key>>),
     /// A part for each key that is not injected, the last first.
     Parts(Vec<Part<U>>),
 }
@@ -49,7 +49,7 @@ pub(crate) enum Survey<U: Universe> {
 /// What a batch comes to, with all the memory that it takes.
 #[derive(Drop)]
 pub(crate) enum Plan<U: Universe> {
-    /// The task that asks it ends with this circle, of which it has its own copy.
+    /// The task that asks it ends with this cycle, of which it has its own copy.
     Ends(Arc<Path<U::Key>>, Arc<Path<U::Key>>),
     /// Where these are made, all keys have values, and the task goes on.
     GoesOn(Vec<Part<U>>, Next<U>),
@@ -87,7 +87,7 @@ pub(crate) fn plan_batch<U: Universe>(
     let own = name.key();
     let born = told_so_far::<U>(desk);
     let parts = match look_over::<U>(alloc, universe, graph, tasks, version, own, batch, born)? {
-        Survey::Circle(path) => {
+        Survey::Cycle(path) => {
             let own = Arc::try_clone(&path)?;
             return Ok(Plan::Ends(path, own));
         }
@@ -114,7 +114,7 @@ fn told_so_far<U: Universe>(desk: &Desk<U>) -> u64
     desk.journal().len() as u64
 }
 
-/// What the keys of a batch come to, in their order: where one comes to a circle the others are not looked at. It changes nothing.
+/// What the keys of a batch come to, in their order: where one comes to a cycle the others are not looked at. It changes nothing.
 fn look_over<U: Universe>(
     alloc: Global,
     universe: &U,
@@ -150,8 +150,8 @@ fn look_at<U: Universe>(
     if let Kind::Injected = universe.kind(key) {
         return Ok(Survey::Parts(parts));
     }
-    if let Some(path) = circle_at::<U>(alloc, tasks, own, key)? {
-        return Ok(Survey::Circle(path));
+    if let Some(path) = cycle_at::<U>(alloc, tasks, own, key)? {
+        return Ok(Survey::Cycle(path));
     }
     let part = part_of::<U>(alloc, graph, tasks, version, key, born)?;
     parts.push(part)?;
@@ -178,8 +178,8 @@ fn look_over_all<U: Universe>(
         if !is_new::<U>(universe, &mut seen, key)? {
             continue;
         }
-        if let Some(path) = circle_at::<U>(alloc, tasks, own, key)? {
-            return Ok(Survey::Circle(path));
+        if let Some(path) = cycle_at::<U>(alloc, tasks, own, key)? {
+            return Ok(Survey::Cycle(path));
         }
         let part = part_of::<U>(alloc, graph, tasks, version, key, born)?;
         parts.push(part)?;
@@ -204,9 +204,9 @@ fn is_new<U: Universe>(
     }
 }
 
-/// The circle to which a wait of the task of `own` for a key comes: that which it would close, or with which the key's task has
+/// The cycle to which a wait of the task of `own` for a key comes: that which it would close, or with which the key's task has
 /// ended.
-fn circle_at<U: Universe>(
+fn cycle_at<U: Universe>(
     alloc: Global,
     tasks: &Tasks<U>,
     own: &KeyRef<U>,
@@ -219,23 +219,23 @@ fn circle_at<U: Universe>(
     if let Some(path) = would_close(alloc, tasks, own, key)? {
         return Ok(Some(Arc::new(alloc, path)?));
     }
-    match ended_circle::<U>(tasks, key) {
+    match ended_by_cycle::<U>(tasks, key) {
         Some(path) => Ok(Some(Arc::try_clone(path)?)),
         None => Ok(None),
     }
 }
 
-/// The circle with which the task of a key has ended, where it has.
-fn ended_circle<'a, U: Universe>(
+/// The cycle with which the task of a key has ended, where it has.
+fn ended_by_cycle<'a, U: Universe>(
     tasks: &'a Tasks<U>,
     key: &KeyRef<U>,
 ) -> Option<&'a Arc<Path<U::Key>>>
     ensures { option_map (λ p. arc_value p.now) result ≡ path_with (task_at U.Key.eq tasks.now (arc_value key.now)) }
 {
-    tasks.task(key)?.circle()
+    tasks.task(key)?.cycle()
 }
 
-/// What is planned of a key that is not injected, and whose task has not ended with a circle.
+/// What is planned of a key that is not injected, and whose task has not ended with a cycle.
 fn part_of<U: Universe>(
     alloc: Global,
     graph: &Graph<U>,

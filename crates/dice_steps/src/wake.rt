@@ -1,7 +1,6 @@
 //! Tasks that go on, since the last key that they waited for has a value.
 ghost use Rattle.std.specs.Prelude.{◌≡◌, ◌<◌, ◌≤◌, ◌∷◌, ℕ, List, length, reverse, false, Some, IfOk};
 ghost use Rattle.std.specs.Arc.{arc_value};
-ghost use Rattle.dice_model.specs.Log.{Has};
 ghost use Rattle.task_share.specs.Asked.{Tasked};
 ghost use Rattle.task_share.specs.Seen.{task_at, asks};
 ghost use Rattle.core_laws.specs.Tasks.{IsReady};
@@ -11,6 +10,7 @@ ghost use Rattle.dice_tasks.specs.Endings.{AreTasked};
 ghost use Rattle.dice_tasks.specs.Hands.{Working};
 ghost use Rattle.dice_tasks.specs.Waitings.{IsTurned, WakesOne, MayWake};
 ghost use Rattle.dice_steps.specs.Wokens.{WakesSo};
+ghost use Rattle.lists.specs.Lists.{Has};
 
 use dice_key::{KeyRef, NoMemory, Universe, laws_of};
 use dice_tasks::{Desk, Next, ReadyTask, Tasks};

@@ -2,20 +2,21 @@
 use Rattle.std.proofs.Common.{◌≡◌, ◌⊎◌, inl, inr, ◌+◌, ◌-◌, ℕ, Bool, true, false, cond, not, ◌&&◌, List, [], ◌∷◌, ◌++◌, map, Option, Some, None, refl, sym, ap, ◌∙◌, subst, arith, append_assoc}
 use Rattle.std.proofs.lemmas.List.{map-append}
 use Rattle.dice_key.specs.Lawful.{IsEquality}
-use Rattle.dice_model.specs.Log.{Has, AreDistinct}
 use Rattle.task_share.specs.Asked.{By, Promised, Tasked, is_by}
 use Rattle.task_share.specs.Seen.{Share, task_at, is_live, asks}
 use Rattle.journal.specs.declared.event.Told.{Told}
 use Rattle.core_laws.specs.Tasks.{Outcome, goes_on}
-use Rattle.core_laws.proofs.Counts.{has_append, has_front, has_last}
-use Rattle.core_laws.proofs.Shapes.{both_parts, not_both}
+use Rattle.core_laws.proofs.Shapes.{not_both}
 use Rattle.dice_tasks.specs.Helds.{Held, held_ended}
 use Rattle.dice_tasks.specs.Hands.{DeskSeen, with_event, with_ended, with_told_next}
 use Rattle.dice_tasks.specs.Endings.{EndsTask, ListsEnd, ComesOf, told_end, EndsAsker, HasTold, EndsTasks, EndWithAskers, ends_so}
 use Rattle.dice_tasks.proofs.EndsLemmas.{quits_keeps}
 use Rattle.dice_tasks.proofs.CascadeLemmas.{quits_room}
 use Rattle.dice_tasks.proofs.TellLemmas.{told_events, told_ended}
-use Rattle.dice_tasks.proofs.Lists.{distinct_added}
+use Rattle.lists.proofs.Distinct.{distinct_end}
+use Rattle.lists.proofs.Members.{has_end, has_last, has_more}
+use Rattle.lists.specs.Lists.{AreDistinct, Has}
+use Rattle.std.proofs.lemmas.Bool.{and_parts}
 
 module _ {K V : Type 0} (eq : K → K → Bool) (equality : IsEquality eq) (v : ℕ) where
   lists_events : (k : K) (h : Held K V) (o : Outcome K V) (x : Told K V) (ps qs : List (K × Share K (Held K V))) (d e : DeskSeen K V) → ListsEnd eq v k h o x ps qs d e → e.events ≡ d.events ++ x ∷ []
@@ -44,7 +45,7 @@ module _ {K V : Type 0} (eq : K → K → Bool) (equality : IsEquality eq) (v : 
       by_test false i = refl
 
   ends_fewer : (k : K) (h : Held K V) (o : Outcome K V) (ps qs : List (K × Share K (Held K V))) (d e : DeskSeen K V) → EndsTask eq v k h o ps qs d e → (q : K) (a : By K) → asks eq qs q a ≡ true → asks eq ps q a ≡ true
-  ends_fewer k h o ps qs d e ends q a i = (both_parts (asks eq ps q a) (not (is_by eq (Tasked k) a)) (sym (ends.asks q a) ∙ i)).0
+  ends_fewer k h o ps qs d e ends q a i = (and_parts (asks eq ps q a) (not (is_by eq (Tasked k) a)) (sym (ends.asks q a) ∙ i)).0
 
   ends_promises : (k : K) (h : Held K V) (o : Outcome K V) (ps qs : List (K × Share K (Held K V))) (d e : DeskSeen K V) → EndsTask eq v k h o ps qs d e → (q : K) (n : ℕ) → asks eq qs q (Promised n) ≡ asks eq ps q (Promised n)
   ends_promises k h o ps qs d e ends q n = ends.asks q (Promised n) ∙ and_true (asks eq ps q (Promised n))
@@ -105,27 +106,27 @@ module _ {K V : Type 0} (eq : K → K → Bool) (equality : IsEquality eq) (v : 
       pub all_more : (a : EndsAsker eq v path qs rs e f) → ((o : Outcome K V) × Has es (a.key, o)) → EndsTasks eq v path k (es ++ (a.asker, a.came) ∷ []) ps rs d f
       all_more a there = record {
         events = lists_events a.asker a.held a.came (told_end v a.asker a.came) qs rs e f a.ends ∙ (ap (λ xs. xs ++ told_end v a.asker a.came ∷ []) all.events ∙ (append_assoc d.events (map tell es) (told_end v a.asker a.came ∷ []) ∙ ap (λ xs. d.events ++ xs) (sym (map-append tell es ((a.asker, a.came) ∷ [])))));
-        first = (all.first.0, has_front es (a.asker, a.came) (k, all.first.0) all.first.1);
-        comes = λ p i. elim (has_append es (a.asker, a.came) p i) as (λ _. ComesOf path p.1) [ inl j ↦ all.comes p j | inr j ↦ subst (λ (z : K × Outcome K V). ComesOf path z.1) j a.comes ];
-        asked = λ p i. elim (has_append es (a.asker, a.came) p i) as (λ _. (p.0 ≡ k) ⊎ ((q : K × Outcome K V) × Has (es ++ (a.asker, a.came) ∷ []) q × (asks eq ps q.0 (Tasked p.0) ≡ true))) [
-          | inl j ↦ elim (all.asked p j) as (λ _. (p.0 ≡ k) ⊎ ((q : K × Outcome K V) × Has (es ++ (a.asker, a.came) ∷ []) q × (asks eq ps q.0 (Tasked p.0) ≡ true))) [ inl s ↦ inl s | inr w ↦ inr (w.0, has_front es (a.asker, a.came) w.0 w.1, w.2) ]
-          | inr j ↦ inr ((a.key, there.0), has_front es (a.asker, a.came) (a.key, there.0) there.1, subst (λ (z : K × Outcome K V). asks eq ps a.key (Tasked z.0) ≡ true) j (all.fewer a.key (Tasked a.asker) a.asks))
+        first = (all.first.0, has_more es (a.asker, a.came) (k, all.first.0) all.first.1);
+        comes = λ p i. elim (has_end es (a.asker, a.came) p i) as (λ _. ComesOf path p.1) [ inl j ↦ all.comes p j | inr j ↦ subst (λ (z : K × Outcome K V). ComesOf path z.1) j a.comes ];
+        asked = λ p i. elim (has_end es (a.asker, a.came) p i) as (λ _. (p.0 ≡ k) ⊎ ((q : K × Outcome K V) × Has (es ++ (a.asker, a.came) ∷ []) q × (asks eq ps q.0 (Tasked p.0) ≡ true))) [
+          | inl j ↦ elim (all.asked p j) as (λ _. (p.0 ≡ k) ⊎ ((q : K × Outcome K V) × Has (es ++ (a.asker, a.came) ∷ []) q × (asks eq ps q.0 (Tasked p.0) ≡ true))) [ inl s ↦ inl s | inr w ↦ inr (w.0, has_more es (a.asker, a.came) w.0 w.1, w.2) ]
+          | inr j ↦ inr ((a.key, there.0), has_more es (a.asker, a.came) (a.key, there.0) there.1, subst (λ (z : K × Outcome K V). asks eq ps a.key (Tasked z.0) ≡ true) j (all.fewer a.key (Tasked a.asker) a.asks))
         ];
-        ended = λ p i. elim (has_append es (a.asker, a.came) p i) as (λ _. (g : Held K V) × (task_at eq ps p.0 ≡ Some g) × (goes_on g.standing ≡ true) × (task_at eq rs p.0 ≡ Some (held_ended g.name p.1))) [
+        ended = λ p i. elim (has_end es (a.asker, a.came) p i) as (λ _. (g : Held K V) × (task_at eq ps p.0 ≡ Some g) × (goes_on g.standing ≡ true) × (task_at eq rs p.0 ≡ Some (held_ended g.name p.1))) [
           | inl j ↦ (let w = all.ended p j in (w.0, w.1, w.2, ends_there a.asker a.held a.came qs rs e a.ends.tells.mid a.ends.tells.ends p.0 (λ s. new p j (sym s)) ∙ w.3))
           | inr j ↦ subst (λ (z : K × Outcome K V). (g : Held K V) × (task_at eq ps z.0 ≡ Some g) × (goes_on g.standing ≡ true) × (task_at eq rs z.0 ≡ Some (held_ended g.name z.1))) j
               (a.held, sym (all.others a.asker new) ∙ a.ends.tells.ends.was, a.ends.tells.ends.going, ends_here a.asker a.held a.came qs rs e a.ends.tells.mid a.ends.tells.ends)
         ];
-        others = λ q n. ends_there a.asker a.held a.came qs rs e a.ends.tells.mid a.ends.tells.ends q (n (a.asker, a.came) (has_last es (a.asker, a.came))) ∙ all.others q (λ p i. n p (has_front es (a.asker, a.came) p i));
+        others = λ q n. ends_there a.asker a.held a.came qs rs e a.ends.tells.mid a.ends.tells.ends q (n (a.asker, a.came) (has_end es (a.asker, a.came))) ∙ all.others q (λ p i. n p (has_more es (a.asker, a.came) p i));
         fewer = λ q b i. all.fewer q b (ends_fewer a.asker a.held a.came qs rs e a.ends.tells.mid a.ends.tells.ends q b i);
         promises = λ q n. ends_promises a.asker a.held a.came qs rs e a.ends.tells.mid a.ends.tells.ends q n ∙ all.promises q n;
         stays = λ q j on. elim (all.stays q j on) as (λ _. (asks eq rs q (Tasked j) ≡ true) ⊎ ((o : Outcome K V) × Has (es ++ (a.asker, a.came) ∷ []) (j, o))) [
-          | inl i ↦ elim (ends_stays a.asker a.held a.came qs rs e a.ends.tells.mid a.ends.tells.ends q j i) as (λ _. (asks eq rs q (Tasked j) ≡ true) ⊎ ((o : Outcome K V) × Has (es ++ (a.asker, a.came) ∷ []) (j, o))) [ inl s ↦ inl s | inr s ↦ inr (a.came, subst (λ z. Has (es ++ (a.asker, a.came) ∷ []) (z, a.came)) s (has_last es (a.asker, a.came))) ]
-          | inr w ↦ inr (w.0, has_front es (a.asker, a.came) (j, w.0) w.1)
+          | inl i ↦ elim (ends_stays a.asker a.held a.came qs rs e a.ends.tells.mid a.ends.tells.ends q j i) as (λ _. (asks eq rs q (Tasked j) ≡ true) ⊎ ((o : Outcome K V) × Has (es ++ (a.asker, a.came) ∷ []) (j, o))) [ inl s ↦ inl s | inr s ↦ inr (a.came, subst (λ z. Has (es ++ (a.asker, a.came) ∷ []) (z, a.came)) s (has_end es (a.asker, a.came))) ]
+          | inr w ↦ inr (w.0, has_more es (a.asker, a.came) (j, w.0) w.1)
         ];
         distinct = subst AreDistinct (sym (map-append (λ (p : K × Outcome K V). p.0) es ((a.asker, a.came) ∷ [])))
-            (distinct_added (map (λ (p : K × Outcome K V). p.0) es) a.asker all.distinct (λ h. (let r = key_ended es a.asker h in new r.0 r.1 r.2)));
-        idle = λ p i. elim (has_append es (a.asker, a.came) p i) as (λ _. is_live eq rs p.0 ≡ false) [
+            (distinct_end (map (λ (p : K × Outcome K V). p.0) es) a.asker all.distinct (λ h. (let r = key_ended es a.asker h in new r.0 r.1 r.2)));
+        idle = λ p i. elim (has_end es (a.asker, a.came) p i) as (λ _. is_live eq rs p.0 ≡ false) [
           | inl j ↦ ends_off a.asker a.held a.came qs rs e a.ends.tells.mid a.ends.tells.ends p.0 (all.idle p j)
           | inr j ↦ subst (λ (z : K × Outcome K V). is_live eq rs z.0 ≡ false) j (ends_idle a.asker a.held a.came qs rs e a.ends.tells.mid a.ends.tells.ends)
         ];
@@ -165,28 +166,28 @@ module _ {K V : Type 0} (eq : K → K → Bool) (equality : IsEquality eq) (v : 
 
       -- what is on the list then is among these
       pub listed_more : (a : EndsAsker eq v path qs rs e f) → ((q : K) → Has e.ended q → (o : Outcome K V) × Has es (q, o)) → (q : K) → Has f.ended q → (o : Outcome K V) × Has (es ++ (a.asker, a.came) ∷ []) (q, o)
-      listed_more a among q i = elim (has_append e.ended a.asker q (subst (λ xs. Has xs q) ended i)) as (λ _. (o : Outcome K V) × Has (es ++ (a.asker, a.came) ∷ []) (q, o)) [
-        | inl j ↦ (let w = among q j in (w.0, has_front es (a.asker, a.came) (q, w.0) w.1))
-        | inr j ↦ (a.came, subst (λ z. Has (es ++ (a.asker, a.came) ∷ []) (z, a.came)) j (has_last es (a.asker, a.came)))
+      listed_more a among q i = elim (has_end e.ended a.asker q (subst (λ xs. Has xs q) ended i)) as (λ _. (o : Outcome K V) × Has (es ++ (a.asker, a.came) ∷ []) (q, o)) [
+        | inl j ↦ (let w = among q j in (w.0, has_more es (a.asker, a.came) (q, w.0) w.1))
+        | inr j ↦ (a.came, subst (λ z. Has (es ++ (a.asker, a.came) ∷ []) (z, a.came)) j (has_end es (a.asker, a.came)))
       ]
         where
           ended : f.ended ≡ e.ended ++ a.asker ∷ []
           ended = ap (λ (y : DeskSeen K V). y.ended) a.ends.desk ∙ ap (λ xs. xs ++ a.asker ∷ []) (told_ended eq v a.asker a.held a.came (told_end v a.asker a.came) qs rs e a.ends.mid a.ends.tells)
 
       pub listed_told : HasTold eq qs rs e f → ((q : K) → Has e.ended q → (o : Outcome K V) × Has es (q, o)) → (q : K) → Has f.ended q → (o : Outcome K V) × Has es (q, o)
-      listed_told t among q i = among q (subst (λ xs. Has xs q) (ap (λ (y : DeskSeen K V). y.ended) (sym t.desk)) (has_front f.ended t.key q i))
+      listed_told t among q i = among q (subst (λ xs. Has xs q) (ap (λ (y : DeskSeen K V). y.ended) (sym t.desk)) (has_more f.ended t.key q i))
 
       -- of each of these the askers are still to be told, or there are none
       abbrev pub AreTold : List (K × Outcome K V) → List (K × Share K (Held K V)) → DeskSeen K V → Type 0
       AreTold xs ts g = (q : K) (o : Outcome K V) → Has xs (q, o) → Has g.ended q ⊎ ((j : K) → asks eq ts q (Tasked j) ≡ false)
 
       pub untold_more : (a : EndsAsker eq v path qs rs e f) → AreTold es qs e → AreTold (es ++ (a.asker, a.came) ∷ []) rs f
-      untold_more a told q o i = elim (has_append es (a.asker, a.came) (q, o) i) as (λ _. Has f.ended q ⊎ ((j : K) → asks eq rs q (Tasked j) ≡ false)) [
+      untold_more a told q o i = elim (has_end es (a.asker, a.came) (q, o) i) as (λ _. Has f.ended q ⊎ ((j : K) → asks eq rs q (Tasked j) ≡ false)) [
         | inl h ↦ elim (told q o h) as (λ _. Has f.ended q ⊎ ((j : K) → asks eq rs q (Tasked j) ≡ false)) [
-          | inl l ↦ inl (subst (λ xs. Has xs q) (sym ended) (has_front e.ended a.asker q l))
+          | inl l ↦ inl (subst (λ xs. Has xs q) (sym ended) (has_more e.ended a.asker q l))
           | inr n ↦ inr (λ j. a.ends.tells.ends.asks q (Tasked j) ∙ ap (λ b. b && not (eq a.asker j)) (n j))
         ]
-        | inr h ↦ inl (subst (λ xs. Has xs q) (sym ended) (subst (λ z. Has (e.ended ++ a.asker ∷ []) z) (ap (λ (z : K × Outcome K V). z.0) h) (has_last e.ended a.asker)))
+        | inr h ↦ inl (subst (λ xs. Has xs q) (sym ended) (subst (λ z. Has (e.ended ++ a.asker ∷ []) z) (ap (λ (z : K × Outcome K V). z.0) h) (has_end e.ended a.asker)))
       ]
         where
           ended : f.ended ≡ e.ended ++ a.asker ∷ []
@@ -194,7 +195,7 @@ module _ {K V : Type 0} (eq : K → K → Bool) (equality : IsEquality eq) (v : 
 
       pub untold_told : (t : HasTold eq qs rs e f) → AreTold es qs e → AreTold es rs f
       untold_told t told q o i = elim (told q o i) as (λ _. Has f.ended q ⊎ ((j : K) → asks eq rs q (Tasked j) ≡ false)) [
-        | inl l ↦ elim (has_append f.ended t.key q (subst (λ xs. Has xs q) (ap (λ (y : DeskSeen K V). y.ended) t.desk) l)) as (λ _. Has f.ended q ⊎ ((j : K) → asks eq rs q (Tasked j) ≡ false)) [
+        | inl l ↦ elim (has_end f.ended t.key q (subst (λ xs. Has xs q) (ap (λ (y : DeskSeen K V). y.ended) t.desk) l)) as (λ _. Has f.ended q ⊎ ((j : K) → asks eq rs q (Tasked j) ≡ false)) [
           | inl h ↦ inl h
           | inr h ↦ inr (λ j. t.asks q (Tasked j) ∙ subst (λ z. asks eq qs z (Tasked j) ≡ false) h (t.none j))
         ]
@@ -213,7 +214,7 @@ module _ {K V : Type 0} (eq : K → K → Bool) (equality : IsEquality eq) (v : 
 
     -- the first on the list
     pub listed_first : (k : K) (h : Held K V) (o : Outcome K V) (ps qs : List (K × Share K (Held K V))) (d e : DeskSeen K V) → ListsEnd eq v k h o (told_end v k o) ps qs d e → d.ended ≡ [] → (q : K) → Has e.ended q → (r : Outcome K V) × Has {X = K × Outcome K V} ((k, o) ∷ []) (q, r)
-    listed_first k h o ps qs d e l none q i = elim (has_append [] k q (subst (λ xs. Has xs q) ended i)) as (λ _. (r : Outcome K V) × Has {X = K × Outcome K V} ((k, o) ∷ []) (q, r)) [
+    listed_first k h o ps qs d e l none q i = elim (has_end [] k q (subst (λ xs. Has xs q) ended i)) as (λ _. (r : Outcome K V) × Has {X = K × Outcome K V} ((k, o) ∷ []) (q, r)) [
       | inl j ↦ absurd j
       | inr j ↦ (o, inl (λ z. (j z, o)))
     ]
@@ -223,7 +224,7 @@ module _ {K V : Type 0} (eq : K → K → Bool) (equality : IsEquality eq) (v : 
 
     pub untold_first : (k : K) (h : Held K V) (o : Outcome K V) (ps qs : List (K × Share K (Held K V))) (d e : DeskSeen K V) → ListsEnd eq v k h o (told_end v k o) ps qs d e → (q : K) (r : Outcome K V) → Has {X = K × Outcome K V} ((k, o) ∷ []) (q, r) → Has e.ended q ⊎ ((j : K) → asks eq qs q (Tasked j) ≡ false)
     untold_first k h o ps qs d e l q r i = elim i as (λ _. Has e.ended q ⊎ ((j : K) → asks eq qs q (Tasked j) ≡ false)) [
-      | inl j ↦ inl (subst (λ xs. Has xs q) (sym ended) (subst (λ z. Has (d.ended ++ k ∷ []) z) (ap (λ (z : K × Outcome K V). z.0) j) (has_last d.ended k)))
+      | inl j ↦ inl (subst (λ xs. Has xs q) (sym ended) (subst (λ z. Has (d.ended ++ k ∷ []) z) (ap (λ (z : K × Outcome K V). z.0) j) (has_end d.ended k)))
       | inr n ↦ absurd n
     ]
       where

@@ -4,7 +4,6 @@ use Rattle.std.specs.Prelude.{IfSome, IfNone}
 use Rattle.std.specs.Option.{option_map}
 use Rattle.dice_key.specs.Lawful.{IsEquality, IsLawful}
 use Rattle.dice_key.specs.Meaning.{Meaning}
-use Rattle.dice_model.specs.Log.{Has}
 use Rattle.dice_jobs.specs.Jobs.{Assigned}
 use Rattle.task_share.specs.Seen.{Share, task_at}
 use Rattle.task_share.specs.Lent.{WritesTask}
@@ -14,8 +13,9 @@ use Rattle.dice_tasks.specs.Helds.{Held, held_of, task_of}
 use Rattle.dice_tasks.specs.Hands.{DeskSeen, place_at, Returns, Working}
 use Rattle.dice_tasks.specs.Endings.{Knows}
 use Rattle.dice_tasks.specs.Waitings.{KeepsTable, IsTurned, ReturnsJob}
-use Rattle.dice_tasks.proofs.Lists.{has_right}
 use Rattle.dice_tasks.proofs.WaitLemmas.{turned_by, table_kept, back_on}
+use Rattle.lists.proofs.Members.{has_right}
+use Rattle.lists.specs.Lists.{Has}
 
 module _ {K V : Type 0} (eq : K → K → Bool) (equality : IsEquality eq) where
   -- the task was written as it was

@@ -4,14 +4,14 @@ use Rattle.std.specs.Prelude.{IfSome, IfNone}
 use Rattle.std.specs.Option.{option_copied, option_map}
 use Rattle.std.proofs.lemmas.Option.{slice_get-map}
 use Rattle.std.proofs.lemmas.List.{length-map, length-take-le, take_more, map-append}
-use Rattle.dice_model.specs.Log.{Has, AreDistinct}
 use Rattle.core_laws.specs.Desk.{Loses}
 use Rattle.dice_tasks.specs.declared.shelf.ReadyTask.{ReadyTask}
 use Rattle.dice_tasks.specs.Hands.{DeskSeen, place_at, Gains, Stays, Takes, Unreadies}
 use Rattle.dice_tasks.specs.Shelves.{place_of, ready_of, out_of, IsLaid}
 use Rattle.dice_tasks.proofs.Laid.{found_at}
-use Rattle.dice_tasks.proofs.Lists.{has_either}
 use Rattle.dice_tasks.proofs.Parts.{goes_out, parts}
+use Rattle.lists.proofs.Members.{has_either}
+use Rattle.lists.specs.Lists.{AreDistinct, Has}
 
 module _ {K : Type 0} where
   -- so many are ready

@@ -8,7 +8,7 @@ use Rattle.task_share.specs.Lent.{WritesTask}
 use Rattle.journal.specs.declared.event.Told.{Told}
 use Rattle.journal.specs.declared.event.Told.TheVariants.{Start}
 use Rattle.journal.specs.declared.event.Reason.TheVariants.{Differs}
-use Rattle.core_laws.specs.Tasks.{IsReady, IsOut, Works, Computes, Checks, Task, goes_on, is_going}
+use Rattle.core_laws.specs.Tasks.{IsReady, IsOut, Works, Task, goes_on, is_going}
 use Rattle.core_laws.specs.Changes.{Puts, ChangesFirst}
 use Rattle.core_laws.specs.Desk.{World, DeskTurns, Stand}
 use Rattle.core_laws.proofs.StepsEnds.{differs_stand}
@@ -17,6 +17,7 @@ use Rattle.dice_tasks.specs.Helds.{Held, task_of}
 use Rattle.dice_tasks.specs.Hands.{DeskSeen, desk_of, tasks_of, seen_world, with_event, Returns, Working}
 use Rattle.dice_tasks.specs.Endings.{Quits, Knows, BeginsAnew}
 use Rattle.dice_tasks.proofs.EndsLemmas.{back_more, outs_after, puts_of, named_put, working_knows}
+use Rattle.dice_jobs.specs.Jobs.{Checks, Computes}
 
 -- a task that computes from the beginning
 abbrev pub anew : {K V : Type 0} → Held K V → Held K V

@@ -11,7 +11,7 @@ use Rattle.journal.specs.declared.event.Told.{Told}
 use Rattle.journal.specs.declared.event.Told.TheVariants.{Keep, End, Cyclic, Lost}
 use Rattle.journal.specs.Events.{commits_of}
 use Rattle.journal.specs.Law.{IsWanted}
-use Rattle.core_laws.specs.Tasks.{IsOut, Outcome, WithValue, WithCycle, WithNothing, Works, Ended, Computes, Checks, Task, goes_on, is_going}
+use Rattle.core_laws.specs.Tasks.{IsOut, Outcome, WithValue, WithCycle, WithNothing, Works, Ended, Task, goes_on, is_going}
 use Rattle.core_laws.specs.Stands.{CycleStands}
 use Rattle.core_laws.specs.Changes.{Puts, Lives, Withdraws}
 use Rattle.core_laws.specs.Desk.{World, DeskTurns, Stand, is_ready, is_out}
@@ -21,7 +21,8 @@ use Rattle.dice_tasks.specs.Helds.{Held, task_of, held_ended}
 use Rattle.dice_tasks.specs.Hands.{DeskSeen, desk_of, tasks_of, seen_world, with_event, with_ended, with_told_next, KeepsDesk, Working}
 use Rattle.dice_tasks.specs.Endings.{Quits, Knows, EndsTask, TellsEnd, ListsEnd}
 use Rattle.dice_tasks.proofs.EndsLemmas.{back_more, quits_keeps, quits_turns, outs_after, puts_of, named_put, working_knows}
-use Rattle.core_laws.proofs.Shapes.{both_parts}
+use Rattle.std.proofs.lemmas.Bool.{and_parts}
+use Rattle.dice_jobs.specs.Jobs.{Checks, Computes}
 
 -- ---- how a task ends in code
 
@@ -70,7 +71,7 @@ module _ {K V : Type 0} (eq : K → K → Bool) (equality : IsEquality eq) (v : 
       going = λ q. tasks.live q ∙ (known.going q ∙ ap (λ (x : Option (Held K V)). is_going (option_map task_of x)) (sym (tasks.tasks q)));
       room = known.room;
       named = λ q h e. known.named q h (sym (tasks.tasks q) ∙ e);
-      askers = λ q i e. tasks.live i ∙ known.askers q i (both_parts (asks eq ps q (Tasked i)) (not (eq k q && is_by eq (Tasked j) (Tasked i))) (sym (fewer q (Tasked i)) ∙ e)).0;
+      askers = λ q i e. tasks.live i ∙ known.askers q i (and_parts (asks eq ps q (Tasked i)) (not (eq k q && is_by eq (Tasked j) (Tasked i))) (sym (fewer q (Tasked i)) ∙ e)).0;
     }
 
     -- what an asker ends with, seen from before it was taken

@@ -3,7 +3,7 @@ use Rattle.std.proofs.Common.{◌≡◌, ◌≤◌, ◌⊎◌, inl, inr, ℕ, Bo
 use Rattle.std.specs.Option.{option_map}
 use Rattle.std.specs.List.{AllByRecursion}
 use Rattle.std.proofs.lemmas.List.{append-nil, append_assoc, reverse-append}
-use Rattle.std.proofs.lemmas.Bool.{both_ways, and_from, or_left, or_right, cases_lt}
+use Rattle.std.proofs.lemmas.Bool.{both_ways, and_from, or_left, or_right, cases_lt, and_parts, or_cases}
 use Rattle.std.proofs.lemmas.Option.{none-some, same_Some}
 use Rattle.dice_key.specs.Lawful.{IsEquality, AreSame}
 use Rattle.dice_key.specs.Meaning.{Meaning}
@@ -17,7 +17,6 @@ use Rattle.versioned_graph.specs.Entries.{Kept, Stored, entry_at, seen_at, cut_a
 use Rattle.versioned_graph.specs.Sound.{AreTrue}
 use Rattle.versioned_graph.specs.Edges.{IsCut}
 use Rattle.versioned_graph.proofs.CutLemmas.{cut_from, still_there}
-use Rattle.versioned_graph.proofs.Bools.{and_both, or_either}
 use Rattle.dice_tasks.specs.Entries.{LeavesEntries, Backed, EntriesStand}
 
 module _ {K V : Type 0} (eq : K → K → Bool) (m : Meaning K V) where
@@ -131,7 +130,7 @@ record Decides {K V : Type 0} (eq : K → K → Bool) (R S : List (Told K V)) (v
 
 module _ {K V : Type 0} (eq : K → K → Bool) (equality : IsEquality eq) (R : List (Told K V)) (v : ℕ) (k : K) where
   by_name : (b : ℕ) (q : K) → (names_by eq v k b q || is_base eq R b q) ≡ true → (eq k q ≡ true) ⊎ (is_base eq R b q ≡ true)
-  by_name b q e = elim (or_either (names_by eq v k b q) (is_base eq R b q) e) as (λ _. (eq k q ≡ true) ⊎ (is_base eq R b q ≡ true)) [ inl n ↦ inl (ap (λ j. eq k j) (equality.same q k (and_both (eqb v b) (eq q k) n).1) ∙ equality.itself k) | inr o ↦ inr o ]
+  by_name b q e = elim (or_cases (names_by eq v k b q) (is_base eq R b q) e) as (λ _. (eq k q ≡ true) ⊎ (is_base eq R b q ≡ true)) [ inl n ↦ inl (ap (λ j. eq k j) (equality.same q k (and_parts (eqb v b) (eq q k) n).1) ∙ equality.itself k) | inr o ↦ inr o ]
 
   named_here : (names_by eq v k v k || is_base eq R v k) ≡ true
   named_here = or_left (names_by eq v k v k) (is_base eq R v k) (and_from (eqb v v) (eq k k) (eq-eqb v v refl) (equality.itself k))
@@ -158,7 +157,7 @@ module _ {K V : Type 0} (eq : K → K → Bool) (m : Meaning K V) (S : List (Tol
       by_version false = p e refl
 
       by_first : (b : Bool) → (veq e.value n.value && not (m.is_transient e.value)) ≡ b → Backed eq m S k (cond b (joined m veq e n) (cond (nat_le e.version n.version) n e))
-      by_first true h = joined_backed e n (nat_le e.version n.version) (λ w. e.ranges w || n.ranges w) (same e.value n.value (and_both (veq e.value n.value) (not (m.is_transient e.value)) h).0) (p e refl) q
+      by_first true h = joined_backed e n (nat_le e.version n.version) (λ w. e.ranges w || n.ranges w) (same e.value n.value (and_parts (veq e.value n.value) (not (m.is_transient e.value)) h).0) (p e refl) q
       by_first false h = by_version (nat_le e.version n.version)
 
   -- and an entry that was seen at a base

@@ -11,13 +11,15 @@ use Rattle.std.proofs.lemmas.List.{drop_more}
 use Rattle.std.proofs.lemmas.List.Edits.{length-swap}
 use Rattle.std.proofs.lemmas.List.Sorted.{IsPermutation-swap_remove, length_permutation}
 use Rattle.dice_key.specs.Lawful.{IsEquality}
-use Rattle.dice_model.specs.Log.{Has, AreDistinct}
 use Rattle.core_laws.specs.Desk.{Loses}
 use Rattle.dice_tasks.specs.Hands.{Stays}
 use Rattle.dice_tasks.specs.declared.shelf.ReadyTask.{ReadyTask}
 use Rattle.dice_tasks.specs.Shelves.{place_of}
-use Rattle.dice_tasks.proofs.Lists.{distinct_right, loses_first, has_left, has_right}
+use Rattle.dice_tasks.proofs.Lists.{loses_first}
 use Rattle.dice_tasks.proofs.Parts.{goes_back, goes_away, goes_last, comes_first, stands_after, stands_before, none_there, parts}
+use Rattle.lists.proofs.Distinct.{distinct_right}
+use Rattle.lists.proofs.Members.{has_left, has_right}
+use Rattle.lists.specs.Lists.{AreDistinct, Has}
 
 one_fails : (a b : Bool) → (a ≡ true → ⊥) → b ≡ false → (a || b) ≡ false
 one_fails true b h e = absurd (h refl)

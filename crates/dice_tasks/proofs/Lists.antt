@@ -1,54 +1,12 @@
 -- Parts of lists whose elements stand once.
 use Rattle.std.proofs.Common.{◌⊎◌, inl, inr, List, [], ◌∷◌, ◌++◌, refl, sym, subst}
-use Rattle.dice_model.specs.Log.{Has, AreDistinct}
 use Rattle.core_laws.specs.Desk.{Loses}
 use Rattle.dice_tasks.specs.Hands.{Gains, Stays}
+use Rattle.lists.proofs.Distinct.{apart, distinct_both, distinct_end, distinct_left, distinct_right}
+use Rattle.lists.proofs.Members.{has_either, has_left, has_right}
+use Rattle.lists.specs.Lists.{AreDistinct, Has}
 
 module _ {X : Type 0} where
-  pub has_left : (A B : List X) (x : X) → Has A x → Has (A ++ B) x
-  has_left [] B x h = absurd h
-  has_left (a ∷ A) B x (inl e) = inl e
-  has_left (a ∷ A) B x (inr h) = inr (has_left A B x h)
-
-  pub has_right : (A B : List X) (x : X) → Has B x → Has (A ++ B) x
-  has_right [] B x h = h
-  has_right (a ∷ A) B x h = inr (has_right A B x h)
-
-  pub has_either : (A B : List X) (x : X) → Has (A ++ B) x → Has A x ⊎ Has B x
-  has_either [] B x h = inr h
-  has_either (a ∷ A) B x (inl e) = inl (inl e)
-  has_either (a ∷ A) B x (inr h) = elim (has_either A B x h) [ inl l ↦ inl (inr l) | inr r ↦ inr r ]
-
-  -- the second part of a list whose elements stand once
-  pub distinct_right : (A B : List X) → AreDistinct (A ++ B) → AreDistinct B
-  distinct_right [] B d = d
-  distinct_right (a ∷ A) B d = distinct_right A B d.1
-
-  pub distinct_left : (A B : List X) → AreDistinct (A ++ B) → AreDistinct A
-  distinct_left [] B d = tt
-  distinct_left (a ∷ A) B d = (λ h. d.0 (has_left A B a h), distinct_left A B d.1)
-
-  pub apart : (A B : List X) (x : X) → AreDistinct (A ++ B) → Has A x → Has B x → ⊥
-  apart [] B x d h k = h
-  apart (a ∷ A) B x d (inl e) k = d.0 (has_right A B a (subst (λ z. Has B z) (sym e) k))
-  apart (a ∷ A) B x d (inr h) k = apart A B x d.1 h k
-
-  -- one element more, at the end
-  pub distinct_added : (A : List X) (x : X) → AreDistinct A → (Has A x → ⊥) → AreDistinct (A ++ x ∷ [])
-  distinct_added [] x d n = ((λ h. h), tt)
-  distinct_added (a ∷ A) x d n = (
-    λ h. elim (has_either A (x ∷ []) a h) [ inl l ↦ d.0 l | inr r ↦ elim r [ inl q ↦ n (inl (sym q)) | inr z ↦ z ] ],
-    distinct_added A x d.1 (λ h. n (inr h)),
-  )
-
-  -- two lists without a common element
-  pub distinct_both : (A B : List X) → AreDistinct A → AreDistinct B → ((x : X) → Has A x → Has B x → ⊥) → AreDistinct (A ++ B)
-  distinct_both [] B d e n = e
-  distinct_both (a ∷ A) B d e n = (
-    λ h. elim (has_either A B a h) [ inl l ↦ d.0 l | inr r ↦ n a (inl refl) r ],
-    distinct_both A B d.1 e (λ x h k. n x (inr h) k),
-  )
-
   -- the same elements
   pub record Same (xs ys : List X) : Type 0 where
     pub there : (x : X) → Has xs x → Has ys x

@@ -6,7 +6,6 @@ use Rattle.std.proofs.lemmas.Option.{same_Some}
 use Rattle.std.proofs.lemmas.Bool.{false≢true}
 use Rattle.dice_key.specs.Meaning.{Meaning, Answered}
 use Rattle.dice_key.specs.Lawful.{IsLawful, IsEquality}
-use Rattle.dice_model.specs.Log.{Has}
 use Rattle.task_share.specs.Asked.{By, Promised, Tasked, is_by}
 use Rattle.task_share.specs.Seen.{Share, task_at, is_live, asks, asked_of, KeepsAsks, KeepsRoom, KeepsOtherRoom}
 use Rattle.journal.specs.declared.event.Told.{Told}
@@ -34,6 +33,7 @@ use Rattle.dice_tasks.proofs.EntriesLemmas.{stand_start}
 use Rattle.dice_tasks.specs.Makings.{IsFree, HasMakeRoom, MayMake, Makes, MakesEnded, IsMaking, IsMakingFor, held_run, held_check}
 use Rattle.dice_tasks.specs.declared.making.Making.{Making}
 use Rattle.dice_tasks.specs.declared.making.Making.TheVariants.{Join, Match, Run, Check}
+use Rattle.lists.specs.Lists.{Has}
 
 -- the same things pass the test, in another order
 all_stay : {X : Type 0} (f : X → Bool) (xs ys : List X) → Stays xs ys → AreAll f xs → AreAll f ys

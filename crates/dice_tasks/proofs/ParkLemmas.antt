@@ -2,7 +2,6 @@
 use Rattle.std.proofs.Common.{◌≡◌, ◌≤◌, ◌<◌, ◌⊎◌, inl, inr, ◌+◌, ℕ, suc, Bool, true, false, cond, ◌&&◌, ◌||◌, List, [], ◌∷◌, ◌++◌, length, refl, sym, ap, ◌∙◌, subst, arith, length-append}
 use Rattle.std.proofs.lemmas.List.Folds.{list_any-append}
 use Rattle.dice_key.specs.Lawful.{IsEquality}
-use Rattle.dice_model.specs.Log.{Has}
 use Rattle.dice_jobs.specs.Jobs.{Waits}
 use Rattle.task_share.specs.Asked.{By, Tasked, WaitOf, is_by}
 use Rattle.task_share.specs.Seen.{Share, asks, asker_room, wait_room, KeepsTasks, KeepsAsks, KeepsRoom, UsesRoomOf}
@@ -10,11 +9,9 @@ use Rattle.core_laws.specs.Tasks.{IsOut, IsWaiting}
 use Rattle.dice_tasks.specs.Helds.{Held, held_of}
 use Rattle.dice_tasks.specs.Hands.{DeskSeen, Leaves}
 use Rattle.dice_tasks.specs.Waitings.{IsTurned, HasRoomFor, waits_so, ParksJob}
-use Rattle.dice_tasks.proofs.Lists.{has_left, has_right}
-
-or_on : (a b : Bool) → b ≡ true → (a || b) ≡ true
-or_on true b e = refl
-or_on false b e = e
+use Rattle.lists.proofs.Members.{has_left, has_right, none_left}
+use Rattle.lists.specs.Lists.{Has}
+use Rattle.std.proofs.lemmas.Bool.{or_right}
 
 or_moved : (a b c : Bool) → ((a || b) || c) ≡ (a || (c || (b || false)))
 or_moved true b c = refl
@@ -22,11 +19,6 @@ or_moved false true true = refl
 or_moved false true false = refl
 or_moved false false true = refl
 or_moved false false false = refl
-
--- a list that is not longer than nothing
-pub none_left : {X : Type 0} (xs : List X) → (0 < length xs → ⊥) → xs ≡ []
-none_left [] f = refl
-none_left (x ∷ xs) f = absurd (f (let l : length (x ∷ xs) ≡ suc (length xs) = refl in omega arith))
 
 one_at_most : (b : Bool) → cond b 1 0 ≤ 1
 one_at_most true = omega arith
@@ -75,7 +67,7 @@ module _ {K V : Type 0} (eq : K → K → Bool) (equality : IsEquality eq) where
           by_test : (y : WaitOf K) → Has xs y → 0 < asker_room eq ps y.key → (b : Bool) → eq x.key y.key ≡ b → (asks eq qs y.key (Tasked y.asker) ≡ true) ⊎ (0 < asker_room eq qs y.key)
           by_test y i n true e =
               let s : eq x.asker y.asker ≡ true = subst (λ z. eq x.asker z ≡ true) (room.alike x y last_there (still y i)) (equality.itself x.asker) in
-              inl (asked y.key (Tasked y.asker) ∙ or_on (asks eq ps y.key (Tasked y.asker)) (eq x.key y.key && eq x.asker y.asker) (ap (λ c. c && eq x.asker y.asker) e ∙ s))
+              inl (asked y.key (Tasked y.asker) ∙ or_right (asks eq ps y.key (Tasked y.asker)) (eq x.key y.key && eq x.asker y.asker) (ap (λ c. c && eq x.asker y.asker) e ∙ s))
           by_test y i n false e =
               let r : asker_room eq ps y.key ≤ asker_room eq qs y.key + 0 = subst (λ c. asker_room eq ps y.key ≤ asker_room eq qs y.key + cond c 1 0) e (uses.askers y.key) in
               inr (omega arith)

@@ -11,10 +11,11 @@ use Rattle.std.proofs.lemmas.Option.{slice_get_cases}
 use Rattle.std.proofs.lemmas.List.Edits.{swap_is, length-swap}
 use Rattle.std.proofs.lemmas.List.Sorted.{IsPermutation-swap, IsPermutation-swap_remove, IsPermutation-map, IsPermutation-sym, Contains-permutation}
 use Rattle.std.proofs.lemmas.Map.Keys.{IsDistinct-head, IsDistinct-tail}
-use Rattle.dice_model.specs.Log.{Has, AreDistinct}
 use Rattle.core_laws.specs.Desk.{Loses}
 use Rattle.dice_tasks.specs.Hands.{Gains, Stays}
-use Rattle.dice_tasks.proofs.Lists.{Same, distinct_left, apart, moves_left, leaves_right, comes_between, loses_last, same_front, goes_over}
+use Rattle.dice_tasks.proofs.Lists.{Same, moves_left, leaves_right, comes_between, loses_last, same_front, goes_over}
+use Rattle.lists.proofs.Distinct.{apart, distinct_left}
+use Rattle.lists.specs.Lists.{AreDistinct, Has}
 
 module _ {X : Type 0} where
   has_get : (xs : List X) (i : ℕ) (d : X) → i < length xs → Has xs (get_or xs i d)

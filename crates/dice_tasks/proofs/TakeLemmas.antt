@@ -3,7 +3,6 @@ use Rattle.std.proofs.Common.{◌≡◌, ◌<◌, ◌+◌, inl, ℕ, Bool, true,
 use Rattle.std.specs.Prelude.{IfSome, IfNone}
 use Rattle.std.proofs.lemmas.Bool.{eq-eqb}
 use Rattle.dice_key.specs.Meaning.{Meaning}
-use Rattle.dice_model.specs.Log.{Has}
 use Rattle.dice_jobs.specs.Jobs.{Assigned}
 use Rattle.task_share.specs.Seen.{Share}
 use Rattle.core_laws.specs.Tasks.{IsReady, IsOut}
@@ -11,8 +10,9 @@ use Rattle.core_laws.specs.Desk.{World, is_ready}
 use Rattle.dice_tasks.specs.Helds.{Held, held_of}
 use Rattle.dice_tasks.specs.Hands.{DeskSeen, tasks_of, seen_world, Takes, Working}
 use Rattle.dice_tasks.specs.Waitings.{IsTurned, TakesJob}
-use Rattle.dice_tasks.proofs.Lists.{has_right}
 use Rattle.dice_tasks.proofs.EndedLemmas.{last_same}
+use Rattle.lists.proofs.Members.{has_right}
+use Rattle.lists.specs.Lists.{Has}
 
 -- what follows of each
 pub some_so : {X : Type 0} (o : Option X) (P Q : X → Type 0) → ((x : X) → P x → Q x) → IfSome o P → IfSome o Q

@@ -5,10 +5,10 @@ use Rattle.task_share.specs.Asked.{Tasked, is_by}
 use Rattle.task_share.specs.Seen.{Share, task_at, asks, KeepsTasks, KeepsAsks}
 use Rattle.journal.specs.declared.event.Told.{Told}
 use Rattle.core_laws.specs.Tasks.{Outcome}
-use Rattle.core_laws.proofs.Shapes.{both_parts}
 use Rattle.dice_tasks.specs.Helds.{Held, held_ended}
 use Rattle.dice_tasks.specs.Hands.{DeskSeen}
 use Rattle.dice_tasks.specs.Endings.{DropsTask, EndsTask, BeginsAnew, AreTasked}
+use Rattle.std.proofs.lemmas.Bool.{and_parts}
 
 module _ {K V : Type 0} (eq : K → K → Bool) where
   pub tasked_same : (ps qs : List (K × Share K (Held K V))) → KeepsTasks eq ps qs → KeepsAsks eq ps qs → AreTasked eq ps → AreTasked eq qs
@@ -25,7 +25,7 @@ module _ {K V : Type 0} (eq : K → K → Bool) where
 module _ {K V : Type 0} (eq : K → K → Bool) (equality : IsEquality eq) (v : ℕ) where
   pub tasked_drop : (k : K) (h : Held K V) (ps qs : List (K × Share K (Held K V))) (d e : DeskSeen K V) → DropsTask eq v k h ps qs d e → AreTasked eq ps → AreTasked eq qs
   tasked_drop k h ps qs d e drops tasked q b asked =
-      let f = (both_parts (asks eq ps q b) (not (is_by eq (Tasked k) b)) (sym (drops.takes.asks q b) ∙ asked)).0 in
+      let f = (and_parts (asks eq ps q b) (not (is_by eq (Tasked k) b)) (sym (drops.takes.asks q b) ∙ asked)).0 in
       let r = tasked q b f in
       by_test f r.0 r.1 (eq k q) refl (drops.tasks q)
     where
@@ -38,7 +38,7 @@ module _ {K V : Type 0} (eq : K → K → Bool) (equality : IsEquality eq) (v : 
 
   pub tasked_end : (k : K) (h : Held K V) (o : Outcome K V) (ps qs : List (K × Share K (Held K V))) (d e : DeskSeen K V) → EndsTask eq v k h o ps qs d e → AreTasked eq ps → AreTasked eq qs
   tasked_end k h o ps qs d e ends tasked q b asked =
-      let r = tasked q b (both_parts (asks eq ps q b) (not (is_by eq (Tasked k) b)) (sym (ends.asks q b) ∙ asked)).0 in
+      let r = tasked q b (and_parts (asks eq ps q b) (not (is_by eq (Tasked k) b)) (sym (ends.asks q b) ∙ asked)).0 in
       put_there eq k (held_ended h.name o) ps qs ends.tasks q r.0 r.1
 
   pub tasked_anew : (k : K) (h g : Held K V) (x : Told K V) (ps qs : List (K × Share K (Held K V))) (d e : DeskSeen K V) → BeginsAnew eq v k h g x ps qs d e → AreTasked eq ps → AreTasked eq qs

@@ -5,13 +5,12 @@ use Rattle.std.proofs.lemmas.Option.{none-some, same_Some}
 use Rattle.std.proofs.lemmas.Bool.{false≢true}
 use Rattle.dice_jobs.specs.Jobs.{Name, Assigned, Waits, Work, Computes, Checks, answered_more}
 use Rattle.core_laws.specs.Tasks.{Phase, IsReady, IsOut, IsWaiting, Standing, Works, goes_on}
-use Rattle.core_laws.specs.Tasks.{Computes as DoesCompute, Checks as DoesCheck}
 use Rattle.task_state.specs.declared.state.Stage.{Stage}
 use Rattle.task_state.specs.declared.state.Stage.TheVariants.{Ready, Out, Waiting}
 use Rattle.task_state.specs.declared.state.TaskState.{TaskState}
 use Rattle.task_state.specs.declared.state.TaskState.TheVariants as state
 use Rattle.task_state.specs.States.{stage_of, with_stage}
-use Rattle.dice_tasks.specs.Helds.{Held, works, doing, held_of, IsDoing, FollowsOn, Ahead}
+use Rattle.dice_tasks.specs.Helds.{Held, works, held_of, IsDoing, FollowsOn, Ahead}
 use Rattle.dice_tasks.specs.Loads.{standing_of, IsLoaded, AreCopies, HasCopies, IsSupplied}
 use Rattle.dice_tasks.specs.declared.task.Load.{Load}
 use Rattle.dice_tasks.specs.declared.task.Load.TheVariants.{Job, Away, Parked, Nothing}
@@ -34,22 +33,16 @@ module _ {K V : Type 0} where
   checks_out (state.Computing a) w d e x T b q = absurd (let h : Computes ≡ Checks x T b = sym d ∙ q in cc)
   checks_out (state.Ended o) w d e x T b q = absurd d
 
-  doing_same : (w v : Work K V) → doing w ≡ doing v → w ≡ v
-  doing_same Computes Computes e = refl
-  doing_same Computes (Checks x T b) e = absurd (let h : DoesCompute ≡ DoesCheck x T b = e in cc)
-  doing_same (Checks x T b) Computes e = absurd (let h : DoesCheck x T b ≡ DoesCompute = e in cc)
-  doing_same (Checks x T b) (Checks y S c) e = let h : DoesCheck x T b ≡ DoesCheck y S c = e in cc
-
   same_job : (a b : Assigned K V) → a.name ≡ b.name → a.answered ≡ b.answered → a.work ≡ b.work → a ≡ b
   same_job a b e f g = λ i. record { name = e i; answered = f i; work = g i }
 
   -- what a task at work is seen as says what its job is for
   pub same_held : (a b : Assigned K V) (p : Phase K) → held_of a p ≡ held_of b p → a ≡ b
   same_held a b p e =
-      let s : Works (doing a.work) p a.answered ≡ Works (doing b.work) p b.answered = λ i. (e i).standing in
+      let s : Works a.work p a.answered ≡ Works b.work p b.answered = λ i. (e i).standing in
       let f : a.answered ≡ b.answered = cc in
-      let g : doing a.work ≡ doing b.work = cc in
-      same_job a b (λ i. (e i).name) f (doing_same a.work b.work g)
+      let g : a.work ≡ b.work = cc in
+      same_job a b (λ i. (e i).name) f g
 
   pub held_is : (a : Assigned K V) (n : Name K) (p : Phase K) → a.name ≡ n → record { name = n; standing = works a p } ≡ held_of a p
   held_is a n p e = λ i. record { name = sym e i; standing = works a p }
@@ -68,21 +61,21 @@ module _ {K V : Type 0} where
 module _ {U K V R : Type 0} (n : Name K) where
   -- a load that is seen as out
   pub away_is : (load : Load U K V R) (s : TaskState K V) (a : Assigned K V) → IsLoaded n load s → record { name = n; standing = standing_of load s } ≡ held_of a IsOut → IsLoaded {U = U} {K = K} {V = V} {R = R} n (Away a) s
-  away_is (Job j b) s a l e = absurd (let h : Works (doing b.work) IsReady b.answered ≡ Works (doing a.work) IsOut a.answered = λ i. (e i).standing in cc)
+  away_is (Job j b) s a l e = absurd (let h : Works b.work IsReady b.answered ≡ Works a.work IsOut a.answered = λ i. (e i).standing in cc)
   away_is (Away b) s a l e = subst (λ x. IsLoaded {U = U} {K = K} {V = V} {R = R} n (Away x) s) (same_held b a IsOut (sym (held_is b n IsOut l.0) ∙ e)) l
-  away_is (Parked p) s a l e = absurd (let h : Works (doing p.job.work) (IsWaiting p.keys) p.job.answered ≡ Works (doing a.work) IsOut a.answered = λ i. (e i).standing in cc)
-  away_is Nothing s a l e = absurd (let h : standing_of {U = U} {K = K} {V = V} {R = R} Nothing s ≡ Works (doing a.work) IsOut a.answered = λ i. (e i).standing in cc)
+  away_is (Parked p) s a l e = absurd (let h : Works p.job.work (IsWaiting p.keys) p.job.answered ≡ Works a.work IsOut a.answered = λ i. (e i).standing in cc)
+  away_is Nothing s a l e = absurd (let h : standing_of {U = U} {K = K} {V = V} {R = R} Nothing s ≡ Works a.work IsOut a.answered = λ i. (e i).standing in cc)
 
   -- a load that is seen as waiting
   pub parked_is : (load : Load U K V R) (s : TaskState K V) (w : Waits K V) → IsLoaded n load s → record { name = n; standing = standing_of load s } ≡ held_of w.job (IsWaiting w.keys) → (p : Waits K V) × (load ≡ Parked p) × (p ≡ w)
-  parked_is (Job j b) s w l e = absurd (let h : Works (doing b.work) IsReady b.answered ≡ Works (doing w.job.work) (IsWaiting w.keys) w.job.answered = λ i. (e i).standing in cc)
-  parked_is (Away b) s w l e = absurd (let h : Works (doing b.work) IsOut b.answered ≡ Works (doing w.job.work) (IsWaiting w.keys) w.job.answered = λ i. (e i).standing in cc)
+  parked_is (Job j b) s w l e = absurd (let h : Works b.work IsReady b.answered ≡ Works w.job.work (IsWaiting w.keys) w.job.answered = λ i. (e i).standing in cc)
+  parked_is (Away b) s w l e = absurd (let h : Works b.work IsOut b.answered ≡ Works w.job.work (IsWaiting w.keys) w.job.answered = λ i. (e i).standing in cc)
   parked_is (Parked p) s w l e =
-      let h : Works (doing p.job.work) (IsWaiting p.keys) p.job.answered ≡ Works (doing w.job.work) (IsWaiting w.keys) w.job.answered = λ i. (e i).standing in
+      let h : Works p.job.work (IsWaiting p.keys) p.job.answered ≡ Works w.job.work (IsWaiting w.keys) w.job.answered = λ i. (e i).standing in
       let k : p.keys ≡ w.keys = cc in
       let j : p.job ≡ w.job = same_held p.job w.job (IsWaiting w.keys) (subst (λ ks. held_of p.job (IsWaiting ks) ≡ held_of w.job (IsWaiting w.keys)) k (sym (held_is p.job n (IsWaiting p.keys) l.0) ∙ e)) in
       (p, refl, λ i. record { job = j i; keys = k i })
-  parked_is Nothing s w l e = absurd (let h : standing_of {U = U} {K = K} {V = V} {R = R} Nothing s ≡ Works (doing w.job.work) (IsWaiting w.keys) w.job.answered = λ i. (e i).standing in cc)
+  parked_is Nothing s w l e = absurd (let h : standing_of {U = U} {K = K} {V = V} {R = R} Nothing s ≡ Works w.job.work (IsWaiting w.keys) w.job.answered = λ i. (e i).standing in cc)
 
   -- a task at work has a stage, and copies of its key
   pub staged : (load : Load U K V R) (s : TaskState K V) → IsLoaded n load s → goes_on (standing_of load s) ≡ true → (t : Stage) × (stage_of s ≡ Some t)
@@ -127,10 +120,10 @@ module _ {U K V R : Type 0} (n : Name K) where
 
   -- a task that is seen as out keeps what its job is for
   pub kept_away : (load : Load U K V R) (s : TaskState K V) (h : Held K V) (a : Assigned K V) → record { name = n; standing = standing_of load s } ≡ h → h ≡ held_of a IsOut → (b : Assigned K V) × (load ≡ Away b)
-  kept_away (Job j b) s h a v e = absurd (let q : Works (doing b.work) IsReady b.answered ≡ Works (doing a.work) IsOut a.answered = λ i. ((v ∙ e) i).standing in cc)
+  kept_away (Job j b) s h a v e = absurd (let q : Works b.work IsReady b.answered ≡ Works a.work IsOut a.answered = λ i. ((v ∙ e) i).standing in cc)
   kept_away (Away b) s h a v e = (b, refl)
-  kept_away (Parked p) s h a v e = absurd (let q : Works (doing p.job.work) (IsWaiting p.keys) p.job.answered ≡ Works (doing a.work) IsOut a.answered = λ i. ((v ∙ e) i).standing in cc)
-  kept_away Nothing s h a v e = absurd (let q : standing_of {U = U} {K = K} {V = V} {R = R} Nothing s ≡ Works (doing a.work) IsOut a.answered = λ i. ((v ∙ e) i).standing in cc)
+  kept_away (Parked p) s h a v e = absurd (let q : Works p.job.work (IsWaiting p.keys) p.job.answered ≡ Works a.work IsOut a.answered = λ i. ((v ∙ e) i).standing in cc)
+  kept_away Nothing s h a v e = absurd (let q : standing_of {U = U} {K = K} {V = V} {R = R} Nothing s ≡ Works a.work IsOut a.answered = λ i. ((v ∙ e) i).standing in cc)
 
   -- the copies of a task's key, of a task at work
   pub copies_of : (o : Option (Spare U K V R)) (k : K) → HasCopies n.key o → n.key ≡ k → IfSome o (AreCopies k)

@@ -2,13 +2,11 @@
 use Rattle.std.proofs.Common.{◌≡◌, ◌<◌, inl, inr, ◌+◌, ◌-◌, ◌*◌, ℕ, Bool, List, [], ◌∷◌, ◌++◌, length, reverse, Option, Some, None, refl, sym, ap, ◌∙◌, subst, arith, length-append}
 use Rattle.dice_key.specs.Lawful.{IsEquality, IsLawful}
 use Rattle.dice_key.specs.Meaning.{Meaning}
-use Rattle.dice_model.specs.Log.{Has}
 use Rattle.task_share.specs.Seen.{Share, asked_of}
 use Rattle.journal.specs.declared.event.Told.{Told}
 use Rattle.journal.specs.Events.{commits_of}
 use Rattle.core_laws.specs.Tasks.{Outcome, WithValue, WithCycle, WithNothing}
 use Rattle.core_laws.specs.Desk.{World, Stand, AreAll, is_out}
-use Rattle.core_laws.proofs.Counts.{has_append, has_front}
 use Rattle.core_laws.proofs.Cycles.{cycle_above}
 use Rattle.core_laws.proofs.Turns.{stands_here}
 use Rattle.core_laws.proofs.StepsWaits.{told_stand}
@@ -19,6 +17,8 @@ use Rattle.dice_tasks.specs.declared.end.How.TheVariants.{Lost, Cycle}
 use Rattle.dice_tasks.specs.Endings.{path_of, Knows, TellsEnd, ListsEnd, ComesOf, told_end, ReachesPath, Telling, EndsAsker, HasTold}
 use Rattle.dice_tasks.proofs.EndsLemmas.{back_more, quits_keeps, same_table}
 use Rattle.dice_tasks.proofs.EndedLemmas.{lost_on, cycle_on, listed_on}
+use Rattle.lists.proofs.Members.{has_last, has_more}
+use Rattle.lists.specs.Lists.{Has}
 
 -- how a task ends that is given up
 pub comes_lost : {K V : Type 0} (h : How K) (o : Outcome K V) → o ≡ WithNothing → ComesOf (path_of h) o
@@ -65,7 +65,7 @@ module _ {K V : Type 0} (eq : K → K → Bool) (equality : IsEquality eq) (m : 
     listed k h o ps qs d e lists comes reach telling = subst (λ (y : DeskSeen K V). Telling eq m path v w owed qs y) (sym lists.desk) (record {
       working = subst (λ (W : List K). Working eq m v W w owed qs (with_told_next lists.mid k)) (sym order)
           (listed_on eq equality m law v (k ∷ reverse d.ended) w owed qs lists.mid k (comes_on path k h o ps qs d lists.mid lists.tells comes (reverse d.ended) w owed telling.working reach));
-      reached = λ q i. elim (has_append lists.mid.ended k q i) as (λ _. ReachesPath eq m path (commits_of (reverse lists.mid.events)) v q) [
+      reached = λ q i. elim (has_last lists.mid.ended k q i) as (λ _. ReachesPath eq m path (commits_of (reverse lists.mid.events)) v q) [
         | inl j ↦ subst (λ C. ReachesPath eq m path C v q) (sym commits) (telling.reached q (subst (λ xs. Has xs q) ended j))
         | inr j ↦ subst (λ C. ReachesPath eq m path C v q) (sym commits) (subst (λ z. ReachesPath eq m path (commits_of (reverse d.events)) v z) j reach)
       ];
@@ -100,7 +100,7 @@ module _ {K V : Type 0} (eq : K → K → Bool) (equality : IsEquality eq) (m : 
         named = λ k g there. telling.working.named k g (sym (t.tasks.tasks k) ∙ there);
         wanted = λ k l. telling.working.wanted k (sym (t.tasks.live k) ∙ l);
       };
-      reached = λ q i. telling.reached q (has_front e.ended t.key q i);
+      reached = λ q i. telling.reached q (has_more e.ended t.key q i);
     }
       where
         telling : Telling eq m path v w owed ps (with_told_next e t.key)

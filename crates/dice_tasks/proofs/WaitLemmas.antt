@@ -1,11 +1,10 @@
 -- What holds while a call works on a version is kept where a task is taken, put back, waits or goes on.
 use Rattle.std.proofs.Common.{◌≡◌, ◌≤◌, ◌⊎◌, inl, inr, ◌+◌, ◌*◌, ℕ, Bool, true, false, cond, ◌&&◌, ◌||◌, List, [], ◌∷◌, map, reverse, Option, Some, refl, sym, ap, ◌∙◌, subst, arith}
-use Rattle.std.proofs.lemmas.Bool.{eq-eqb}
+use Rattle.std.proofs.lemmas.Bool.{eq-eqb, and_parts, or_cases}
 use Rattle.std.specs.Option.{option_map}
 use Rattle.std.specs.List.{AllZip}
 use Rattle.dice_key.specs.Lawful.{IsEquality, IsLawful}
 use Rattle.dice_key.specs.Meaning.{Meaning}
-use Rattle.dice_model.specs.Log.{Has, AreDistinct}
 use Rattle.dice_model.specs.Eval.{HasValue}
 use Rattle.dice_jobs.specs.Jobs.{Name, Assigned, Waits, answered_more}
 use Rattle.dice_model.specs.Asks.{AsksFor}
@@ -23,23 +22,21 @@ use Rattle.core_laws.proofs.Counts.{all_fewer}
 use Rattle.core_laws.proofs.Turns.{pair_test, task_there, with_twice, stands_here}
 use Rattle.core_laws.proofs.StepsWaits.{taken_stand, brought_back_stand, goes_on_at_once_stand, parks_stand}
 use Rattle.core_laws.proofs.Parks.{asks_of_next}
-use Rattle.core_laws.proofs.Shapes.{both_parts}
-use Rattle.dice_tasks.specs.Helds.{Held, task_of, held_of, doing}
+use Rattle.dice_tasks.specs.Helds.{Held, task_of, held_of}
 use Rattle.dice_tasks.specs.Hands.{DeskSeen, desk_of, tasks_of, seen_world, Gains, Stays, Takes, Working}
 use Rattle.dice_tasks.specs.Waitings.{OutTurns, IsTurned, KeepsTable, TakesJob, ReturnsJob, waits_so, ParksJob, MayPark}
+use Rattle.core_laws.proofs.Turns.{same_where}
 use Rattle.dice_tasks.proofs.Lists.{Same, loses_last}
 use Rattle.dice_tasks.proofs.EndsLemmas.{puts_of, named_put}
+use Rattle.lists.specs.Lists.{AreDistinct, Has}
 
 -- ---- the tasks that are out
 
 module _ {X : Type 0} (f g : X → Bool) (y : X) (else : (x : X) → (y ≡ x → ⊥) → g x ≡ f x) (test : (x : X) → (y ≡ x) ⊎ (y ≡ x → ⊥)) where
-  same_where : f y ≡ g y → (x : X) → g x ≡ f x
-  same_where e x = elim (test x) as (λ _. g x ≡ f x) [ inl q ↦ subst (λ z. g z ≡ f z) q (sym e) | inr q ↦ else x q ]
-
   all_stay : f y ≡ g y → (xs ys : List X) → Stays xs ys → AreAll f xs → AreAll g ys
   all_stay e xs ys h all = record {
-    passes = λ x i. same_where e x ∙ all.passes x (h.only x i);
-    found = λ x i. h.kept x (all.found x (sym (same_where e x) ∙ i));
+    passes = λ x i. same_where f g y else test e x ∙ all.passes x (h.only x i);
+    found = λ x i. h.kept x (all.found x (sym (same_where f g y else test e x) ∙ i));
     distinct = h.distinct;
   }
 
@@ -148,7 +145,7 @@ module _ {K V : Type 0} (eq : K → K → Bool) (equality : IsEquality eq) (m : 
       room = let n = work.stand.room in let l = takes.desk.rest.live in let s = takes.desk.rest.spare in omega arith
 
       step : Stand eq m (reverse d.events) v W (with_version v (asked_of eq ps) (tasks_of eq qs) w) (desk_of e) owed
-      step = taken_stand eq equality m law (reverse d.events) v w W (asked_of eq ps) (tasks_of eq ps) (tasks_of eq qs) k (task_of (held_of a IsReady)) (doing a.work) a.answered (desk_of d) (desk_of e) owed owed work.stand there refl (puts_of eq k (Some (held_of a IsOut)) ps qs takes.table.tasks) turns room
+      step = taken_stand eq equality m law (reverse d.events) v w W (asked_of eq ps) (tasks_of eq ps) (tasks_of eq qs) k (task_of (held_of a IsReady)) a.work a.answered (desk_of d) (desk_of e) owed owed work.stand there refl (puts_of eq k (Some (held_of a IsOut)) ps qs takes.table.tasks) turns room
 
   module _ (a b : Assigned K V) (ps qs : List (K × Share K (Held K V))) (d e : DeskSeen K V) (back : ReturnsJob eq v k a b ps qs d e) where
     there_out : tasks_of eq ps k ≡ Some (task_of (held_of a IsOut))
@@ -166,17 +163,17 @@ module _ {K V : Type 0} (eq : K → K → Bool) (equality : IsEquality eq) (m : 
   pub back_on : (a : Assigned K V) (ps qs : List (K × Share K (Held K V))) (d e : DeskSeen K V) → ReturnsJob eq v k a a ps qs d e → (W : List K) (w : World K V) (owed : ℕ) → Working eq m v W w owed ps d → Working eq m v W w owed qs e
   back_on a ps qs d e back W w owed work = works_back a a ps qs d e back refl W w owed work
       (subst (λ (s : Asked K). Stand eq m (reverse d.events) v W (with_version v s (tasks_of eq qs) w) (desk_of e) owed) (sym (asked_same eq equality ps qs back.table.live back.table.asks))
-      (brought_back_stand eq equality m law (reverse d.events) v w W (asked_of eq ps) (tasks_of eq ps) (tasks_of eq qs) k (task_of (held_of a IsOut)) (doing a.work) a.answered (desk_of d) (desk_of e) owed owed work.stand (there_out a a ps qs d e back) refl (puts_of eq k (Some (held_of a IsReady)) ps qs back.table.tasks) (turns_back a a ps qs d e back) (room_back a a ps qs d e back owed work.stand.room)))
+      (brought_back_stand eq equality m law (reverse d.events) v w W (asked_of eq ps) (tasks_of eq ps) (tasks_of eq qs) k (task_of (held_of a IsOut)) a.work a.answered (desk_of d) (desk_of e) owed owed work.stand (there_out a a ps qs d e back) refl (puts_of eq k (Some (held_of a IsReady)) ps qs back.table.tasks) (turns_back a a ps qs d e back) (room_back a a ps qs d e back owed work.stand.room)))
 
   goes_so : (a : Assigned K V) (ks : List K) (xs : List V) (ps qs : List (K × Share K (Held K V))) (d e : DeskSeen K V) → ReturnsJob eq v k a (answered_more a ks xs) ps qs d e → (W : List K) (w : World K V) (owed : ℕ) → Working eq m v W w owed ps d
-      → AsksNext eq m v k (doing a.work) a.answered (IsWaiting ks) → AllZip (HasValue eq m (commits_of (reverse d.events)) v) ks xs → Working eq m v W w owed qs e
+      → AsksNext eq m v k a.work a.answered (IsWaiting ks) → AllZip (HasValue eq m (commits_of (reverse d.events)) v) ks xs → Working eq m v W w owed qs e
   goes_so a ks xs ps qs d e back W w owed work next zip =
       let b = answered_more a ks xs in
       works_back a b ps qs d e back refl W w owed work
-      (goes_on_at_once_stand eq equality m law (reverse d.events) v w W (asked_of eq ps) (asked_of eq qs) (tasks_of eq ps) (tasks_of eq qs) k (task_of (held_of a IsOut)) (doing a.work) a.answered ks xs (desk_of d) (desk_of e) owed owed work.stand (there_out a b ps qs d e back) refl next zip (puts_of eq k (Some (held_of b IsReady)) ps qs back.table.tasks) back.table.live back.table.asks (turns_back a b ps qs d e back) (room_back a b ps qs d e back owed work.stand.room))
+      (goes_on_at_once_stand eq equality m law (reverse d.events) v w W (asked_of eq ps) (asked_of eq qs) (tasks_of eq ps) (tasks_of eq qs) k (task_of (held_of a IsOut)) a.work a.answered ks xs (desk_of d) (desk_of e) owed owed work.stand (there_out a b ps qs d e back) refl next zip (puts_of eq k (Some (held_of b IsReady)) ps qs back.table.tasks) back.table.live back.table.asks (turns_back a b ps qs d e back) (room_back a b ps qs d e back owed work.stand.room))
 
   pub goes_on_so : (a b : Assigned K V) (ks : List K) (xs : List V) (ps qs : List (K × Share K (Held K V))) (d e : DeskSeen K V) → b ≡ answered_more a ks xs → ReturnsJob eq v k a b ps qs d e → (W : List K) (w : World K V) (owed : ℕ) → Working eq m v W w owed ps d
-      → AsksNext eq m v k (doing a.work) a.answered (IsWaiting ks) → AllZip (HasValue eq m (commits_of (reverse d.events)) v) ks xs → Working eq m v W w owed qs e
+      → AsksNext eq m v k a.work a.answered (IsWaiting ks) → AllZip (HasValue eq m (commits_of (reverse d.events)) v) ks xs → Working eq m v W w owed qs e
   goes_on_so a b ks xs ps qs d e is back W w owed work next zip = goes_so a ks xs ps qs d e (subst (λ (z : Assigned K V). ReturnsJob eq v k a z ps qs d e) is back) W w owed work next zip
 
 -- ---- a job comes to wait
@@ -184,10 +181,6 @@ module _ {K V : Type 0} (eq : K → K → Bool) (equality : IsEquality eq) (m : 
 or_true : (a : Bool) → (a || true) ≡ true
 or_true true = refl
 or_true false = refl
-
-either_part : (a b : Bool) → (a || b) ≡ true → (a ≡ true) ⊎ (b ≡ true)
-either_part true b e = inl refl
-either_part false b e = inr e
 
 module _ {K : Type 0} where
   pub key_there : (xs : List (WaitOf K)) (x : WaitOf K) → Has xs x → Has (map (λ y. y.key) xs) x.key
@@ -215,8 +208,8 @@ module _ {K : Type 0} (eq : K → K → Bool) (equality : IsEquality eq) (k : K)
 
   pub waits_only : (xs : List (WaitOf K)) → ((x : WaitOf K) → Has xs x → x.asker ≡ k) → (q : K) (a : By K) → waits_so eq xs q a ≡ true → Has (map (λ y. y.key) xs) q × (a ≡ Tasked k)
   waits_only [] own q a e = let c : false ≡ true = e in cc
-  waits_only (y ∷ xs) own q a e = elim (either_part (eq y.key q && is_by eq (Tasked y.asker) a) (waits_so eq xs q a) e) as (λ _. Has (map (λ z. z.key) (y ∷ xs)) q × (a ≡ Tasked k)) [
-    | inl i ↦ let b = both_parts (eq y.key q) (is_by eq (Tasked y.asker) a) i in (inl (equality.same y.key q b.0), by_only y.asker (own y (inl refl)) a b.1)
+  waits_only (y ∷ xs) own q a e = elim (or_cases (eq y.key q && is_by eq (Tasked y.asker) a) (waits_so eq xs q a) e) as (λ _. Has (map (λ z. z.key) (y ∷ xs)) q × (a ≡ Tasked k)) [
+    | inl i ↦ let b = and_parts (eq y.key q) (is_by eq (Tasked y.asker) a) i in (inl (equality.same y.key q b.0), by_only y.asker (own y (inl refl)) a b.1)
     | inr i ↦ let r = waits_only xs (λ x h. own x (inr h)) q a i in (inr r.0, r.1)
   ]
 
@@ -224,7 +217,7 @@ module _ {K V : Type 0} (eq : K → K → Bool) (equality : IsEquality eq) (m : 
   pub parks_on : (v : ℕ) (k : K) (p : Waits K V) (xs : List (WaitOf K)) (ps qs : List (K × Share K (Held K V))) (d e : DeskSeen K V) → ParksJob eq v k p xs ps qs d e → MayPark eq m v k p xs ps → (W : List K) (w : World K V) (owed : ℕ) → Working eq m v W w owed ps d → Working eq m v W w owed qs e
   parks_on v k p xs ps qs d e to may W w owed work =
       works_on eq equality m v k (held_of a IsOut) (held_of a (IsWaiting p.keys)) ps qs to.was to.tasks to.live refl d e true false refl refl to.desk.out to.desk.rest.events W W w owed owed work
-      (parks_stand eq equality m law (reverse d.events) v w W (asked_of eq ps) (asked_of eq qs) (tasks_of eq ps) (tasks_of eq qs) k (task_of (held_of a IsOut)) (doing a.work) a.answered p.keys ds (desk_of d) (desk_of e) owed owed work.stand there refl may.next may.some.0.key (key_there xs may.some.0 may.some.1) within good each parked to.live (puts_of eq k (Some (held_of a (IsWaiting p.keys))) ps qs to.tasks) turns room)
+      (parks_stand eq equality m law (reverse d.events) v w W (asked_of eq ps) (asked_of eq qs) (tasks_of eq ps) (tasks_of eq qs) k (task_of (held_of a IsOut)) a.work a.answered p.keys ds (desk_of d) (desk_of e) owed owed work.stand there refl may.next may.some.0.key (key_there xs may.some.0 may.some.1) within good each parked to.live (puts_of eq k (Some (held_of a (IsWaiting p.keys))) ps qs to.tasks) turns room)
     where
       a : Assigned K V
       a = p.job
@@ -246,7 +239,7 @@ module _ {K V : Type 0} (eq : K → K → Bool) (equality : IsEquality eq) (m : 
 
       good : (q : K) → Has ds q → AsksFor eq m (commits_of (reverse d.events)) v k q × (is_live eq ps q ≡ true) × (Leads (asked_of eq ps) q k → ⊥)
       good q h = let r = wait_of xs q h in (
-        asks_of_next eq equality m law (reverse d.events) v k (doing a.work) a.answered p.keys stood.standing.work may.next stood.computed q (within q h),
+        asks_of_next eq equality m law (reverse d.events) v k a.work a.answered p.keys stood.standing.work may.next stood.computed q (within q h),
         subst (λ z. is_live eq ps z ≡ true) r.2 (may.live r.0 r.1),
         subst (λ z. Leads (asked_of eq ps) z k → ⊥) r.2 (may.apart r.0 r.1),
       )
@@ -264,7 +257,7 @@ module _ {K V : Type 0} (eq : K → K → Bool) (equality : IsEquality eq) (m : 
       parked = record {
         kept = λ q b on. to.asks q b ∙ ap (λ c. c || waits_so eq xs q b) on;
         asked = λ q h. to.asks q (Tasked k) ∙ (ap (λ c. asks eq ps q (Tasked k) || c) (waits_there eq equality k xs may.own q h) ∙ or_true (asks eq ps q (Tasked k)));
-        only = λ q b on. elim (either_part (asks eq ps q b) (waits_so eq xs q b) (sym (to.asks q b) ∙ on)) as (λ _. (asks eq ps q b ≡ true) ⊎ (Has ds q × (b ≡ Tasked k))) [
+        only = λ q b on. elim (or_cases (asks eq ps q b) (waits_so eq xs q b) (sym (to.asks q b) ∙ on)) as (λ _. (asks eq ps q b ≡ true) ⊎ (Has ds q × (b ≡ Tasked k))) [
           | inl i ↦ inl i
           | inr i ↦ inr (waits_only eq equality k xs may.own q b i)
         ];

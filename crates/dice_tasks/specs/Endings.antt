@@ -3,7 +3,6 @@ use Rattle.std.specs.Prelude.{◌≡◌, ◌≤◌, ◌*◌, ◌<◌, ◌⊎◌,
 use Rattle.std.specs.Arc.{arc_value}
 use Rattle.std.specs.List.{list_any}
 use Rattle.dice_key.specs.Meaning.{Meaning}
-use Rattle.dice_model.specs.Log.{Has, AreDistinct}
 use Rattle.task_share.specs.Asked.{By, Promised, Tasked, is_by, Takes, Cascade}
 use Rattle.task_share.specs.Seen.{Share, task_at, is_live, asks, asked_of, KeepsTasks, KeepsAsks, KeepsRoom, KeepsOtherRoom}
 use Rattle.journal.specs.declared.event.Told.{Told}
@@ -18,6 +17,7 @@ use Rattle.dice_tasks.specs.declared.end.How.TheVariants.{Lost, Cycle}
 use Rattle.dice_jobs.specs.Jobs.{Name, Assigned}
 use Rattle.dice_tasks.specs.Helds.{Held, held_of, held_ended}
 use Rattle.dice_tasks.specs.Hands.{DeskSeen, tasks_of, AreNamed, with_event, with_ended, with_told_next, Unreadies, Leaves, Returns, Working}
+use Rattle.lists.specs.Lists.{AreDistinct, Has}
 
 -- a task that stood so, of this version and key, is no more among those that are ready or out
 abbrev pub Quits : {K V : Type 0} → Standing K V → ℕ × K → DeskSeen K V → DeskSeen K V → Type 0
@@ -80,17 +80,17 @@ module _ {K V : Type 0} (eq : K → K → Bool) (v : ℕ) where
     pub tells : TellsEnd k h o x ps qs d mid
     pub desk : e ≡ with_told_next mid k
 
--- how tasks end that are given up with one: as lost, or with this circle; where there is no memory for the circle, as lost too
+-- how tasks end that are given up with one: as lost, or with this cycle; where there is no memory for the cycle, as lost too
 abbrev pub ComesOf : {K V : Type 0} → Option (List K) → Outcome K V → Type 0
 ComesOf None o = o ≡ WithNothing
 ComesOf (Some p) o = (o ≡ WithCycle p) ⊎ (o ≡ WithNothing)
 
--- the circle, where there is one
+-- the cycle, where there is one
 abbrev pub path_of : {K : Type 0} → How K → Option (List K)
 path_of Lost = None
 path_of (Cycle p) = Some (arc_value p.now)
 
--- how the first of them ends: with the circle, where there is one, else as lost
+-- how the first of them ends: with the cycle, where there is one, else as lost
 abbrev pub ends_so : {K V : Type 0} → Option (List K) → Outcome K V
 ends_so None = WithNothing
 ends_so (Some p) = WithCycle p
@@ -102,12 +102,12 @@ told_end v k (WithCycle p) = event.Cyclic v k
 told_end v k WithNothing = event.Lost v k
 
 module _ {K V : Type 0} (eq : K → K → Bool) (m : Meaning K V) where
-  -- the key reaches the circle, where there is one
+  -- the key reaches the cycle, where there is one
   abbrev pub ReachesPath : Option (List K) → List (List (K × V)) → ℕ → K → Type 0
   ReachesPath None C v k = Unit {0}
   ReachesPath (Some p) C v k = CycleStands eq m C v k p
 
-  -- what holds while the askers of ended tasks are told: those whose askers are still to be told are on the list, and each reaches the circle
+  -- what holds while the askers of ended tasks are told: those whose askers are still to be told are on the list, and each reaches the cycle
   pub record Telling (path : Option (List K)) (v : ℕ) (w : World K V) (owed : ℕ) (ps : List (K × Share K (Held K V))) (d : DeskSeen K V) : Type 0 where
     pub working : Working eq m v (reverse d.ended) w owed ps d
     pub reached : (q : K) → Has d.ended q → ReachesPath path (commits_of (reverse d.events)) v q
@@ -171,7 +171,7 @@ module _ {K V : Type 0} (eq : K → K → Bool) where
   abbrev pub EndWithAskers : List (K × Outcome K V) → List (K × Share K (Held K V)) → Type 0
   EndWithAskers es ps = (q j : K) (o : Outcome K V) → Has es (q, o) → asks eq ps q (Tasked j) ≡ true → (r : Outcome K V) × Has es (j, r)
 
-  -- the task of k ends, with the circle where there is one, and with it each that asks for it, each that asks for one of these, and so on, and no
+  -- the task of k ends, with the cycle where there is one, and with it each that asks for it, each that asks for one of these, and so on, and no
   -- other; and then those are dropped. No task is told of twice
   pub record GivesUpAll (v : ℕ) (path : Option (List K)) (k : K) (ps qs : List (K × Share K (Held K V))) (d e : DeskSeen K V) : Type 0 where
     pub ends : List (K × Outcome K V)

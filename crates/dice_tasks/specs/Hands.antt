@@ -2,13 +2,13 @@
 use Rattle.std.specs.Prelude.{◌≡◌, ◌⊎◌, ◌+◌, ◌-◌, ◌*◌, ◌≤◌, ℕ, Bool, true, List, [], ◌∷◌, ◌++◌, length, reverse, slice_get, Option, Some}
 use Rattle.std.specs.Option.{option_map}
 use Rattle.dice_key.specs.Meaning.{Meaning}
-use Rattle.dice_model.specs.Log.{Has, AreDistinct}
 use Rattle.task_share.specs.Seen.{Share, task_at, is_live, asked_of}
 use Rattle.journal.specs.declared.event.Told.{Told}
 use Rattle.journal.specs.Law.{IsWanted}
 use Rattle.core_laws.specs.Tasks.{Task}
 use Rattle.core_laws.specs.Desk.{World, Desk, is_out, with_version, AreAll, Loses, Stand}
 use Rattle.dice_tasks.specs.Helds.{Held, task_of}
+use Rattle.lists.specs.Lists.{AreDistinct, Has}
 
 -- what contracts see of the desk: the journal's events; the tasks that are ready, and those that are out, each by its version and key; how many
 -- tasks are at work; the keys whose tasks ended and whose askers are still to be told; how many events there is room for; and how many more tasks

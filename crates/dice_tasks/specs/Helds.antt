@@ -4,7 +4,6 @@ use Rattle.std.specs.Arc.{arc_value}
 use Rattle.dice_jobs.specs.Jobs.{Name, Assigned, Waits, answered_more}
 use Rattle.dice_jobs.specs.Jobs.{Work, Computes, Checks}
 use Rattle.core_laws.specs.Tasks.{Phase, IsWaiting, Standing, Works, Ended, Task}
-use Rattle.core_laws.specs.Tasks.{Work as Doing, Computes as DoesCompute, Checks as DoesCheck}
 use Rattle.core_laws.specs.Tasks.{Outcome as Came, WithValue, WithCycle, WithNothing}
 use Rattle.task_state.specs.declared.state.Outcome.{Outcome}
 use Rattle.task_state.specs.declared.state.Outcome.TheVariants.{Value, Cycle, Lost}
@@ -20,10 +19,6 @@ module _ {K V : Type 0} where
   abbrev pub task_of : Held K V → Task K V
   task_of h = record { born = h.name.born; standing = h.standing }
 
-  abbrev pub doing : Work K V → Doing K V
-  doing Computes = DoesCompute
-  doing (Checks x T b) = DoesCheck x T b
-
   abbrev pub came : Outcome K V → Came K V
   came (Value x) = WithValue (arc_value x)
   came (Cycle p) = WithCycle (arc_value p)
@@ -37,7 +32,7 @@ module _ {K V : Type 0} where
 
   -- a task in this phase that does what the job is for
   abbrev pub works : Assigned K V → Phase K → Standing K V
-  works a p = Works (doing a.work) p a.answered
+  works a p = Works a.work p a.answered
 
   -- the state says what is done
   abbrev pub IsDoing : TaskState K V → Work K V → Type 0

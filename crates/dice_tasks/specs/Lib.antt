@@ -1,4 +1,4 @@
-pub mod Circles
+pub mod CyclePaths
 pub mod Endings
 pub mod Entries
 pub mod Hands

@@ -5,7 +5,6 @@ use Rattle.std.specs.List.{AllByRecursion}
 use Rattle.std.specs.Option.{option_map}
 use Rattle.dice_key.specs.Meaning.{Meaning, Answered}
 use Rattle.dice_key.specs.declared.universe.Kind.TheVariants.{Injected}
-use Rattle.dice_model.specs.Log.{Has}
 use Rattle.dice_jobs.specs.Jobs.{Name, Computes, Checks}
 use Rattle.task_share.specs.Asked.{By, Tasked, is_by}
 use Rattle.task_share.specs.Seen.{Share, task_at, is_live, asks, has_place, KeepsAsks, KeepsRoom, KeepsOtherRoom}
@@ -25,6 +24,7 @@ use Rattle.dice_tasks.specs.Entries.{started_for}
 use Rattle.dice_tasks.specs.Shelves.{place_of}
 use Rattle.dice_tasks.specs.declared.making.Making.{Making}
 use Rattle.dice_tasks.specs.declared.making.Making.TheVariants.{Join, Match, Run, Check}
+use Rattle.lists.specs.Lists.{Has}
 
 module _ {K V : Type 0} where
   -- the key has no task, or one that was given up

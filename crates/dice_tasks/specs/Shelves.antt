@@ -1,8 +1,8 @@
 -- How the ready tasks and those that are out lie in memory.
 use Rattle.std.specs.Prelude.{◌<◌, ◌≤◌, ◌^◌, ℕ, List, length, map, take, drop}
 use Rattle.std.specs.Arc.{arc_value}
-use Rattle.dice_model.specs.Log.{AreDistinct}
 use Rattle.dice_tasks.specs.declared.shelf.ReadyTask.{ReadyTask}
+use Rattle.lists.specs.Lists.{AreDistinct}
 
 -- a task by its version and key
 abbrev pub place_of : {K : Type 0} → ReadyTask K → ℕ × K

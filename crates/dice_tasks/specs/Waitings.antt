@@ -3,7 +3,6 @@ use Rattle.std.specs.Prelude.{◌≡◌, ◌⊎◌, ◌<◌, ◌≤◌, ℕ, Boo
 use Rattle.std.specs.List.{list_any, AllZip}
 use Rattle.dice_key.specs.Meaning.{Meaning}
 use Rattle.dice_key.specs.declared.universe.Kind.TheVariants.{Injected}
-use Rattle.dice_model.specs.Log.{Has, AreDistinct}
 use Rattle.dice_model.specs.Eval.{HasValue}
 use Rattle.dice_jobs.specs.Jobs.{Assigned, Waits}
 use Rattle.task_share.specs.Asked.{By, Tasked, WaitOf, Leads, is_by}
@@ -13,8 +12,9 @@ use Rattle.journal.specs.Events.{commits_of}
 use Rattle.core_laws.specs.Tasks.{IsReady, IsOut, IsWaiting, value_of}
 use Rattle.core_laws.specs.Stands.{AsksNext}
 use Rattle.core_laws.specs.Desk.{Loses}
-use Rattle.dice_tasks.specs.Helds.{Held, Ahead, FollowsOn, held_of, doing}
+use Rattle.dice_tasks.specs.Helds.{Held, Ahead, FollowsOn, held_of}
 use Rattle.dice_tasks.specs.Hands.{DeskSeen, tasks_of, Gains, Stays, Takes, Returns, Leaves, Readies}
+use Rattle.lists.specs.Lists.{AreDistinct, Has}
 
 -- a list of out tasks follows its task p: it was out or not, and is
 abbrev pub OutTurns : {X : Type 0} → Bool → Bool → X → List X → List X → Type 0
@@ -76,7 +76,7 @@ module _ {K V : Type 0} (eq : K → K → Bool) where
   -- the task of k at v, which is out, may come to wait so: the keys of p are its next batch; it waits for some of them, whose tasks are at work and do
   -- not lead back to it; and each other key of the batch is injected, or its task has ended with a value
   pub record MayPark (m : Meaning K V) (v : ℕ) (k : K) (p : Waits K V) (xs : List (WaitOf K)) (ps : List (K × Share K (Held K V))) : Type 0 where
-    pub next : AsksNext eq m v k (doing p.job.work) p.job.answered (IsWaiting p.keys)
+    pub next : AsksNext eq m v k p.job.work p.job.answered (IsWaiting p.keys)
     pub some : (x : WaitOf K) × Has xs x
     pub own : (x : WaitOf K) → Has xs x → x.asker ≡ k
     pub within : (x : WaitOf K) → Has xs x → Has p.keys x.key

@@ -1,10 +1,10 @@
 //! The desk: the journal, and which tasks are ready, which are out, and how many are at work.
 ghost use Rattle.std.specs.Prelude.{◌≡◌, ◌<◌, ◌≤◌, ◌+◌, ◌*◌, ◌++◌, [], ◌∷◌, ℕ, List, length, Some, None, IfOk, IfSome, IfNone, OnOk, OnErr};
 ghost use Rattle.std.specs.Arc.{arc_value};
-ghost use Rattle.dice_model.specs.Log.{Has};
 ghost use Rattle.journal.specs.Tell.{told};
 ghost use Rattle.dice_tasks.specs.Hands.{place_at, with_event, with_made, with_ended, with_told_next, KeepsHands, KeepsDeskRoom, HasDeskRoom, Takes, Returns, Leaves, Readies, Unreadies};
 ghost use Rattle.dice_tasks.specs.Shelves.{place_of};
+ghost use Rattle.lists.specs.Lists.{Has};
 
 use crate::shelf::{ReadyTask, Shelf, index_of, put_back, put_in, take_away, take_out};
 use dice_key::{KeyRef, NoMemory, Universe};

@@ -3,19 +3,20 @@ ghost use Rattle.std.specs.Prelude.{◌≡◌, ◌⊎◌, ℕ, List, [], ◌∷�
 ghost use Rattle.std.specs.Arc.{arc_value};
 ghost use Rattle.std.specs.Option.{option_map};
 ghost use Rattle.dice_key.specs.Meaning.{Answered, Ends};
-ghost use Rattle.dice_model.specs.Log.{Has};
 ghost use Rattle.dice_model.specs.Asks.{IsTrace};
 ghost use Rattle.task_share.specs.Asked.{IsDone};
 ghost use Rattle.task_share.specs.Seen.{asked_of, task_at, is_live, KeepsTasks, KeepsAsks, KeepsRoom};
 ghost use Rattle.journal.specs.declared.event.Told.TheVariants.{Keep, End, Cyclic, Lost};
 ghost use Rattle.journal.specs.Events.{commits_of, ended_at};
 ghost use Rattle.journal.specs.Tell.{told};
-ghost use Rattle.core_laws.specs.Tasks.{Outcome as Came, WithValue, WithCycle, WithNothing, Works, Computes, Checks, IsOut};
+ghost use Rattle.core_laws.specs.Tasks.{Outcome as Came, WithValue, WithCycle, WithNothing, Works, IsOut};
 ghost use Rattle.core_laws.specs.Desk.{World, ready_in, out_in};
 ghost use Rattle.dice_tasks.specs.Helds.{Held, came};
 ghost use Rattle.dice_tasks.specs.Loads.{AreCopies};
 ghost use Rattle.dice_tasks.specs.Hands.{Working, Cleaning};
 ghost use Rattle.dice_tasks.specs.Endings.{Quits, Knows, DropsTask, DropsTasks, EndsTask, TellsEnd, ListsEnd, ComesOf, path_of, told_end, ReachesPath, EndsAsker, HasTold, EndsTasks, EndWithAskers, AreTasked, ends_so};
+ghost use Rattle.lists.specs.Lists.{Has};
+ghost use Rattle.dice_jobs.specs.Jobs.{Checks, Computes};
 
 use crate::Tasks;
 use crate::desk::Desk;
@@ -31,7 +32,7 @@ use task_state::Outcome;
 pub enum How<'a, K: Drop> {
     /// For want of memory.
     Lost,
-    /// Since their keys reach this circle.
+    /// Since their keys reach this cycle.
     Cycle(&'a Arc<Path<K>>),
 }
 
@@ -143,7 +144,7 @@ fn end_lost<U: Universe>(desk: &mut Desk<U>, tasks: &mut Tasks<U>, version: u64,
     desk.push_ended(second);
 }
 
-/// Ends the task at work of a key with a circle, and puts the key on the list of those whose askers are still to be told. It takes
+/// Ends the task at work of a key with a cycle, and puts the key on the list of those whose askers are still to be told. It takes
 /// no memory.
 fn end_cyclic<U: Universe>(
     desk: &mut Desk<U>,
@@ -165,7 +166,7 @@ fn end_cyclic<U: Universe>(
 }
 
 /// Ends the task at work of a key as is said, and puts the key on the list of those whose askers are still to be told. Where there
-/// is no memory for the circle, the task ends as lost.
+/// is no memory for the cycle, the task ends as lost.
 fn end_one<U: Universe>(
     desk: &mut Desk<U>,
     tasks: &mut Tasks<U>,
@@ -186,7 +187,7 @@ fn end_one<U: Universe>(
     }
 }
 
-/// Ends the task at work of a key with its own circle, or as lost where there is none, and puts the key on the list of those whose
+/// Ends the task at work of a key with its own cycle, or as lost where there is none, and puts the key on the list of those whose
 /// askers are still to be told. It takes no memory.
 fn end_own<U: Universe>(
     desk: &mut Desk<U>,
@@ -233,7 +234,7 @@ fn tell_one<U: Universe>(
 }
 
 /// Ends the task at work of a key, each task that asks for it, each that asks for one of these, and so on: as lost, or with a
-/// circle that the key reaches. It takes no memory: the task of the key ends with its `own` circle, and another one for which there
+/// cycle that the key reaches. It takes no memory: the task of the key ends with its `own` cycle, and another one for which there
 /// is no memory for a copy ends as lost.
 ///
 /// It costs the number of tasks that it ends and of the keys that they waited for.

@@ -4,11 +4,11 @@ ghost use Rattle.std.specs.Arc.{arc_value};
 ghost use Rattle.std.specs.Cmp.{unsigned_Decides, first_so, second_so};
 ghost use Rattle.std.specs.Hash as fed;
 ghost use Rattle.indexmap.specs.IndexSet.{spare};
-ghost use Rattle.dice_model.specs.Log.{Has, AreDistinct};
 ghost use Rattle.core_laws.specs.Desk.{Loses};
 ghost use Rattle.dice_tasks.specs.Hands.{Stays};
 ghost use Rattle.dice_tasks.specs.Shelves.{place_of, ready_of, out_of};
 ghost use Rattle.dice_tasks.specs.declared.shelf.ReadyTask.{ReadyTask as Ready};
+ghost use Rattle.lists.specs.Lists.{AreDistinct, Has};
 
 use dice_key::{KeyRef, Universe, laws_of};
 use indexmap::{Equivalent, IndexSet};

@@ -9,7 +9,7 @@ ghost use Rattle.dice_jobs.specs.Shapes.{work_of};
 ghost use Rattle.core_laws.specs.Tasks.{Phase, IsReady, IsOut, IsWaiting, Ended, WithValue, WithNothing, goes_on, waits_for, value_in};
 ghost use Rattle.core_laws.specs.Desk.{ready_in, out_in};
 ghost use Rattle.dice_tasks.specs.Helds.{came, held_of, held_ended, FollowsOn};
-ghost use Rattle.dice_tasks.specs.Circles.{path_in};
+ghost use Rattle.dice_tasks.specs.CyclePaths.{path_in};
 ghost use Rattle.dice_tasks.specs.Loads.{AreCopies};
 
 use dice_jobs::{Assignment, Earlier, Job, JobName, Parked, Step};
@@ -342,8 +342,8 @@ impl<U: Universe> Task<U> {
         }
     }
 
-    /// The circle that the task ended with, where it has.
-    pub fn circle(&self) -> Option<&Arc<Path<U::Key>>>
+    /// The cycle that the task ended with, where it has.
+    pub fn cycle(&self) -> Option<&Arc<Path<U::Key>>>
         ensures { option_map (λ p. arc_value p.now) result ≡ path_in self.now.standing }
     {
         match self.outcome() {

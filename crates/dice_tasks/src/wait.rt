@@ -10,11 +10,11 @@ ghost use Rattle.journal.specs.Events.{commits_of};
 ghost use Rattle.core_laws.specs.Tasks.{IsReady, IsOut, IsWaiting};
 ghost use Rattle.core_laws.specs.Stands.{AsksNext};
 ghost use Rattle.core_laws.specs.Desk.{World, is_ready};
-ghost use Rattle.dice_tasks.specs.Helds.{held_of, doing};
-ghost use Rattle.dice_model.specs.Log.{Has};
+ghost use Rattle.dice_tasks.specs.Helds.{held_of};
 ghost use Rattle.dice_tasks.specs.Hands.{Returns, Working, tasks_of};
 ghost use Rattle.dice_tasks.specs.Endings.{Knows};
 ghost use Rattle.dice_tasks.specs.Waitings.{IsTurned, KeepsTable, TakesJob, ReturnsJob, HasRoomFor, waits_so, ParksJob, MayPark};
+ghost use Rattle.lists.specs.Lists.{Has};
 
 use crate::Tasks;
 use crate::desk::Desk;
@@ -108,7 +108,7 @@ pub fn go_on<U: Universe>(
     requires count { length next.values ≡ length parked.keys }
     requires next { next.job ≡ answered_more parked.job parked.keys next.values }
     ensures ready { ReturnsJob U.Key.eq version (arc_value key.now) parked.job next.job tasks.old tasks.new desk.old desk.new }
-    ensures kept { (w : World U.Key U.Value) (W : List U.Key) (owed : ℕ) → Working U.Key.eq U.meaning version W w owed tasks.old desk.old → AsksNext U.Key.eq U.meaning version (arc_value key.now) (doing parked.job.work) parked.job.answered (IsWaiting parked.keys) → AllZip (HasValue U.Key.eq U.meaning (commits_of (reverse desk.old.events)) version) parked.keys next.values → Working U.Key.eq U.meaning version W w owed tasks.new desk.new }
+    ensures kept { (w : World U.Key U.Value) (W : List U.Key) (owed : ℕ) → Working U.Key.eq U.meaning version W w owed tasks.old desk.old → AsksNext U.Key.eq U.meaning version (arc_value key.now) parked.job.work parked.job.answered (IsWaiting parked.keys) → AllZip (HasValue U.Key.eq U.meaning (commits_of (reverse desk.old.events)) version) parked.keys next.values → Working U.Key.eq U.meaning version W w owed tasks.new desk.new }
 {
     laws_of::<U>();
     let Some(task) = tasks.task_mut(key) else {

@@ -14,12 +14,9 @@ use Rattle.clap.specs.Faults.{values_fault, count_fault, repeat_fault, set_fault
 use Rattle.clap.specs.declared.builder.ArgAction.{ArgAction}
 use Rattle.clap.specs.declared.builder.ArgAction.TheVariants.{Set, Append, SetTrue, SetFalse, Count, Help, HelpShort, HelpLong, Version}
 use Rattle.clap.specs.declared.error.ErrorKind.{ErrorKind}
+use Rattle.std.proofs.lemmas.Bool.{and_from}
 
 -- ---- tests and lists of kinds
-
-and_all : (a b : Bool) → a ≡ true → b ≡ true → (a && b) ≡ true
-and_all true b p q = q
-and_all false b p q = p
 
 first_none : (a b : Kinds) → or_else a b ≡ [] → a ≡ []
 first_none [] b e = refl
@@ -48,7 +45,7 @@ module _ {A : Type 0} where
 values_clean : (a : Rule) (vs : List Text) → values_fault a vs ≡ [] → values_pass a vs ≡ true
 values_clean a [] e = refl
 values_clean a (v ∷ vs) e =
-    and_all (value_passes a v) (values_pass a vs) (where_none _ _ (first_none (value_kinds a.ignore_case (parser_of_value a.parser) v) (values_fault a vs) e))
+    and_from (value_passes a v) (values_pass a vs) (where_none _ _ (first_none (value_kinds a.ignore_case (parser_of_value a.parser) v) (values_fault a vs) e))
     (values_clean a vs (then_none (value_kinds a.ignore_case (parser_of_value a.parser) v) (values_fault a vs) e))
 
 count_clean : (a : Rule) (vs : List Text) (rows : List Row) → count_fault a vs rows ≡ [] → count_passes a vs rows ≡ true
@@ -61,7 +58,7 @@ may_repeat true true k e = refl
 may_repeat true false k e = cc
 
 set_clean : (again : Bool) (a : Rule) (vs : List Text) (rows : List Row) → set_fault again a vs rows ≡ [] → set_passes again a vs rows ≡ true
-set_clean again a vs rows e = and_all (not (has_row a.id rows) || again) (values_pass a vs) (may_repeat (has_row a.id rows) again _ (first_none (repeat_fault again a.id rows) (values_fault a vs) e))
+set_clean again a vs rows e = and_from (not (has_row a.id rows) || again) (values_pass a vs) (may_repeat (has_row a.id rows) again _ (first_none (repeat_fault again a.id rows) (values_fault a vs) e))
     (values_clean a vs (then_none (repeat_fault again a.id rows) (values_fault a vs) e))
 
 action_clean : (x : ArgAction) (again : Bool) (a : Rule) (vs : List Text) (rows : List Row) → action_fault x again a vs rows ≡ [] → action_passes x again a vs rows ≡ true
@@ -102,7 +99,7 @@ use_clean again a vs rows e =
     let range = range_kinds least (most_values a) (length vs) in
     let action = action_fault (action_of a) again a (values_or_missing a vs) rows in
     let within = range_clean least (most_values a) (length vs) (first_none range action e) in
-    and_all (nat_le least (length vs)) _ within.0 (and_all (nat_le (length vs) (most_values a)) _ within.1
+    and_from (nat_le least (length vs)) _ within.0 (and_from (nat_le (length vs) (most_values a)) _ within.1
     (action_clean (action_of a) again a (values_or_missing a vs) rows (then_none range action e)))
 
 -- ---- the walk
@@ -114,7 +111,7 @@ react_clean : (c : List Rule) (again : Bool) (a : Rule) (vs : List Text) (h : He
 react_clean c again a vs h e =
     let settle = settle_fault c again h in
     let use_ = use_fault again a vs (settled c h).rows in
-    and_all (settle_passes c again h) _ (settle_clean c again h (first_none settle use_ e)) (use_clean again a vs (settled c h).rows (then_none settle use_ e))
+    and_from (settle_passes c again h) _ (settle_clean c again h (first_none settle use_ e)) (use_clean again a vs (settled c h).rows (then_none settle use_ e))
 
 option_clean : (c : List Rule) (again : Bool) (a : Rule) (v : Option Text) (h : Held) → option_fault c again a v h ≡ [] → option_passes c again a v h ≡ true
 option_clean c again a (Some v) h e = react_clean c again a (v ∷ []) h e
@@ -148,7 +145,7 @@ short_clean c again (Some a) rest h next passes go e =
     let after = next (reacted c a [] h) in
     either_clean (takes_values a) (option_fault c again a (attached_value rest) h) (or_else react after) (option_passes c again a (attached_value rest) h) _
     (option_clean c again a (attached_value rest) h)
-    (λ f. and_all (react_passes c again a [] h) _ (react_clean c again a [] h (first_none react after f)) (go (reacted c a [] h) (then_none react after f))) e
+    (λ f. and_from (react_passes c again a [] h) _ (react_clean c again a [] h (first_none react after f)) (go (reacted c a [] h) (then_none react after f))) e
 
 bundle_clean : (c : List Rule) (again : Bool) (x : Option ℕ) (flags : Text) (skip : ℕ) (h : Held) (next : Text → ℕ → Held → Kinds) (passes : Text → ℕ → Held → Bool)
     → ((t : Text) (n : ℕ) (g : Held) → next t n g ≡ [] → passes t n g ≡ true) → bundle_step_fault c again x flags skip h next ≡ [] → bundle_step_passes c again x flags skip h passes ≡ true
@@ -205,7 +202,7 @@ turn_clean s names w word e =
     let named = word_fault s names w.is_trailing w.waiting word w.held in
     let stepped = step_fault s w.position met.0 met.1 in
     open_clean (is_some w.stopped) (or_else named stepped) (word_passes s names w.is_trailing w.waiting word w.held && step_passes s w.position met.0 met.1)
-    (λ f. and_all (word_passes s names w.is_trailing w.waiting word w.held) _ (word_clean s names w.is_trailing w.waiting word w.held (first_none named stepped f))
+    (λ f. and_from (word_passes s names w.is_trailing w.waiting word w.held) _ (word_clean s names w.is_trailing w.waiting word w.held (first_none named stepped f))
     (step_clean s w.position met.0 met.1 (then_none named stepped f))) e
 
 walk_clean : (s : Shape) (names : Names) (w : Walk) (words : List Text) → walk_fault s names w words ≡ [] → walk_passes s names w words ≡ true
@@ -214,7 +211,7 @@ walk_clean s names w [] e = refl
 walk_clean s names w (word ∷ rest) e =
     let here = turn_fault s names w word in
     let after = walk_fault s names (walked s.rules names w word) rest in
-    and_all (turn_passes s names w word) _ (turn_clean s names w word (first_none here after e)) (walk_clean s names (walked s.rules names w word) rest (then_none here after e))
+    and_from (turn_passes s names w word) _ (turn_clean s names w word (first_none here after e)) (walk_clean s names (walked s.rules names w word) rest (then_none here after e))
 
 -- ---- after the walk
 
@@ -236,7 +233,7 @@ none_missing rows [] e = refl
 none_missing rows (a ∷ rest) e =
     let here = a.required && not (is_given a.id rows) in
     let after = list_any (λ x. x.required && not (is_given x.id rows)) rest in
-    and_all (not a.required || is_given a.id rows) _ (not_missing a.required (is_given a.id rows) (or_first here after e)) (none_missing rows rest (or_second here after e))
+    and_from (not a.required || is_given a.id rows) _ (not_missing a.required (is_given a.id rows) (or_first here after e)) (none_missing rows rest (or_second here after e))
 
 check_tests : (help sub arg : Bool) → check_kinds help sub arg ≡ [] → (help ≡ false) × (sub ≡ false) × (arg ≡ false)
 check_tests true sub arg e = cc
@@ -263,8 +260,8 @@ valid_tests : (has wants_help given wants_sub free negates missing present : Boo
     → (not (negates && has) && missing) ≡ false → (missing ≡ false → present ≡ true)
     → ((not wants_help || (has || given)) && ((not wants_sub || has) && (free && ((negates && has) || present)))) ≡ true
 valid_tests has wants_help given wants_sub free negates missing present h s f a p =
-    and_all (not wants_help || (has || given)) _ (help_unwanted has wants_help given h) (and_all (not wants_sub || has) _ (subcommand_there has wants_sub s)
-    (and_all free _ f (arguments_there (negates && has) missing present a p)))
+    and_from (not wants_help || (has || given)) _ (help_unwanted has wants_help given h) (and_from (not wants_sub || has) _ (subcommand_there has wants_sub s)
+    (and_from free _ f (arguments_there (negates && has) missing present a p)))
 
 valid_clean : (s : Shape) (rows : List Row) (has : Bool) → list_all (λ a. a.is_free) s.rules ≡ true → check_fault s rows has ≡ [] → is_valid s rows has ≡ true
 valid_clean s rows has free e =
@@ -290,9 +287,9 @@ level_clean s names h words has below sound e =
     let checking = check_fault s (finished s.rules end) has in
     let e1 = then_none walking (or_else below (or_else settling (or_else filling checking))) e in
     let e2 = then_none below (or_else settling (or_else filling checking)) e1 in (
-      and_all (walk_passes s names (walk_from h) words) _ (walk_clean s names (walk_from h) words (first_none walking _ e))
-          (and_all (settle_passes s.rules s.args_override_self end) _ (settle_clean s.rules s.args_override_self end (first_none settling _ e2))
-          (and_all (list_all default_passes s.rules) _ sound.1 (valid_clean s (finished s.rules end) has sound.0 (then_none filling checking (then_none settling _ e2))))),
+      and_from (walk_passes s names (walk_from h) words) _ (walk_clean s names (walk_from h) words (first_none walking _ e))
+          (and_from (settle_passes s.rules s.args_override_self end) _ (settle_clean s.rules s.args_override_self end (first_none settling _ e2))
+          (and_from (list_all default_passes s.rules) _ sound.1 (valid_clean s (finished s.rules end) has sound.0 (then_none filling checking (then_none settling _ e2))))),
       first_none below _ e1,
     )
 
@@ -316,7 +313,7 @@ pub built_clean : (a : App) (h : Held) (words : List Text) → IsSound a.top →
 built_clean a h words top subs e =
     let stop = (walk a.top.rules (names_of a) h words).stopped in
     let l = level_clean a.top (names_of a) h words (is_some (entered a stop)) (entered_fault a stop) top e in
-    and_all (entered_passes a stop) _ (entered_clean a stop subs l.1) l.0
+    and_from (entered_passes a stop) _ (entered_clean a stop subs l.1) l.0
 
 -- ---- a subcommand that is required is there
 

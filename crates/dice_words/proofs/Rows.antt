@@ -1,6 +1,6 @@
 -- What the rows of a level hold where its parse passes: each argument that has one has a value that it takes.
 use Rattle.std.proofs.Common.{◌⊎◌, inl, inr, ⊎_elim, ◌≡◌, ◌∙◌, ◌&&◌, ◌||◌, ℕ, zero, suc, Bool, true, false, not, List, [], ◌∷◌, ◌++◌, length, drop, find, Option, Some, None, is_some, if◌then◌else◌, cond, nat_le, nat_lt, bytes_eq, encode_utf8, slice_get, chars, refl, sym, ap, subst, arith, ltb-true, option_map}
-use Rattle.std.proofs.lemmas.Bool.{leb-true}
+use Rattle.std.proofs.lemmas.Bool.{leb-true, or_right}
 use Rattle.std.proofs.lemmas.Option.{same_Some}
 use Rattle.std.proofs.lemmas.Slice.Eq.{bytes_eq-Decides}
 use Rattle.std.specs.List.{AllByRecursion, fold, list_all, list_any}
@@ -18,12 +18,9 @@ use Rattle.clap.specs.declared.parser.matches.ValueSource.{ValueSource}
 use Rattle.clap.specs.declared.parser.matches.ValueSource.TheVariants.{CommandLine, DefaultValue}
 use Rattle.clap.proofs.SimpleLemmas.{is_nil}
 use Rattle.clap.proofs.WalkLemmas.{both}
+use Rattle.lists.proofs.Each.{all_append}
 
 -- ---- lists
-
-all_append : {X : Type 0} (P : X → Type 0) (xs ys : List X) → AllByRecursion P xs → AllByRecursion P ys → AllByRecursion P (xs ++ ys)
-all_append P [] ys h k = k
-all_append P (x ∷ xs) ys h k = (h.0, all_append P xs ys h.1 k)
 
 found_first : {X : Type 0} (b : Bool) (x y : X) (rest : Option X) → (if b then Some x else rest) ≡ Some y → (x ≡ y) ⊎ (rest ≡ Some y)
 found_first true x y rest e = inl (same_Some x y e)
@@ -323,10 +320,6 @@ or_both : (a b d : Bool) → (b ≡ true → d ≡ true) → (a || b) ≡ true �
 or_both true b d f e = refl
 or_both false b d f e = f e
 
-or_second : (a b : Bool) → b ≡ true → (a || b) ≡ true
-or_second true b e = refl
-or_second false b e = e
-
 row_kept : (id key : Text) (s : ValueSource) (vs : List Text) (missing : List Row) (rows : List Row) → has_row id rows ≡ true → has_row id (at_row key (more_values s vs) missing rows) ≡ true
 row_kept id key s vs missing [] e = cc
 row_kept id key s vs missing (r ∷ rs) e = go (bytes_eq r.id key) (row_kept id key s vs missing rs)
@@ -343,7 +336,7 @@ row_made s vs row (r ∷ rs) = go (bytes_eq r.id row.id) refl (row_made s vs row
     go : (b : Bool) → bytes_eq r.id row.id ≡ b → has_row row.id (at_row row.id (more_values s vs) (row ∷ []) rs) ≡ true
         → has_row row.id (cond b (more_values s vs r ++ rs) (r ∷ at_row row.id (more_values s vs) (row ∷ []) rs)) ≡ true
     go true e f = rw e refl
-    go false e f = or_second (bytes_eq r.id row.id) _ f
+    go false e f = or_right (bytes_eq r.id row.id) _ f
 
 default_rows_kept : (id : Text) (a : Rule) (vs : List Text) (rows : List Row) → has_row id rows ≡ true → has_row id (default_rows a.id (reading_by a) vs rows) ≡ true
 default_rows_kept id a [] rows e = e

@@ -10,16 +10,12 @@ use Rattle.std.proofs.Common.{length-append}
 use Rattle.injected.specs.History.{value_at, newest_of, FirstAbove, IsRising}
 use Rattle.injected.specs.Numbers.{pick, sets_of, tests, AllNumbered}
 use Rattle.injected.proofs.Histories.{value_here, value_before, newest_here}
+use Rattle.lists.proofs.Places.{get_longer}
 
 got : {X : Type 0} (xs : List X) (i : ℕ) → i < length xs → (x : X) × (slice_get xs i ≡ Some x)
 got [] i l = absurd (omega arith)
 got (x ∷ xs) zero l = (x, refl)
 got (x ∷ xs) (suc i) l = got xs i (omega arith)
-
-got_more : {X : Type 0} (xs ys : List X) (i : ℕ) (x : X) → slice_get xs i ≡ Some x → slice_get (xs ++ ys) i ≡ Some x
-got_more [] ys i x e = cc
-got_more (y ∷ xs) ys zero x e = e
-got_more (y ∷ xs) ys (suc i) x e = got_more xs ys i x e
 
 module _ {V B : Type 0} (xs : List (Arc V B)) where
   head : (s : ℕ × ℕ) (ss : List (ℕ × ℕ)) (x : Arc V B) → slice_get xs s.1 ≡ Some x → sets_of xs (s ∷ ss) ≡ (s.0, arc_value x) ∷ sets_of xs ss
@@ -96,7 +92,7 @@ module _ {V B : Type 0} where
   sets_more xs ys [] h = refl
   sets_more xs ys (s ∷ ss) h =
       let x = got xs s.1 h.0 in
-      head (xs ++ ys) s ss x.0 (got_more xs ys s.1 x.0 x.1) ∙ (ap (λ ts. (s.0, arc_value x.0) ∷ ts) (sets_more xs ys ss h.1) ∙ sym (head xs s ss x.0 x.1))
+      head (xs ++ ys) s ss x.0 (get_longer xs ys s.1 x.0 x.1) ∙ (ap (λ ts. (s.0, arc_value x.0) ∷ ts) (sets_more xs ys ss h.1) ∙ sym (head xs s ss x.0 x.1))
 
   sets_push : (xs : List (Arc V B)) (ss : List (ℕ × ℕ)) (s : ℕ × ℕ) (x : Arc V B) → slice_get xs s.1 ≡ Some x → sets_of xs (ss ++ s ∷ []) ≡ sets_of xs ss ++ (s.0, arc_value x) ∷ []
   sets_push xs [] s x e = head xs s [] x e

@@ -4,8 +4,6 @@
 mod history;
 mod laws;
 mod store;
-#[cfg(test)]
-mod tests;
 
 pub use laws::{cells_are_the_inputs, cells_in_order};
 pub use store::Cells;

@@ -5,7 +5,7 @@ use Rattle.dice_key.specs.Meaning.{Meaning, Answered, Ends}
 use Rattle.dice_key.specs.declared.universe.Kind.TheVariants.{Injected}
 use Rattle.dice_model.specs.Log.{input, IsCommit}
 use Rattle.dice_model.specs.Eval.{HasValue}
-use Rattle.dice_model.specs.Asks.{Goes, Reaches, ReachesCycle}
+use Rattle.dice_model.specs.Asks.{Goes, Reaches, ReachesCycle, AllTrue}
 use Rattle.journal.specs.declared.event.Told.{Told}
 use Rattle.journal.specs.declared.event.Told.TheVariants.{Commit, Open, Close, Ask, Leave, Start, Keep, End, Cyclic, Drop, Lost}
 use Rattle.journal.specs.declared.event.Reason.{Reason}
@@ -13,11 +13,6 @@ use Rattle.journal.specs.declared.event.Reason.TheVariants.{New, Transient, Diff
 use Rattle.journal.specs.Events.{Opened, Asking, commits_of, open_at, opened_at, live_at, ended_at, decided, asked_in_epoch, is_running, is_base}
 
 module _ {K V : Type 0} (eq : K → K → Bool) (m : Meaning K V) where
-  -- each answer is the key's value at v
-  abbrev pub AreValues : List (List (K × V)) → ℕ → List (Answered K V) → Type 0
-  AreValues C v [] = Unit {0}
-  AreValues C v (b ∷ bs) = AllZip (HasValue eq m C v) b.keys b.values × AreValues C v bs
-
   -- in the trace of k at w, all answers before some batch are the values at v, and in it d is the first key whose value at v is another than its answer
   pub record DiffersFirst (C : List (List (K × V))) (w v : ℕ) (k d : K) : Type 0 where
     pub computed : m.kind k ≢ Injected
@@ -27,7 +22,7 @@ module _ {K V : Type 0} (eq : K → K → Bool) (m : Meaning K V) where
     pub goes : Goes eq m C w k [] (before ++ batch ∷ later)
     pub value : V
     pub ends : m.next k (before ++ batch ∷ later) w ≡ Ends value
-    pub agreed : AreValues C v before
+    pub agreed : AllTrue (HasValue eq m C v) before
     pub keys_before : List K
     pub keys_later : List K
     pub values_before : List V

@@ -11,6 +11,3 @@ pub use changes::Changes;
 pub use event::{Cause, Event, Reason, Told};
 pub use journal_of::Journal;
 pub use laws::{journals_are_read, lawful_begins};
-
-#[cfg(test)]
-mod tests;

@@ -1,7 +1,7 @@
 -- A text has one reading as a script, or one first fault, and not both.
 use Rattle.std.proofs.Common.{◌≡◌, ◌≢◌, ◌∙◌, sym, ap, refl, subst, inl, inr, ℕ, List, [], ◌∷◌, ◌++◌, ◌+◌, take, drop, Option, Some, None, arith}
 use Rattle.buck_label.specs.Labels.{Name, IsLabel, printed}
-use Rattle.script.specs.Lines.{IsDecimal, words, line_of, behind_line, line_feeds}
+use Rattle.script.specs.Lines.{IsDecimal, words, line_of, behind_line}
 use Rattle.script.specs.Past.{Past, nothing, after, fate_of}
 use Rattle.script.specs.Faults.{Form, form_of, Tests, done, test, AllHold, FirstToFail, tests}
 use Rattle.script.specs.Scripts.{Makes, put_line, drop_line, commit_line, open_line, ask_line, action_line, wait_line, cancel_line, close_line, IsFrom, ended, skipped, told, FaultAt, no_form, fails, behind_skipped, behind, IsFirstFault}
@@ -12,6 +12,8 @@ use Rattle.script.specs.declared.fault.Word.{Word}
 use Rattle.script.specs.declared.line.Line.{Line}
 use Rattle.script.specs.declared.line.Request.{Request}
 use Rattle.script.specs.declared.line.Line.TheVariants.{Put, Ask, Action}
+use Rattle.lists.proofs.Lines.{line_feeds_append}
+use Rattle.lists.specs.Lines.{line_feeds}
 
 -- a label as written names one target
 abbrev pub OneLabel : Type 0
@@ -137,10 +139,6 @@ one_fault one p text a b v w (behind q t rest i f l x ns e h k r) (fails q' t' g
 one_fault one p text a b v w (behind q t rest i f l x ns e h k r) (behind_skipped q' t' j y k' s r') = absurd (ns s)
 one_fault one p text a b v w (behind q t rest i f l x ns e h k r) (behind q' t' rest' j g l' y ns' e' h' k' r') =
     one_fault one (after q l) rest i j x y r (moved q l l' rest rest' j y (same_make one f g (behind_line t) l l' rest rest' (same_form t f g e e') k k') r')
-
-line_feeds_append : (xs ys : List ℕ) → line_feeds (xs ++ ys) ≡ line_feeds xs + line_feeds ys
-line_feeds_append [] ys = omega arith
-line_feeds_append (x ∷ xs) ys = let h = line_feeds_append xs ys in omega arith
 
 -- one first fault stands on one line
 pub one_line : OneLabel → (text : List ℕ) (m n : ℕ) (v w : Word) → IsFirstFault text m v → IsFirstFault text n w → (m ≡ n) × (v ≡ w)

@@ -1,7 +1,6 @@
 -- How far a text has been read.
 use Rattle.std.proofs.Common.{◌≡◌, ◌≢◌, ◌⊎◌, ◌≤◌, ◌∙◌, refl, sym, ap, subst, inl, inr, ℕ, List, [], ◌∷◌, ◌++◌, append_assoc, append-nil, length, ◌<◌, ◌+◌, ◌-◌, take, drop, arith, option_to_list, Option, Some, None}
-use Rattle.std.proofs.lemmas.List.{length-drop, drop-drop, drop_all}
-use Rattle.script.proofs.WordLemmas.{rest_of}
+use Rattle.std.proofs.lemmas.List.{length-drop, drop-drop, drop_all, take_rest}
 use Rattle.script.specs.declared.fault.Word.{Word}
 use Rattle.script.specs.declared.fault.Word.TheVariants as fault
 use Rattle.script.specs.declared.line.Line.{Line}
@@ -62,7 +61,7 @@ some_left text at h e = let k : length (drop at text) ≡ 0 = ap length e in let
 pub step : (text : List ℕ) (p q : Past) (ls : List Line) (at n : ℕ) (made : Option Line) → at < length text → Reached text p ls (drop at text) →
     HasDone p (take (length text - at) (drop at text)) made (drop n (take (length text - at) (drop at text))) q → Reached text q (ls ++ option_to_list made) (drop (at + n) text)
 step text p q ls at n made h r d =
-    let e = rest_of text at in
+    let e = take_rest text at in
     let d' : HasDone p (drop at text) made (drop n (drop at text)) q = subst (λ (x : List ℕ). HasDone p x made (drop n x) q) e d in
     subst (λ (x : List ℕ). Reached text q (ls ++ option_to_list made) x) (drop-drop n at text) (step_more text p q ls (drop at text) (drop n (drop at text)) made (some_left text at h) r d')
 
@@ -81,7 +80,7 @@ all_read text p ls rest e r = subst (λ (xs : List Line). IsFrom nothing text xs
 
 -- the line that begins here has this fault
 pub stopped : (text : List ℕ) (p : Past) (ls : List Line) (at : ℕ) (w : Word) → Reached text p ls (drop at text) → HasFault p (take (length text - at) (drop at text)) w → FaultAt nothing text (drop at text) w
-stopped text p ls at w r h = found_fault text p ls (drop at text) w r (subst (λ (x : List ℕ). HasFault p x w) (rest_of text at) h)
+stopped text p ls at w r h = found_fault text p ls (drop at text) w r (subst (λ (x : List ℕ). HasFault p x w) (take_rest text at) h)
 
 pub stopped_by : (text : List ℕ) (p q : Past) (ls : List Line) (at : ℕ) (s : Stop) → at ≤ length text → Reached text p ls (drop at text) →
     IsLineTaken p (take (length text - at) (drop at text)) (Err s) q → IsBroken text (broken_at at s)

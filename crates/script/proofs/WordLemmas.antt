@@ -1,19 +1,16 @@
 -- The words of a line, and its end.
 use Rattle.std.proofs.Common.{◌≡◌, ◌⊎◌, ◌∙◌, ◌<◌, ◌+◌, ◌-◌, subst, sym, ap, refl, inl, inr, ℕ, Bool, true, false, List, [], ◌∷◌, take, drop, length, suc, arith, nat_eq}
 use Rattle.std.proofs.Math.Seq.{take-length}
-use Rattle.std.proofs.lemmas.List.{length-drop}
+use Rattle.std.proofs.lemmas.List.{length-drop, take_rest}
 use Rattle.std.proofs.Common.{None}
 use Rattle.script.specs.Faults.{form_of}
 use Rattle.script.specs.Lines.{before, words, split_byte, front_word}
-
-bool_cases : (b : Bool) → (b ≡ true) ⊎ (b ≡ false)
-bool_cases true = inl refl
-bool_cases false = inr refl
+use Rattle.std.proofs.lemmas.Bool.{cases_Bool}
 
 -- the first word ends at the first space
 pub first_word : (bs : List ℕ) → before 32 bs < length bs → words bs ≡ take (before 32 bs) bs ∷ words (drop (before 32 bs + 1) bs)
 first_word [] h = absurd (omega arith)
-first_word (b ∷ bs) h = elim (bool_cases (nat_eq b 32)) [
+first_word (b ∷ bs) h = elim (cases_Bool (nat_eq b 32)) [
   | inl t ↦ rw t refl
   | inr f ↦ let k : before 32 bs < length bs = let g : before 32 bs + 1 < length (b ∷ bs) = rw f at h in omega arith in
       let e : suc (before 32 bs + 1) ≡ before 32 bs + 1 + 1 = omega arith in
@@ -24,18 +21,15 @@ first_word (b ∷ bs) h = elim (bool_cases (nat_eq b 32)) [
 -- with no space all is one word
 pub only_word : (bs : List ℕ) → before 32 bs ≡ length bs → words bs ≡ bs ∷ []
 only_word [] h = refl
-only_word (b ∷ bs) h = elim (bool_cases (nat_eq b 32)) [
+only_word (b ∷ bs) h = elim (cases_Bool (nat_eq b 32)) [
   | inl t ↦ let g : 0 ≡ length (b ∷ bs) = rw t at h in absurd (omega arith)
   | inr f ↦ let g : before 32 bs + 1 ≡ length (b ∷ bs) = rw f at h in rw f (ap (front_word b) (only_word bs (omega arith)))
 ]
 
-pub rest_of : (xs : List ℕ) (k : ℕ) → take (length xs - k) (drop k xs) ≡ drop k xs
-rest_of xs k = ap (λ (n : ℕ). take n (drop k xs)) (sym (length-drop k xs)) ∙ take-length (drop k xs)
-
 pub split_found : (bs : List ℕ) (at : ℕ) → at ≡ before 32 bs → at < length bs → words bs ≡ take at bs ∷ words (take (length bs - (at + 1)) (drop (at + 1) bs))
 split_found bs at e h =
     let f : before 32 bs < length bs = subst (λ (n : ℕ). n < length bs) e h in
-    first_word bs f ∙ ap (λ (n : ℕ). take n bs ∷ words (drop (n + 1) bs)) (sym e) ∙ ap (λ (t : List ℕ). take at bs ∷ words t) (sym (rest_of bs (at + 1)))
+    first_word bs f ∙ ap (λ (n : ℕ). take n bs ∷ words (drop (n + 1) bs)) (sym e) ∙ ap (λ (t : List ℕ). take at bs ∷ words t) (sym (take_rest bs (at + 1)))
 
 some_front : (b : ℕ) (ws : List (List ℕ)) → (w : List ℕ) × (vs : List (List ℕ)) × (front_word b ws ≡ w ∷ vs)
 some_front b [] = (b ∷ [], [], refl)

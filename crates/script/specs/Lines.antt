@@ -1,6 +1,7 @@
 -- Lines, words, names and decimal numbers.
 use Rattle.std.specs.Prelude.{◌≡◌, ◌≢◌, ◌≤◌, ◌+◌, ◌-◌, ◌*◌, ℕ, Bool, true, false, if◌then◌else◌, ◌&&◌, ◌||◌, nat_eq, nat_le, List, [], ◌∷◌, length, take, drop}
 use Rattle.std.specs.List.{AllByRecursion}
+use Rattle.lists.specs.Lines.{line_feeds}
 
 -- the number that digits write behind what stands for n
 abbrev pub value_from : ℕ → List ℕ → ℕ
@@ -62,7 +63,3 @@ split_byte false b ws = front_word b ws
 abbrev pub words : List ℕ → List (List ℕ)
 words [] = [] ∷ []
 words (b ∷ bs) = split_byte (nat_eq b 32) b (words bs)
-
-abbrev pub line_feeds : List ℕ → ℕ
-line_feeds [] = 0
-line_feeds (b ∷ bs) = (if nat_eq b 10 then 1 else 0) + line_feeds bs

@@ -1,13 +1,14 @@
 -- Scripts as lists of lines, and the first fault.
 use Rattle.std.specs.Prelude.{◌≡◌, ◌≢◌, ◌≤◌, ◌+◌, ℕ, List, [], ◌∷◌, ◌++◌, length, take, drop, Some, None}
 use Rattle.buck_label.specs.Labels.{Name, IsLabel, printed}
-use Rattle.script.specs.Lines.{IsDecimal, words, line_of, behind_line, line_feeds}
+use Rattle.script.specs.Lines.{IsDecimal, words, line_of, behind_line}
 use Rattle.script.specs.Past.{Past, nothing, after}
 use Rattle.script.specs.Faults.{Form, puts, drops, commits, opens, asks, acts, waits, cancels, closes, form_of, AllHold, FirstToFail, tests}
 use Rattle.script.specs.declared.fault.Word.{Word}
 use Rattle.script.specs.declared.fault.Word.TheVariants as fault
 use Rattle.script.specs.declared.line.Line.{Line}
 use Rattle.script.specs.declared.line.Line.TheVariants.{Put, Drop, Commit, Open, Ask, Action, Wait, Cancel, Close}
+use Rattle.lists.specs.Lines.{line_feeds}
 
 -- an empty line, and one that begins with #
 abbrev pub IsSkipped : List ℕ → Type 0

@@ -19,6 +19,3 @@ pub use line::{Line, Request};
 pub use name::Name;
 pub use number::MOST_BYTES;
 pub use script::{Script, read, readings_are_one};
-
-#[cfg(test)]
-mod tests;

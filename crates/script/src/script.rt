@@ -1,11 +1,11 @@
 //! Scripts, read and checked as a whole.
 ghost use Rattle.std.specs.Prelude.{◌≡◌, ◌≤◌, ◌+◌, ◌++◌, ℕ, List, length, take, OnOk, option_to_list};
-ghost use Rattle.script.specs.Lines.{line_feeds};
 ghost use Rattle.script.specs.Past.{nothing, is_cancelled};
 ghost use Rattle.script.specs.Scripts.{IsScript, IsFirstFault};
 ghost use Rattle.script.specs.Order.{InOrder};
 ghost use Rattle.script.specs.Reading.{IsRead};
 ghost use Rattle.script.specs.Taking.{AreLines, broken_at};
+ghost use Rattle.lists.specs.Lines.{line_feeds};
 
 use crate::fault::{ScriptRefusal, Stop, Word};
 use crate::known::Known;

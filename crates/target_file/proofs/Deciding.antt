@@ -13,7 +13,7 @@ use Rattle.target_file.specs.declared.place.Place.TheVariants as at
 use Rattle.target_file.specs.Tokens.{Token, Word, Text, Mark, Scan, next}
 use Rattle.target_file.specs.Table.{rule_of, attribute_of, same_attribute, form_of, needed}
 use Rattle.target_file.specs.Calls.{Value, One, Many, Argument, Call}
-use Rattle.target_file.specs.Files.{Has, Belongs, attributes, names}
+use Rattle.target_file.specs.Files.{Belongs, attributes, names}
 use Rattle.target_file.specs.Machine.{State, StepAt, Steps, Runs, Closes, Names, HasForm, HasItem, IsFresh, IsWhole, set_place, give, closed}
 use Rattle.target_file.specs.Code.{Takes, Refuses}
 use Rattle.target_file.specs.Contents.{fits, holds, has_form, is_given, is_whole, is_new, where_so, close_at, name_at, step_at, run, emptied, take_byte}
@@ -21,6 +21,7 @@ use Rattle.target_file.proofs.Runs.{one_step}
 use Rattle.target_file.proofs.Numbers.{any_has, has_any}
 use Rattle.target_file.proofs.Judging.{source_says, sources_say, command_says}
 use Rattle.target_file.proofs.Saying.{Says, both_say, not_says, says_by, number_says, path_says}
+use Rattle.lists.specs.Lists.{Has}
 
 fits_says : (o : Option Form) (v : Value) → Says (fits o v) (Belongs o v)
 fits_says (Some form.Path) (One s) = path_says s

@@ -11,15 +11,13 @@ use Rattle.target_file.specs.Machine.{State, Runs, first}
 use Rattle.target_file.proofs.Runs.{one_run, runs_split, runs_join}
 use Rattle.target_file.proofs.Spelled.{Spelled, SpelledAt, spelled_run}
 use Rattle.target_file.proofs.Complete.{accepted}
-use Rattle.target_file.proofs.Fresh.{doubled, bool_cases}
+use Rattle.target_file.proofs.Fresh.{doubled}
 use Rattle.target_file.proofs.Live.{live, IsPlain, is_plain}
 use Rattle.target_file.proofs.Prefixes.{scan_append, extends}
 use Rattle.target_file.specs.Code.{IsOpen}
 use borrow.Author.Tests.{eqb-true}
-
-pub some_then : {A B : Type 0} (f : A → Option B) (o : Option A) (y : B) → option_and_then f o ≡ Some y → (x : A) × (o ≡ Some x) × (f x ≡ Some y)
-some_then f None y e = cc
-some_then f (Some x) y e = (x, refl, e)
+use Rattle.lists.proofs.Options.{chained}
+use Rattle.std.proofs.lemmas.Bool.{cases_Bool}
 
 ended_more : (m : Mode) (ts out : List Token) → ended m ts ≡ Some out → (more : List Token) × (out ≡ ts ++ more)
 ended_more Between ts out e = let h : ts ≡ out = cc in ([], sym h ∙ sym (append-nil ts))
@@ -35,7 +33,7 @@ Stuck r ts = (more : List Token) (e : State) → Runs (first r) (ts ++ more) e �
 -- a byte that no text may have here
 pub dead_byte : (p : List ℕ) → scan start p ≡ None → IsDead p
 dead_byte p h more calls f =
-    let a = some_then (λ s. ended s.mode s.tokens) (scan start (p ++ more)) f.made_of f.tokens_are in
+    let a = chained (λ s. ended s.mode s.tokens) (scan start (p ++ more)) f.made_of f.tokens_are in
     let b : option_and_then (λ t. scan t more) (scan start p) ≡ Some a.0 = sym (scan_append p more start) ∙ a.1 in
     let c : option_and_then (λ t. scan t more) None ≡ Some a.0 = subst (λ (o : Option Scan). option_and_then (λ t. scan t more) o ≡ Some a.0) h b in
     cc
@@ -43,7 +41,7 @@ dead_byte p h more calls f =
 -- a token that no file may have here
 pub dead_token : (r : Rule) (p : List ℕ) (s : Scan) → scan start p ≡ Some s → Stuck r s.tokens → IsDead p
 dead_token r p s h k more calls f =
-    let a = some_then (λ s. ended s.mode s.tokens) (scan start (p ++ more)) f.made_of f.tokens_are in
+    let a = chained (λ s. ended s.mode s.tokens) (scan start (p ++ more)) f.made_of f.tokens_are in
     let b : option_and_then (λ t. scan t more) (scan start p) ≡ Some a.0 = sym (scan_append p more start) ∙ a.1 in
     let c : scan s more ≡ Some a.0 = subst (λ (o : Option Scan). option_and_then (λ t. scan t more) o ≡ Some a.0) h b in
     let d = extends more s a.0 c in
@@ -88,7 +86,7 @@ at_line ts line = record { tokens = ts; mode = Between; line = line }
 
 -- a byte that passes the test is no byte that fails it
 off : (P : ℕ → Bool) (b n : ℕ) → P b ≡ true → P n ≡ false → nat_eq b n ≡ false
-off P b n h k = elim (bool_cases (nat_eq b n)) [
+off P b n h k = elim (cases_Bool (nat_eq b n)) [
   | inl t ↦ let e : P n ≡ true = subst (λ (m : ℕ). P m ≡ true) (eqb-true b n t) h in cc
   | inr f ↦ f
 ]

@@ -3,7 +3,7 @@ use Rattle.std.proofs.Common.{◌≡◌, ◌<◌, ◌+◌, ◌-◌, ◌∙◌, s
 use Rattle.std.specs.List.{AllByRecursion, starts_with}
 use Rattle.std.specs.Option.{option_or}
 use Rattle.std.specs.declared.vec.Vec.{Vec}
-use Rattle.std.proofs.lemmas.List.{at_drop_more, drop-drop}
+use Rattle.std.proofs.lemmas.List.{at_drop_more, drop-drop, take_rest}
 use Rattle.buck_label.specs.Paths.{IsPath}
 use Rattle.target_file.specs.declared.table.Rule.{Rule}
 use Rattle.target_file.specs.declared.table.Attribute.{Attribute}
@@ -14,13 +14,14 @@ use Rattle.target_file.specs.Seen.{texts_of, value_of, arguments_of}
 use Rattle.target_file.specs.Table.{same_attribute, form_of}
 use Rattle.target_file.specs.Strings.{IsSource, IsCommand, IsLocated, opener, before_close, locations}
 use Rattle.target_file.specs.Calls.{Value, One, Many, Argument}
-use Rattle.target_file.specs.Files.{Has, attributes}
+use Rattle.target_file.specs.Files.{attributes}
 use Rattle.target_file.specs.Targets.{given, text_in, list_in}
 use Rattle.target_file.proofs.Saying.{Says}
 use Rattle.target_file.proofs.Deciding.{same_says}
-use Rattle.target_file.proofs.Locations.{NoClose, cut_close, slice_is, command_step}
+use Rattle.target_file.proofs.Locations.{NoClose, cut_close, command_step}
 use Rattle.target_file.proofs.Judging.{before_is}
 use Rattle.target_file.proofs.Meaning.{Fits, Tested, Whole, given_fits, has_given, path_in, path_there, path_name, sources_in}
+use Rattle.lists.specs.Lists.{Has}
 
 -- the value of an attribute
 hit : {P : Type 0} (v : Value) (o : Option Value) (c : Bool) → Says c P → P → (if c then Some v else o) ≡ Some v
@@ -50,7 +51,7 @@ pub label_is : (rest : List ℕ) (at : ℕ) → at < length rest → get_or rest
 label_is rest at h g n = sym (ap before_close (cut_close rest at h g) ∙ before_is (take at rest) (drop (suc at) rest) n)
 
 behind : (bs : List ℕ) (i : ℕ) → drop 11 (take (length bs - i) (drop i bs)) ≡ take (length bs - (i + 11)) (drop (i + 11) bs)
-behind bs i = ap (drop 11) (slice_is bs i) ∙ drop-drop 11 i bs ∙ sym (slice_is bs (i + 11))
+behind bs i = ap (drop 11) (take_rest bs i) ∙ drop-drop 11 i bs ∙ sym (take_rest bs (i + 11))
 
 pub opened : (bs : List ℕ) (i : ℕ) (b : Bool) → i < length bs → IsCommand (drop i bs) → b ≡ starts_with nat_eq (take (length bs - i) (drop i bs)) opener → b ≡ true → IsLocated (take (length bs - (i + 11)) (drop (i + 11) bs))
 opened bs i b l h e t = subst IsLocated (behind bs i) (((command_step bs i l).0 h).0 (sym e ∙ t))
@@ -65,7 +66,7 @@ locations_at bs i l =
 locations_step : (bs : List ℕ) (i : ℕ) → i < length bs → locations (drop i bs) ≡ (if starts_with nat_eq (take (length bs - i) (drop i bs)) opener then before_close (take (length bs - (i + 11)) (drop (i + 11) bs)) ∷ [] else []) ++ locations (drop (i + 1) bs)
 locations_step bs i l =
     locations_at bs i l
-    ∙ ap (λ (x : List ℕ). (if starts_with nat_eq x opener then before_close (drop 11 x) ∷ [] else []) ++ locations (drop (i + 1) bs)) (sym (slice_is bs i))
+    ∙ ap (λ (x : List ℕ). (if starts_with nat_eq x opener then before_close (drop 11 x) ∷ [] else []) ++ locations (drop (i + 1) bs)) (sym (take_rest bs i))
     ∙ ap (λ (x : List ℕ). (if starts_with nat_eq (take (length bs - i) (drop i bs)) opener then before_close x ∷ [] else []) ++ locations (drop (i + 1) bs)) (behind bs i)
 
 pub label_more : (bs : List ℕ) (i : ℕ) (b : Bool) (old new : List (List ℕ)) (l : List ℕ) → i < length bs → old ++ locations (drop i bs) ≡ locations bs →

@@ -5,14 +5,16 @@ use Rattle.std.proofs.Math.Seq.{take-suc, take-length}
 use Rattle.std.proofs.lemmas.List.{take-append-drop}
 use Rattle.target_file.specs.declared.table.Rule.TheVariants.{WriteFile}
 use Rattle.target_file.specs.Tokens.{Scan, start, next}
-use Rattle.target_file.specs.Files.{names, line_feeds, IsBad, IsWritten}
+use Rattle.target_file.specs.Files.{names, IsBad, IsWritten}
 use Rattle.target_file.specs.Calls.{Call}
 use Rattle.target_file.specs.Machine.{State, first}
 use Rattle.target_file.specs.Code.{Refuses, Takes, IsEnd}
-use Rattle.target_file.proofs.Fresh.{doubled, bool_cases}
+use Rattle.target_file.proofs.Fresh.{doubled}
 use Rattle.target_file.proofs.Prefixes.{blank, shift}
 use Rattle.target_file.proofs.Reached.{Reached, took, bad_byte, bad_end, good_end, end_only, reached_first}
 use Rattle.target_file.proofs.Counting.{weight, run_weight, out_few}
+use Rattle.std.proofs.lemmas.Bool.{cases_Bool}
+use Rattle.lists.specs.Lines.{line_feeds}
 
 -- behind these bytes: the bare scan, and the machine's state
 pub record Held (p : List ℕ) (b : Scan) (m : State) : Type 0 where
@@ -26,7 +28,7 @@ held_first = record { scan = start; bare = refl; reached = reached_first WriteFi
 
 feeds_few : (p : List ℕ) → line_feeds p ≤ length p
 feeds_few [] = omega arith
-feeds_few (b ∷ p) = elim (bool_cases (nat_eq b 10)) [
+feeds_few (b ∷ p) = elim (cases_Bool (nat_eq b 10)) [
   | inl t ↦ let h = feeds_few p in rw t (omega arith)
   | inr f ↦ let h = feeds_few p in rw f (omega arith)
 ]

@@ -3,13 +3,12 @@ use Rattle.std.proofs.Common.{◌≡◌, ◌⊎◌, ◌≤◌, ◌∙◌, sym, a
 use Rattle.std.specs.List.{list_all, AllByRecursion, starts_with}
 use Rattle.std.specs.Str.{bytes_eq}
 use borrow.Author.Tests.{ltb-true, ltb-false}
-use Rattle.std.proofs.lemmas.Bool.{eqb-true}
+use Rattle.std.proofs.lemmas.Bool.{eqb-true, cases_Bool}
 use Rattle.buck_label.specs.Paths.{IsPath}
 use Rattle.buck_label.specs.Labels.{Name, IsPackage, IsLabel, IsSomeLabel, NoColon, before_colon}
 use Rattle.buck_label.proofs.LabelLemmas.{at_colon, front_no_colon, none_no_colon, long_some, long_none, short_some, short_only, local_some, local_none, label_short}
 use Rattle.target_file.specs.Strings.{source_is, is_label_like, IsSource, IsLocated, IsCommand, opener, before_close, locations}
 use Rattle.target_file.specs.Contents.{is_path, is_absolute, is_slashed, is_some_label, is_source, has_close, is_located, is_command}
-use Rattle.target_file.proofs.Fresh.{bool_cases}
 use Rattle.target_file.proofs.Locations.{NoClose}
 use Rattle.target_file.proofs.Saying.{Says, both_say, bytes_say, path_says}
 
@@ -33,7 +32,7 @@ package_says h = either_say (bytes_eq h []) (is_path h) (h ≡ []) (IsPath h) (b
 
 colon_fits : (bs : List ℕ) → before_colon bs ≤ length bs
 colon_fits [] = omega arith
-colon_fits (b ∷ bs) = elim (bool_cases (nat_eq b 58)) [
+colon_fits (b ∷ bs) = elim (cases_Bool (nat_eq b 58)) [
   | inl t ↦ rw t (omega arith)
   | inr f ↦ let h = colon_fits bs in rw f (omega arith)
 ]
@@ -51,7 +50,7 @@ short_says : (x : List ℕ) → NoColon x → Says (is_path x) (Absolute x)
 short_says x n = alike_say (is_path x) (IsPath x) (Absolute x) (λ p. short_some x p) (λ l. (short_only x l.0 n l.1).1) (path_says x)
 
 absolute_says : (x : List ℕ) → Says (is_absolute x) (Absolute x)
-absolute_says x = elim (bool_cases (nat_lt (before_colon x) (length x))) [
+absolute_says x = elim (cases_Bool (nat_lt (before_colon x) (length x))) [
   | inl t ↦ rw t (long_says (take (before_colon x) x) (drop (suc (before_colon x)) x) x (at_colon x (ltb-true _ _ t)) (front_no_colon x))
   | inr f ↦ let g : length x ≤ before_colon x = ltb-false _ _ f in let h = colon_fits x in rw f (short_says x (none_no_colon x (omega arith)))
 ]
@@ -76,13 +75,13 @@ empty_no_label (n, inr l) = let e = l.text_is in cc
 -- where the second byte is tested
 slashed_says : (x : List ℕ) → Says (is_slashed x) ((n : Name) × IsLabel (47 ∷ x) n)
 slashed_says [] = λ l. let r = two_slashes (47 ∷ []) l.0 l.1 in let e = r.1 in cc
-slashed_says (b ∷ x) = elim (bool_cases (nat_eq b 47)) [
+slashed_says (b ∷ x) = elim (cases_Bool (nat_eq b 47)) [
   | inl t ↦ let e : 47 ≡ b = sym (eqb-true b 47 t) in rw t (subst (λ (c : ℕ). Says (is_absolute x) ((n : Name) × IsLabel (47 ∷ c ∷ x) n)) e (absolute_says x))
   | inr f ↦ rw f (λ l. let r = two_slashes (47 ∷ b ∷ x) l.0 l.1 in let e : b ≡ 47 = let i = r.1 in cc in let k : nat_eq 47 47 ≡ false = subst (λ (c : ℕ). nat_eq c 47 ≡ false) e f in cc)
 ]
 
 other_says : (b : ℕ) (x : List ℕ) → nat_eq b 58 ≡ false → Says (nat_eq b 47 && is_slashed x) (IsSomeLabel (b ∷ x))
-other_says b x g = elim (bool_cases (nat_eq b 47)) [
+other_says b x g = elim (cases_Bool (nat_eq b 47)) [
   | inl t ↦
       let e : 47 ≡ b = sym (eqb-true b 47 t) in
       let s : Says (is_slashed x) ((n : Name) × IsLabel (b ∷ x) n) = subst (λ (c : ℕ). Says (is_slashed x) ((n : Name) × IsLabel (c ∷ x) n)) e (slashed_says x) in
@@ -97,7 +96,7 @@ other_says b x g = elim (bool_cases (nat_eq b 47)) [
 
 pub label_says : (x : List ℕ) → Says (is_some_label x) (IsSomeLabel x)
 label_says [] = empty_no_label
-label_says (b ∷ x) = elim (bool_cases (nat_eq b 58)) [
+label_says (b ∷ x) = elim (cases_Bool (nat_eq b 58)) [
   | inl t ↦ let e : 58 ≡ b = sym (eqb-true b 58 t) in rw t (subst (λ (c : ℕ). Says (is_path x) (IsSomeLabel (c ∷ x))) e (local_says x))
   | inr f ↦ rw f (other_says b x f)
 ]
@@ -119,7 +118,7 @@ Closed x = (rest : List ℕ) × (x ≡ before_close x ++ 41 ∷ rest)
 
 close_says : (x : List ℕ) → Says (has_close x) (Closed x)
 close_says [] = λ h. let e = h.1 in cc
-close_says (b ∷ x) = elim (bool_cases (nat_eq b 41)) [
+close_says (b ∷ x) = elim (cases_Bool (nat_eq b 41)) [
   | inl t ↦ let e : b ≡ 41 = eqb-true b 41 t in rw t (x, ap (λ (c : ℕ). c ∷ x) e)
   | inr f ↦
       rw f (alike_say (has_close x) (Closed x) ((rest : List ℕ) × (b ∷ x ≡ (b ∷ before_close x) ++ 41 ∷ rest)) (λ h. (h.0, ap (λ (r : List ℕ). b ∷ r) h.1)) (λ h. (h.0, (let e = h.1 in cc))) (close_says x))
@@ -127,7 +126,7 @@ close_says (b ∷ x) = elim (bool_cases (nat_eq b 41)) [
 
 pub before_is : (p s : List ℕ) → NoClose p → before_close (p ++ 41 ∷ s) ≡ p
 before_is [] s n = refl
-before_is (b ∷ p) s n = elim (bool_cases (nat_eq b 41)) [
+before_is (b ∷ p) s n = elim (cases_Bool (nat_eq b 41)) [
   | inl t ↦ absurd (n.0 (eqb-true b 41 t))
   | inr f ↦ rw f (ap (λ (r : List ℕ). b ∷ r) (before_is p s n.1))
 ]

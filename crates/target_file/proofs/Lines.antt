@@ -1,12 +1,10 @@
 -- The line of a fault, by a live prefix and a dead one with no LF between.
 use Rattle.std.proofs.Common.{◌≡◌, ◌+◌, ◌∙◌, sym, ap, refl, subst, ℕ, List, [], ◌∷◌, ◌++◌, append_assoc, append-nil, if◌then◌else◌, nat_eq, arith}
 use Rattle.target_file.specs.Calls.{Call}
-use Rattle.target_file.specs.Files.{IsWritten, IsDead, line_feeds, IsShortestDead, IsFaultLine}
+use Rattle.target_file.specs.Files.{IsWritten, IsDead, IsShortestDead, IsFaultLine}
 use Rattle.target_file.proofs.Faults.{IsLive}
-
-pub feeds_append : (p q : List ℕ) → line_feeds (p ++ q) ≡ line_feeds p + line_feeds q
-feeds_append [] q = omega arith
-feeds_append (b ∷ p) q = let h = feeds_append p q in let n : ℕ = if nat_eq b 10 then 1 else 0 in let k : n + line_feeds (p ++ q) ≡ (n + line_feeds p) + line_feeds q = omega arith in k
+use Rattle.lists.proofs.Lines.{line_feeds_append}
+use Rattle.lists.specs.Lines.{line_feeds}
 
 -- one begins the other
 pub data Compared (p q x y : List ℕ) : Type 0 where
@@ -37,10 +35,10 @@ behind_live : (text q y before : List ℕ) (c : ℕ) → IsLive q → text ≡ q
 behind_live text q y before c l e s = behind_cases q y before s.rest c l s.dead (compared before q (c ∷ s.rest) y (sym s.text_is ∙ e))
 
 none_in : (z x : List ℕ) (n : ℕ) → line_feeds (z ++ x) ≡ n → n ≡ 0 → line_feeds z ≡ 0
-none_in z x n e h = let f = feeds_append z x in omega arith
+none_in z x n e h = let f = line_feeds_append z x in omega arith
 
 feeds_behind : (q z before : List ℕ) → before ≡ q ++ z → line_feeds z ≡ 0 → 1 + line_feeds q ≡ 1 + line_feeds before
-feeds_behind q z before e h = let f = feeds_append q z in let g : line_feeds before ≡ line_feeds (q ++ z) = ap line_feeds e in omega arith
+feeds_behind q z before e h = let f = line_feeds_append q z in let g : line_feeds before ≡ line_feeds (q ++ z) = ap line_feeds e in omega arith
 
 -- the end is on the line of a live prefix
 pub told_end : (text q r : List ℕ) → text ≡ q ++ r → IsLive q → line_feeds r ≡ 0 → IsFaultLine text (1 + line_feeds q)

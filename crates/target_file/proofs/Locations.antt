@@ -1,7 +1,7 @@
 -- Labels in commands.
 use Rattle.std.proofs.Common.{◌≡◌, ◌≢◌, ◌↔◌, ◌<◌, ◌≤◌, ◌+◌, ◌-◌, ◌∙◌, sym, ap, refl, subst, ℕ, zero, suc, true, List, [], ◌∷◌, ◌++◌, length, length-append, take, drop, get_or, drop-cons, add-one, min, nat_eq, arith}
 use Rattle.std.specs.List.{AllByRecursion, starts_with}
-use Rattle.std.proofs.lemmas.List.{take-append-drop, length-drop}
+use Rattle.std.proofs.lemmas.List.{take-append-drop, length-drop, take_rest}
 use Rattle.std.proofs.Math.Seq.{take-length}
 use Rattle.buck_label.specs.Labels.{IsSomeLabel}
 use Rattle.target_file.specs.Strings.{IsLocated, IsCommand, opener}
@@ -47,8 +47,5 @@ command_at bs i h =
     let e : drop i bs ≡ get_or bs i 0 ∷ drop (i + 1) bs = drop-cons bs i 0 h ∙ ap (λ (n : ℕ). get_or bs i 0 ∷ drop n bs) (sym (add-one i)) in
     subst (λ (x : List ℕ). IsCommand x ↔ (FineAt x × IsCommand (drop (i + 1) bs))) (sym e) (command_cons (get_or bs i 0) (drop (i + 1) bs))
 
-pub slice_is : (bs : List ℕ) (i : ℕ) → take (length bs - i) (drop i bs) ≡ drop i bs
-slice_is bs i = ap (λ (n : ℕ). take n (drop i bs)) (sym (length-drop i bs)) ∙ take-length (drop i bs)
-
 pub command_step : (bs : List ℕ) (i : ℕ) → i < length bs → IsCommand (drop i bs) ↔ (FineAt (take (length bs - i) (drop i bs)) × IsCommand (drop (i + 1) bs))
-command_step bs i h = subst (λ (x : List ℕ). IsCommand (drop i bs) ↔ (FineAt x × IsCommand (drop (i + 1) bs))) (sym (slice_is bs i)) (command_at bs i h)
+command_step bs i h = subst (λ (x : List ℕ). IsCommand (drop i bs) ↔ (FineAt x × IsCommand (drop (i + 1) bs))) (sym (take_rest bs i)) (command_at bs i h)

@@ -14,14 +14,16 @@ use Rattle.target_file.specs.declared.table.Form.TheVariants as form
 use Rattle.target_file.specs.Table.{same_attribute, form_of, needed}
 use Rattle.target_file.specs.Strings.{source_is, is_label_like, IsSource, IsCommand}
 use Rattle.target_file.specs.Calls.{Value, One, Many, Argument, Call}
-use Rattle.target_file.specs.Files.{Has, AreDistinct, Belongs, IsFine, attributes, name_in, names_in}
+use Rattle.target_file.specs.Files.{Belongs, IsFine, attributes, name_in, names_in}
 use Rattle.target_file.specs.Targets.{Located, IsSourceText, IsSound, source_of, text_in, list_in, given, action_by, value_of, target_of, located, target_named}
 use Rattle.target_file.specs.Names.{is_named, number_from}
 use Rattle.target_file.specs.Lent.{number_at}
-use Rattle.target_file.proofs.Fresh.{bool_cases}
 use Rattle.target_file.proofs.Spelled.{no_name, name_new}
 use Rattle.target_file.proofs.Saying.{Says}
 use Rattle.target_file.proofs.Deciding.{same_says}
+use Rattle.lists.specs.Lists.{AreDistinct, Has}
+use Rattle.std.proofs.lemmas.Bool.{cases_Bool}
+use Rattle.std.proofs.lemmas.List.{nil_from_length}
 
 pub or_none : {A : Type 0} (x : Option A) → option_or x None ≡ x
 or_none None = refl
@@ -164,7 +166,7 @@ number_is n q (c ∷ cs) h =
 -- a target is found by its number
 pub found_at : (n : ℕ) (q : List ℕ) (ls : List Located) (k : ℕ) (d : Located) → number_at n q ls ≡ Some k → (n ≤ k) × (k < n + length ls) × (target_named q ls ≡ Some (get_or ls (k - n) d).target)
 found_at n q [] k d h = cc
-found_at n q (l ∷ ls) k d h = elim (bool_cases (bytes_eq q l.target.name)) [
+found_at n q (l ∷ ls) k d h = elim (cases_Bool (bytes_eq q l.target.name)) [
   | inl t ↦
       let e : Some n ≡ Some k = subst (λ (b : Bool). (if b then Some n else number_at (n + 1) q ls) ≡ Some k) t h in
       let i : n ≡ k = cc in
@@ -181,7 +183,7 @@ found_at n q (l ∷ ls) k d h = elim (bool_cases (bytes_eq q l.target.name)) [
 
 pub missing_at : (n : ℕ) (q : List ℕ) (ls : List Located) → number_at n q ls ≡ None → target_named q ls ≡ None
 missing_at n q [] h = refl
-missing_at n q (l ∷ ls) h = elim (bool_cases (bytes_eq q l.target.name)) [
+missing_at n q (l ∷ ls) h = elim (cases_Bool (bytes_eq q l.target.name)) [
   | inl t ↦ let e : Some n ≡ None = subst (λ (b : Bool). (if b then Some n else number_at (n + 1) q ls) ≡ None) t h in cc
   | inr f ↦
       let e : number_at (n + 1) q ls ≡ None = subst (λ (b : Bool). (if b then Some n else number_at (n + 1) q ls) ≡ None) f h in
@@ -194,11 +196,6 @@ seen_alike f E [] [] = refl
 seen_alike f E [] (y ∷ ys) = refl
 seen_alike f E (x ∷ xs) [] = refl
 seen_alike f E (x ∷ xs) (y ∷ ys) = ap (λ (b : Bool). E (f x) (f y) && b) (seen_alike f E xs ys)
-
--- a loop that takes arguments one by one
-pub nothing_left : {X : Type 0} (xs : List X) → length xs ≡ 0 → xs ≡ []
-nothing_left [] h = refl
-nothing_left (x ∷ xs) h = absurd (omega arith)
 
 -- a loop that locates calls one by one
 pub one_more : {Y : Type 0} (done : List Y) (y : Y) (rest all : List Y) → done ++ y ∷ rest ≡ all → (done ++ y ∷ []) ++ rest ≡ all

@@ -16,12 +16,14 @@ use Rattle.target_file.specs.declared.call.Call as code_call
 use Rattle.target_file.specs.Seen.{argument_of, arguments_of, call_of}
 use Rattle.target_file.specs.Calls.{Value, One, Many, Argument, Call}
 use borrow.Author.Tests.{ltb-true, ltb-false}
-use Rattle.target_file.specs.Files.{Has, name_in, names_in, names}
+use Rattle.target_file.specs.Files.{name_in, names_in, names}
 use Rattle.target_file.specs.Names.{gives_name, is_named, number_from}
 use Rattle.target_file.specs.Machine.{IsFresh}
-use Rattle.target_file.proofs.Fresh.{bool_cases}
 use Rattle.target_file.proofs.Spelled.{names_in_end}
-use Rattle.target_file.proofs.Having.{has_first, has_second, has_either}
+use Rattle.target_file.proofs.Having.{has_either}
+use Rattle.lists.proofs.Members.{has_left, has_right}
+use Rattle.lists.specs.Lists.{Has}
+use Rattle.std.proofs.lemmas.Bool.{cases_Bool}
 
 apart : (bs cs ks : List ℕ) → bytes_eq bs cs ≡ false → bytes_eq bs ks ≡ true → bytes_eq cs ks ≡ false
 apart bs cs ks n y = nat_list_eq_equiv.symm cs ks ∙ sym (nat_list_eq_equiv.congr bs ks cs y) ∙ n
@@ -37,7 +39,7 @@ key_test q x y t =
 
 pub added : {A X : Type 0} (key : Vec ℕ A) (m n : BTreeMap (Vec ℕ A) X) (w : Option X) → UpdatesBy (λ x y. slice_cmp nat_cmp x.items y.items) (λ k. slice_cmp nat_cmp key.items k.items) m n w →
     (q : List ℕ) → get_by (λ k. slice_cmp nat_cmp q k.items) n ≡ (if bytes_eq key.items q then w else get_by (λ k. slice_cmp nat_cmp q k.items) m)
-added key m n w h q = elim (bool_cases (bytes_eq key.items q)) [
+added key m n w h q = elim (cases_Bool (bytes_eq key.items q)) [
   | inl t ↦ rw t (subst (λ (l : List ℕ). get_by (λ k. slice_cmp nat_cmp l k.items) n ≡ w) ((bytes_decides key.items q).0 t) h.1)
   | inr f ↦
       rw f (others _ _ m.entries n.entries h.3 (λ k. is_eq (slice_cmp nat_cmp q k.items)) (key_test q)
@@ -47,11 +49,11 @@ added key m n w h q = elim (bool_cases (bytes_eq key.items q)) [
 -- names among others
 any_end : (q : List ℕ) (xs ys : List (List ℕ)) → list_any (bytes_eq q) (xs ++ ys) ≡ (list_any (bytes_eq q) xs || list_any (bytes_eq q) ys)
 any_end q [] ys = refl
-any_end q (x ∷ xs) ys = elim (bool_cases (bytes_eq q x)) [ inl t ↦ rw t refl | inr f ↦ rw f (any_end q xs ys) ]
+any_end q (x ∷ xs) ys = elim (cases_Bool (bytes_eq q x)) [ inl t ↦ rw t refl | inr f ↦ rw f (any_end q xs ys) ]
 
 pub any_has : (q : List ℕ) (xs : List (List ℕ)) → list_any (bytes_eq q) xs ≡ true → Has xs q
 any_has q [] h = absurd cc
-any_has q (x ∷ xs) h = elim (bool_cases (bytes_eq q x)) [
+any_has q (x ∷ xs) h = elim (cases_Bool (bytes_eq q x)) [
   | inl t ↦ inl (sym ((bytes_decides q x).0 t))
   | inr f ↦ inr (any_has q xs (let k : (bytes_eq q x || list_any (bytes_eq q) xs) ≡ true = h in rw f at k))
 ]
@@ -59,7 +61,7 @@ any_has q (x ∷ xs) h = elim (bool_cases (bytes_eq q x)) [
 pub has_any : (q : List ℕ) (xs : List (List ℕ)) → Has xs q → list_any (bytes_eq q) xs ≡ true
 has_any q [] h = absurd h
 has_any q (x ∷ xs) (inl e) = let t : bytes_eq q x ≡ true = (bytes_decides q x).1 (sym e) in rw t refl
-has_any q (x ∷ xs) (inr h) = elim (bool_cases (bytes_eq q x)) [ inl t ↦ rw t refl | inr f ↦ rw f (has_any q xs h) ]
+has_any q (x ∷ xs) (inr h) = elim (cases_Bool (bytes_eq q x)) [ inl t ↦ rw t refl | inr f ↦ rw f (has_any q xs h) ]
 
 named_end : (q : List ℕ) (given : List Argument) (a : Attribute) (v : Value) → is_named q (given ++ record { attribute = a; value = v } ∷ []) ≡ (is_named q given || gives_name q a v)
 named_end q given a v = ap (list_any (bytes_eq q)) (names_in_end given (record { attribute = a; value = v })) ∙ any_end q (names_in given) (name_in a v)
@@ -67,45 +69,45 @@ named_end q given a v = ap (list_any (bytes_eq q)) (names_in_end given (record {
 -- a call more, and the arguments begin anew
 pub number_closed : (n : ℕ) (q : List ℕ) (cs : List Call) (c : Call) → number_from n q (cs ++ c ∷ []) [] ≡ number_from n q cs c.arguments
 number_closed n q [] c = refl
-number_closed n q (d ∷ cs) c = elim (bool_cases (is_named q d.arguments)) [ inl t ↦ rw t refl | inr f ↦ rw f (number_closed (n + 1) q cs c) ]
+number_closed n q (d ∷ cs) c = elim (cases_Bool (is_named q d.arguments)) [ inl t ↦ rw t refl | inr f ↦ rw f (number_closed (n + 1) q cs c) ]
 
 -- an argument that gives no name
 pub number_same : (n : ℕ) (q : List ℕ) (cs : List Call) (given : List Argument) (a : Attribute) (v : Value) → gives_name q a v ≡ false → number_from n q cs (given ++ record { attribute = a; value = v } ∷ []) ≡ number_from n q cs given
 number_same n q [] given a v h =
     let e = named_end q given a v in
-    elim (bool_cases (is_named q given)) [ inl t ↦ rw (e, t) refl | inr f ↦ rw (e, f, h) refl ]
-number_same n q (d ∷ cs) given a v h = elim (bool_cases (is_named q d.arguments)) [ inl t ↦ rw t refl | inr f ↦ rw f (number_same (n + 1) q cs given a v h) ]
+    elim (cases_Bool (is_named q given)) [ inl t ↦ rw (e, t) refl | inr f ↦ rw (e, f, h) refl ]
+number_same n q (d ∷ cs) given a v h = elim (cases_Bool (is_named q d.arguments)) [ inl t ↦ rw t refl | inr f ↦ rw f (number_same (n + 1) q cs given a v h) ]
 
 -- a name that no whole call has
 pub number_new : (n : ℕ) (q : List ℕ) (cs : List Call) (given : List Argument) (a : Attribute) (v : Value) → gives_name q a v ≡ true → (Has (names cs) q → ⊥) → number_from n q cs (given ++ record { attribute = a; value = v } ∷ []) ≡ Some (n + length cs)
 number_new n q [] given a v h k =
     let e = named_end q given a v in
     let z : n + 0 ≡ n = omega arith in
-    elim (bool_cases (is_named q given)) [ inl t ↦ rw (e, t, z) refl | inr f ↦ rw (e, f, h, z) refl ]
-number_new n q (d ∷ cs) given a v h k = elim (bool_cases (is_named q d.arguments)) [
-  | inl t ↦ absurd (k (has_first (names_in d.arguments) (names cs) q (any_has q (names_in d.arguments) t)))
+    elim (cases_Bool (is_named q given)) [ inl t ↦ rw (e, t, z) refl | inr f ↦ rw (e, f, h, z) refl ]
+number_new n q (d ∷ cs) given a v h k = elim (cases_Bool (is_named q d.arguments)) [
+  | inl t ↦ absurd (k (has_left (names_in d.arguments) (names cs) q (any_has q (names_in d.arguments) t)))
   | inr f ↦
-      let r = number_new (n + 1) q cs given a v h (λ m. k (has_second (names_in d.arguments) (names cs) q m)) in
+      let r = number_new (n + 1) q cs given a v h (λ m. k (has_right (names_in d.arguments) (names cs) q m)) in
       let z : n + length (d ∷ cs) ≡ (n + 1) + length cs = omega arith in
       rw (f, z) r
 ]
 
 -- a whole call has the name exactly if the number is below the number of calls
 pub number_used : (n : ℕ) (q : List ℕ) (cs : List Call) (given : List Argument) (k : ℕ) → number_from n q cs given ≡ Some k → k < n + length cs → Has (names cs) q
-number_used n q [] given k h l = elim (bool_cases (is_named q given)) [
+number_used n q [] given k h l = elim (cases_Bool (is_named q given)) [
   | inl t ↦ let e : Some n ≡ Some k = subst (λ (b : Bool). (if b then Some n else None) ≡ Some k) t h in let i : n ≡ k = cc in absurd (omega arith)
   | inr f ↦ let e : None ≡ Some k = subst (λ (b : Bool). (if b then Some n else None) ≡ Some k) f h in cc
 ]
-number_used n q (d ∷ cs) given k h l = elim (bool_cases (is_named q d.arguments)) [
-  | inl t ↦ has_first (names_in d.arguments) (names cs) q (any_has q (names_in d.arguments) t)
+number_used n q (d ∷ cs) given k h l = elim (cases_Bool (is_named q d.arguments)) [
+  | inl t ↦ has_left (names_in d.arguments) (names cs) q (any_has q (names_in d.arguments) t)
   | inr f ↦
       let e : number_from (n + 1) q cs given ≡ Some k = subst (λ (b : Bool). (if b then Some n else number_from (n + 1) q cs given) ≡ Some k) f h in
-      has_second (names_in d.arguments) (names cs) q (number_used (n + 1) q cs given k e (omega arith))
+      has_right (names_in d.arguments) (names cs) q (number_used (n + 1) q cs given k e (omega arith))
 ]
 
 pub number_some : (n : ℕ) (q : List ℕ) (cs : List Call) (given : List Argument) → Has (names cs) q → (k : ℕ) × (number_from n q cs given ≡ Some k) × (k < n + length cs)
 number_some n q [] given h = absurd h
-number_some n q (d ∷ cs) given h = elim (bool_cases (is_named q d.arguments)) [
+number_some n q (d ∷ cs) given h = elim (cases_Bool (is_named q d.arguments)) [
   | inl t ↦ (n, (rw t refl), (omega arith))
   | inr f ↦
       let no : Has (names_in d.arguments) q → ⊥ = λ m. let t = has_any q (names_in d.arguments) m in cc in
@@ -115,7 +117,7 @@ number_some n q (d ∷ cs) given h = elim (bool_cases (is_named q d.arguments)) 
 ]
 
 fresh_none : (cs : List Call) (q : List ℕ) (a : Attribute) (v : Value) → gives_name q a v ≡ true → IsFresh cs a v → Has (names cs) q → ⊥
-fresh_none cs q attribute.Name (One x) g f = elim (bool_cases (bytes_eq q x)) [
+fresh_none cs q attribute.Name (One x) g f = elim (cases_Bool (bytes_eq q x)) [
   | inl t ↦ subst (λ (y : List ℕ). Has (names cs) y → ⊥) (sym ((bytes_decides q x).0 t)) f
   | inr n ↦ let k : (bytes_eq q x || false) ≡ true = g in let m : false ≡ true = rw n at k in cc
 ]
@@ -130,7 +132,7 @@ fresh_none cs q attribute.Cmd v g f = cc
 
 -- an argument more
 pub number_more : (q : List ℕ) (cs : List Call) (given : List Argument) (a : Attribute) (v : Value) → IsFresh cs a v → number_from 0 q cs (given ++ record { attribute = a; value = v } ∷ []) ≡ (if gives_name q a v then Some (length cs) else number_from 0 q cs given)
-number_more q cs given a v f = elim (bool_cases (gives_name q a v)) [
+number_more q cs given a v f = elim (cases_Bool (gives_name q a v)) [
   | inl t ↦ let z : 0 + length cs ≡ length cs = omega arith in rw t (number_new 0 q cs given a v t (fresh_none cs q a v t f) ∙ ap Some z)
   | inr n ↦ rw n (number_same 0 q cs given a v n)
 ]
@@ -186,7 +188,7 @@ used_by q cs given k n h l =
           let e : Some r.0 ≡ Some k = sym r.1 ∙ h in
           let i : r.0 ≡ k = cc in
           let b : r.0 < 0 + length (map call_of cs) = r.2 in
-          elim (bool_cases (nat_lt k n)) [ inl t ↦ t | inr f ↦ let g : n ≤ k = ltb-false _ _ f in absurd (omega arith) ],
+          elim (cases_Bool (nat_lt k n)) [ inl t ↦ t | inr f ↦ let g : n ≤ k = ltb-false _ _ f in absurd (omega arith) ],
     )
 
 pub unused_by : (q : List ℕ) (cs : List code_call.Call) (given : List Argument) → number_from 0 q (map call_of cs) given ≡ None → Has (names (map call_of cs)) q → ⊥

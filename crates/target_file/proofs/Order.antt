@@ -7,12 +7,13 @@ use Rattle.target_file.specs.declared.table.Attribute.{Attribute}
 use Rattle.target_file.specs.declared.table.Attribute.TheVariants.{Name}
 use Rattle.target_file.specs.Table.{same_attribute}
 use Rattle.target_file.specs.Calls.{Value, Argument, Call}
-use Rattle.target_file.specs.Files.{Has, AreDistinct, attributes, IsFine, names}
+use Rattle.target_file.specs.Files.{attributes, IsFine, names}
 use Rattle.target_file.specs.Targets.{Located, IsFile, text_in, given, default_of, value_of, target_by, target_of, located, names_of}
 use Rattle.target_file.specs.Meaning.{AreSame}
 use Rattle.target_file.proofs.Saying.{Says}
 use Rattle.target_file.proofs.Deciding.{same_says}
 use Rattle.target_file.proofs.Meaning.{or_none, call_name, name_is}
+use Rattle.lists.specs.Lists.{AreDistinct, Has}
 
 abbrev Given : Attribute → Value → Argument
 Given a v = record { attribute = a; value = v }

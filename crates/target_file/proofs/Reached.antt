@@ -6,16 +6,19 @@ use Rattle.target_file.specs.declared.place.Place.{Place}
 use Rattle.target_file.specs.declared.place.Place.TheVariants as at
 use Rattle.target_file.specs.Tokens.{Token, Word, Mode, Between, Comment, InWord, InText, Escape, Scan, next, next_in, between, scan, start, ended, tokens, emit, with_mode, next_line, is_blank, is_mark, is_quote, is_letter, escaped}
 use Rattle.target_file.specs.Calls.{Call}
-use Rattle.target_file.specs.Files.{names, IsWritten, IsDead, line_feeds, IsFaultLine, IsBad}
+use Rattle.target_file.specs.Files.{names, IsWritten, IsDead, IsFaultLine, IsBad}
 use Rattle.target_file.specs.Machine.{State, StepAt, Steps, Runs, first}
 use Rattle.target_file.proofs.Runs.{one_run, runs_split, runs_join}
 use Rattle.target_file.proofs.Complete.{accepted}
-use Rattle.target_file.proofs.Fresh.{doubled, bool_cases}
+use Rattle.target_file.proofs.Fresh.{doubled}
 use Rattle.target_file.proofs.Prefixes.{scan_append, shift, blank, next_front}
 use Rattle.target_file.proofs.Faults.{IsLive, dead_byte, dead_token, stuck, live_prefix, file_of}
-use Rattle.target_file.proofs.Lines.{told, told_end, dead_text, feeds_append}
+use Rattle.target_file.proofs.Lines.{told, told_end, dead_text}
 use Rattle.target_file.specs.Code.{Refuses, IsOpen, IsEnd}
 use borrow.Author.Tests.{eqb-true}
+use Rattle.std.proofs.lemmas.Bool.{cases_Bool}
+use Rattle.lists.proofs.Lines.{line_feeds_append}
+use Rattle.lists.specs.Lines.{line_feeds}
 
 -- a live prefix, and no LF behind it
 pub record Near (p : List ℕ) : Type 0 where
@@ -74,7 +77,7 @@ near_more p b f n = record {
   back = n.back ++ b ∷ [];
   prefix_is = ap (λ (x : List ℕ). x ++ b ∷ []) n.prefix_is ∙ append_assoc n.front n.back (b ∷ []);
   live = n.live;
-  one_line = let h = n.one_line in let k = feeds_append n.back (b ∷ []) in let g : line_feeds (b ∷ []) ≡ 0 = rw f refl in omega arith;
+  one_line = let h = n.one_line in let k = line_feeds_append n.back (b ∷ []) in let g : line_feeds (b ∷ []) ≡ 0 = rw f refl in omega arith;
 }
 
 near_live : (p : List ℕ) → IsLive p → Near p
@@ -89,7 +92,7 @@ new_line line None t e h = cc
 new_line line (Some u) t e h = let k : u ≡ t = cc in subst (λ (x : Scan). IsOpen x.mode × (x.line ≡ line + 1)) k h
 
 line_more : (p : List ℕ) (b n line : ℕ) → line ≡ 1 + line_feeds p → line_feeds (b ∷ []) ≡ n → line + n ≡ 1 + line_feeds (p ++ b ∷ [])
-line_more p b n line h k = let f = feeds_append p (b ∷ []) in omega arith
+line_more p b n line h k = let f = line_feeds_append p (b ∷ []) in omega arith
 
 scanned_more : (p : List ℕ) (s t : Scan) (b : ℕ) → scan start p ≡ Some s → next s b ≡ Some t → scan start (p ++ b ∷ []) ≡ Some t
 scanned_more p s t b h k = scan_append p (b ∷ []) start ∙ ap (λ (o : Option Scan). option_and_then (λ u. scan u (b ∷ [])) o) h ∙ ap (λ (o : Option Scan). option_and_then (λ u. scan u []) o) k
@@ -99,7 +102,7 @@ took r p s t m e b h k g few =
     let n : next s b ≡ Some (shift s.tokens t) = next_front s b ∙ ap (option_map (shift s.tokens)) k in
     let sc = scanned_more p s (shift s.tokens t) b h.scanned n in
     let rs = runs_join s.tokens t.tokens (first r) m e h.runs g in
-    elim (bool_cases (nat_eq b 10)) [
+    elim (cases_Bool (nat_eq b 10)) [
       | inl w ↦
           let z : b ≡ 10 = eqb-true b 10 w in
           let l = new_line s.line (next s b) (shift s.tokens t) n (subst (λ (x : ℕ). NewLine s.line (next s x)) (sym z) (feed_in s.mode s)) in
@@ -119,7 +122,7 @@ refused_dead r p s m b h (inr k) =
 
 same_line : (p : List ℕ) (line : ℕ) (n : Near p) → line ≡ 1 + line_feeds p → 1 + line_feeds n.front ≡ line
 same_line p line n h =
-    let f = feeds_append n.front n.back in let g : line_feeds p ≡ line_feeds (n.front ++ n.back) = ap line_feeds n.prefix_is in let k = n.one_line in omega arith
+    let f = line_feeds_append n.front n.back in let g : line_feeds p ≡ line_feeds (n.front ++ n.back) = ap line_feeds n.prefix_is in let k = n.one_line in omega arith
 
 -- A dead byte: the text is bad on its line.
 pub bad_byte : (r : Rule) (text p rest : List ℕ) (s : Scan) (m : State) (b : ℕ) → text ≡ p ++ b ∷ rest → Reached r p s m → Refuses (blank s) b m → IsBad text s.line

@@ -11,15 +11,15 @@ use Rattle.target_file.specs.Rows.{w_text, w_file, g_text, g_file}
 use Rattle.target_file.specs.Contents.{contents}
 use Rattle.target_file.proofs.Answering.{file_by, bad_by}
 use Rattle.target_file.specs.Machine.{State, Runs, first}
-use Rattle.target_file.proofs.Fresh.{segment_path}
 use Rattle.target_file.proofs.Faults.{dead_byte, dead_token, stuck}
+use Rattle.buck_label.proofs.PathLemmas.{one_segment}
 
 -- the empty file
 pub empty_file : IsFile [] []
 empty_file = record { calls = []; written = record { made_of = []; tokens_are = refl; calls_are = refl; each = tt; once = tt }; means = refl }
 
 w_path : IsPath (codes "w")
-w_path = segment_path (codes "w") (record { some = λ e. cc; each = (refl, tt); no_dot = λ e. cc; no_dots = λ e. cc }) (omega arith)
+w_path = one_segment (codes "w") (record { some = λ e. cc; each = (refl, tt); no_dot = λ e. cc; no_dots = λ e. cc }) (omega arith)
 
 w_call : Call
 w_call = record { line = 1; rule = WriteFile; arguments = record { attribute = Name; value = One (codes "w") } ∷ record { attribute = Content; value = One (codes "a") } ∷ [] }

@@ -6,8 +6,8 @@ use Rattle.std.specs.Cmp.{unsigned_Decides}
 use Rattle.std.specs.Cmp.Lexicographic.{bytes_decides}
 use Rattle.buck_label.specs.Paths.{IsPath, IsPathText, IsSegment, IsSegmentByte, is_segment_byte, joined}
 use Rattle.target_file.specs.Contents.{is_path, is_segment, parts, longer_first}
-use Rattle.std.proofs.lemmas.Bool.{eqb-true, leb-true, le-leb}
-use Rattle.target_file.proofs.Fresh.{bool_cases}
+use Rattle.std.proofs.lemmas.Bool.{eqb-true, leb-true, le-leb, cases_Bool}
+use Rattle.buck_label.proofs.PathLemmas.{no_slash}
 
 -- a test says whether the fact holds
 abbrev pub Says : Bool → Type 0 → Type 0
@@ -75,7 +75,7 @@ first_not_none b (s ∷ ss) e = cc
 
 parts_some : (x : List ℕ) → parts x ≢ []
 parts_some [] e = cc
-parts_some (b ∷ x) e = elim (bool_cases (nat_eq b 47)) [
+parts_some (b ∷ x) e = elim (cases_Bool (nat_eq b 47)) [
   | inl t ↦ let k : [] ∷ parts x ≡ [] = rw t at e in cc
   | inr f ↦ let k : longer_first b (parts x) ≡ [] = rw f at e in first_not_none b (parts x) k
 ]
@@ -91,16 +91,9 @@ join_empty (t ∷ ss) n = refl
 
 joined_parts : (x : List ℕ) → joined (parts x) ≡ x
 joined_parts [] = refl
-joined_parts (b ∷ x) = elim (bool_cases (nat_eq b 47)) [
+joined_parts (b ∷ x) = elim (cases_Bool (nat_eq b 47)) [
   | inl t ↦ let e : b ≡ 47 = eqb-true b 47 t in rw t (join_empty (parts x) (parts_some x) ∙ ap (λ (r : List ℕ). 47 ∷ r) (joined_parts x) ∙ ap (λ (c : ℕ). c ∷ x) (sym e))
   | inr f ↦ rw f (join_first b (parts x) (parts_some x) ∙ ap (λ (r : List ℕ). b ∷ r) (joined_parts x))
-]
-
--- segments, joined, have themselves as parts
-no_slash : (b : ℕ) → IsSegmentByte b → nat_eq b 47 ≡ false
-no_slash b h = elim (bool_cases (nat_eq b 47)) [
-  | inl t ↦ let k : is_segment_byte 47 ≡ true = subst IsSegmentByte (eqb-true b 47 t) h in cc
-  | inr f ↦ f
 ]
 
 last_part : (s : List ℕ) → AllByRecursion IsSegmentByte s → parts s ≡ s ∷ []

@@ -12,8 +12,11 @@ use Rattle.target_file.specs.declared.place.Place.TheVariants as at
 use Rattle.target_file.specs.Tokens.{Token, Word, Text, Mark}
 use Rattle.target_file.specs.Table.{rule_of, attribute_of, form_of}
 use Rattle.target_file.specs.Calls.{Value, One, Many, Argument, Call, AreTexts, IsValue, IsArgument, AreGiven, IsCall, AreCalls}
-use Rattle.target_file.specs.Files.{Has, AreDistinct, Belongs, attributes, IsFine, name_in, names_in, names}
+use Rattle.target_file.specs.Files.{Belongs, attributes, IsFine, name_in, names_in, names}
 use Rattle.target_file.specs.Machine.{State, StepAt, Steps, Runs, Closes, Names, Gives, IsFresh, HasForm, HasItem, set_place, give, closed}
+use Rattle.lists.proofs.Distinct.{distinct_end}
+use Rattle.lists.proofs.Each.{all_end}
+use Rattle.lists.specs.Lists.{AreDistinct, Has}
 
 -- each argument so far fits, none stands twice, and no two names are the same
 pub record IsGood (rule : Rule) (given : List Argument) (calls : List Call) : Type 0 where
@@ -74,14 +77,6 @@ has_end [] x y (inr h) = absurd h
 has_end (z ∷ xs) x y (inl e) = inl (inl e)
 has_end (z ∷ xs) x y (inr h) = elim (has_end xs x y h) [ inl k ↦ inl (inr k) | inr e ↦ inr e ]
 
-distinct_more : {X : Type 0} (xs : List X) (y : X) → AreDistinct xs → (Has xs y → ⊥) → AreDistinct (xs ++ y ∷ [])
-distinct_more [] y d n = (λ h. h, tt)
-distinct_more (x ∷ xs) y d n = (λ h. elim (has_end xs x y h) [ inl k ↦ d.0 k | inr e ↦ n (inl (sym e)) ], distinct_more xs y d.1 (λ h. n (inr h)))
-
-all_end : {X : Type 0} (P : X → Type 0) (xs : List X) (y : X) → AllByRecursion P xs → P y → AllByRecursion P (xs ++ y ∷ [])
-all_end P [] y a p = (p, tt)
-all_end P (x ∷ xs) y a p = (a.0, all_end P xs y a.1 p)
-
 given_more : (commas arg : List Token) (given : List Argument) (a : Argument) → AreGiven commas given → IsArgument arg a → AreGiven (commas ++ (arg ++ Mark 44 ∷ [])) (given ++ a ∷ [])
 given_more commas arg [] a g i = subst (λ (c : List Token). AreGiven (c ++ (arg ++ Mark 44 ∷ [])) (a ∷ [])) (sym g) (arg, [], refl, i, refl)
 given_more commas arg (b ∷ given) a g i = (
@@ -136,7 +131,7 @@ names_more : (a : Attribute) (v : Value) (given : List Argument) (calls : List C
 names_more attribute.Name (One x) given calls d f n =
     let e : names_in given ≡ [] = name_new given n in
     let k : AreDistinct (names calls) = subst AreDistinct (ap (λ (m : List (List ℕ)). names calls ++ m) e ∙ append-nil (names calls)) d in
-    subst (λ (m : List (List ℕ)). AreDistinct (names calls ++ (m ++ x ∷ []))) (sym e) (distinct_more (names calls) x k f)
+    subst (λ (m : List (List ℕ)). AreDistinct (names calls ++ (m ++ x ∷ []))) (sym e) (distinct_end (names calls) x k f)
 names_more attribute.Name (Many xs) given calls d f n = same_names [] given calls refl d
 names_more attribute.Visibility v given calls d f n = same_names [] given calls refl d
 names_more attribute.Labels v given calls d f n = same_names [] given calls refl d
@@ -149,7 +144,7 @@ names_more attribute.Cmd v given calls d f n = same_names [] given calls refl d
 good_more : (rule : Rule) (given : List Argument) (calls : List Call) (a : Argument) → IsGood rule given calls → Belongs (form_of rule a.attribute) a.value → IsFresh calls a.attribute a.value → (Has (attributes given) a.attribute → ⊥) → IsGood rule (given ++ a ∷ []) calls
 good_more rule given calls a g b f n = record {
   each = all_end (λ a. Belongs (form_of rule a.attribute) a.value) given a g.each b;
-  once = subst AreDistinct (sym (attributes_end given a)) (distinct_more (attributes given) a.attribute g.once n);
+  once = subst AreDistinct (sym (attributes_end given a)) (distinct_end (attributes given) a.attribute g.once n);
   names_once = subst (λ (ns : List (List ℕ)). AreDistinct (names calls ++ ns)) (sym (names_in_end given a)) (names_more a.attribute a.value given calls g.names_once f n);
 }
 

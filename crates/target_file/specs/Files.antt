@@ -10,15 +10,8 @@ use Rattle.target_file.specs.declared.table.Attribute.{Attribute}
 use Rattle.target_file.specs.declared.table.Attribute.TheVariants.{Name}
 use Rattle.target_file.specs.declared.table.Form.{Form}
 use Rattle.target_file.specs.declared.table.Form.TheVariants.{Path, Text, Command, Sources, Texts}
-
--- x is one of them
-abbrev pub Has : {X : Type 0} → List X → X → Type 0
-Has [] x = ⊥
-Has (y ∷ ys) x = (y ≡ x) ⊎ Has ys x
-
-abbrev pub AreDistinct : {X : Type 0} → List X → Type 0
-AreDistinct [] = Unit {0}
-AreDistinct (x ∷ xs) = (Has xs x → ⊥) × AreDistinct xs
+use Rattle.lists.specs.Lists.{AreDistinct, Has}
+use Rattle.lists.specs.Lines.{line_feeds}
 
 -- the value has the form
 abbrev pub HasForm : Form → Value → Type 0
@@ -66,11 +59,6 @@ pub record IsWritten (text : List ℕ) (calls : List Call) : Type 0 where
 -- no file begins with it
 abbrev pub IsDead : List ℕ → Type 0
 IsDead prefix = (more : List ℕ) (calls : List Call) → IsWritten (prefix ++ more) calls → ⊥
-
--- how many LFs
-abbrev pub line_feeds : List ℕ → ℕ
-line_feeds [] = 0
-line_feeds (b ∷ bs) = (if nat_eq b 10 then 1 else 0) + line_feeds bs
 
 -- before and b are the shortest dead prefix of the text
 pub record IsShortestDead (text before : List ℕ) (b : ℕ) : Type 0 where

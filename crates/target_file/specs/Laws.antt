@@ -6,8 +6,9 @@ use Rattle.std.specs.Cmp.{IsEquivalence, decided, unsigned_Decides}
 use Rattle.std.specs.Cmp.Lexicographic.{bytes_decides, pointwise_decides}
 use Rattle.std.proofs.Common.{ap, inl, inr}
 use Rattle.buck_label.specs.Labels.{Name, IsLabelIn, IsSomeLabel}
-use Rattle.target_file.specs.Same.{both, pair, same_texts, texts_decide, same_action, action_decides}
+use Rattle.target_file.specs.Same.{same_texts, texts_decide, same_action, action_decides}
 use Rattle.target_file.specs.Targets.{Target, Located, same_target, same_located, same_file}
+use Rattle.std.proofs.lemmas.Bool.{and_from, and_parts}
 
 target_is : (x y : Target) → x.name ≡ y.name → x.visibility ≡ y.visibility → x.labels ≡ y.labels → x.action ≡ y.action → x ≡ y
 target_is x y e f g h = λ i. record { name = e i; visibility = f i; labels = g i; action = h i }
@@ -18,21 +19,21 @@ located_is x y e f = λ i. record { line = e i; target = f i }
 pub target_decides : (x y : Target) → Decides (same_target x y) (x ≡ y)
 target_decides x y = (
   λ h.
-      let a = both (bytes_eq x.name y.name && same_texts x.visibility y.visibility) (same_texts x.labels y.labels && same_action x.action y.action) h in
-      let b = both (bytes_eq x.name y.name) (same_texts x.visibility y.visibility) a.0 in
-      let c = both (same_texts x.labels y.labels) (same_action x.action y.action) a.1 in
+      let a = and_parts (bytes_eq x.name y.name && same_texts x.visibility y.visibility) (same_texts x.labels y.labels && same_action x.action y.action) h in
+      let b = and_parts (bytes_eq x.name y.name) (same_texts x.visibility y.visibility) a.0 in
+      let c = and_parts (same_texts x.labels y.labels) (same_action x.action y.action) a.1 in
       target_is x y ((bytes_decides x.name y.name).0 b.0) ((texts_decide x.visibility y.visibility).0 b.1) ((texts_decide x.labels y.labels).0 c.0) ((action_decides x.action y.action).0 c.1),
-  λ e. pair (bytes_eq x.name y.name && same_texts x.visibility y.visibility) (same_texts x.labels y.labels && same_action x.action y.action)
-      (pair (bytes_eq x.name y.name) (same_texts x.visibility y.visibility) ((bytes_decides x.name y.name).1 (ap (λ (t : Target). t.name) e)) ((texts_decide x.visibility y.visibility).1 (ap (λ (t : Target). t.visibility) e)))
-      (pair (same_texts x.labels y.labels) (same_action x.action y.action) ((texts_decide x.labels y.labels).1 (ap (λ (t : Target). t.labels) e)) ((action_decides x.action y.action).1 (ap (λ (t : Target). t.action) e))),
+  λ e. and_from (bytes_eq x.name y.name && same_texts x.visibility y.visibility) (same_texts x.labels y.labels && same_action x.action y.action)
+      (and_from (bytes_eq x.name y.name) (same_texts x.visibility y.visibility) ((bytes_decides x.name y.name).1 (ap (λ (t : Target). t.name) e)) ((texts_decide x.visibility y.visibility).1 (ap (λ (t : Target). t.visibility) e)))
+      (and_from (same_texts x.labels y.labels) (same_action x.action y.action) ((texts_decide x.labels y.labels).1 (ap (λ (t : Target). t.labels) e)) ((action_decides x.action y.action).1 (ap (λ (t : Target). t.action) e))),
 )
 
 pub located_decides : (x y : Located) → Decides (same_located x y) (x ≡ y)
 located_decides x y = (
   λ h.
-      let a = both (nat_eq x.line y.line) (same_target x.target y.target) h in
+      let a = and_parts (nat_eq x.line y.line) (same_target x.target y.target) h in
       located_is x y ((unsigned_Decides x.line y.line).0 a.0) ((target_decides x.target y.target).0 a.1),
-  λ e. pair (nat_eq x.line y.line) (same_target x.target y.target) ((unsigned_Decides x.line y.line).1 (ap (λ (l : Located). l.line) e)) ((target_decides x.target y.target).1 (ap (λ (l : Located). l.target) e)),
+  λ e. and_from (nat_eq x.line y.line) (same_target x.target y.target) ((unsigned_Decides x.line y.line).1 (ap (λ (l : Located). l.line) e)) ((target_decides x.target y.target).1 (ap (λ (l : Located). l.target) e)),
 )
 
 pub file_decides : (x y : List Located) → Decides (same_file x y) (x ≡ y)

@@ -1,7 +1,8 @@
 -- What does not count in a call.
 use Rattle.std.specs.Prelude.{◌↔◌, List}
 use Rattle.target_file.specs.Calls.{Argument}
-use Rattle.target_file.specs.Files.{Has, AreDistinct, attributes}
+use Rattle.target_file.specs.Files.{attributes}
+use Rattle.lists.specs.Lists.{AreDistinct, Has}
 
 -- the same arguments, in any order
 pub record AreSame (xs ys : List Argument) : Type 0 where

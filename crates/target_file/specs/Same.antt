@@ -8,6 +8,7 @@ use Rattle.target_file.specs.declared.source.Source.{Source}
 use Rattle.target_file.specs.declared.action.Action.{Action}
 use Rattle.target_file.specs.declared.action.Action.TheVariants.{ExportFile, Filegroup, WriteFile, Genrule, StampFile}
 use Rattle.target_file.specs.contracts.action.ActionPartialEq.TheImpl as action_eq
+use Rattle.std.proofs.lemmas.Bool.{and_from, and_parts}
 
 abbrev pub same_texts : List (List ℕ) → List (List ℕ) → Bool
 same_texts = pointwise (pointwise nat_eq)
@@ -18,14 +19,6 @@ texts_decide = pointwise_decides bytes_decides
 abbrev pub same_action : Action → Action → Bool
 same_action = action_eq.ghosts.eq
 
-pub both : (a b : Bool) → (a && b) ≡ true → (a ≡ true) × (b ≡ true)
-both true b h = (refl, h)
-both false b h = cc
-
-pub pair : (a b : Bool) → a ≡ true → b ≡ true → (a && b) ≡ true
-pair true b h k = k
-pair false b h k = h
-
 self : (x : List ℕ) → pointwise nat_eq x x ≡ true
 self x = (bytes_decides x x).1 refl
 
@@ -33,22 +26,22 @@ same : (x y : List ℕ) → pointwise nat_eq x y ≡ true → x ≡ y
 same x y h = (bytes_decides x y).0 h
 
 action_self : (x : Action) → same_action x x ≡ true
-action_self (ExportFile s o) = pair (pointwise nat_eq s s) (pointwise nat_eq o o) (self s) (self o)
+action_self (ExportFile s o) = and_from (pointwise nat_eq s s) (pointwise nat_eq o o) (self s) (self o)
 action_self (Filegroup ss) = (sources_decide ss ss).1 refl
-action_self (WriteFile c o) = pair (pointwise nat_eq c c) (pointwise nat_eq o o) (self c) (self o)
+action_self (WriteFile c o) = and_from (pointwise nat_eq c c) (pointwise nat_eq o o) (self c) (self o)
 action_self (Genrule ss o c) =
-    pair (same_sources ss ss) (pointwise nat_eq o o && pointwise nat_eq c c) ((sources_decide ss ss).1 refl) (pair (pointwise nat_eq o o) (pointwise nat_eq c c) (self o) (self c))
+    and_from (same_sources ss ss) (pointwise nat_eq o o && pointwise nat_eq c c) ((sources_decide ss ss).1 refl) (and_from (pointwise nat_eq o o) (pointwise nat_eq c c) (self o) (self c))
 action_self (StampFile o) = self o
 
 only_action : (x y : Action) → same_action x y ≡ true → x ≡ y
 only_action (ExportFile s o) (ExportFile t p) h =
-    let b = both (pointwise nat_eq s t) (pointwise nat_eq o p) h in ap (λ (z : List ℕ). ExportFile z o) (same s t b.0) ∙ ap (ExportFile t) (same o p b.1)
+    let b = and_parts (pointwise nat_eq s t) (pointwise nat_eq o p) h in ap (λ (z : List ℕ). ExportFile z o) (same s t b.0) ∙ ap (ExportFile t) (same o p b.1)
 only_action (Filegroup ss) (Filegroup ts) h = ap Filegroup ((sources_decide ss ts).0 h)
 only_action (WriteFile c o) (WriteFile d p) h =
-    let b = both (pointwise nat_eq c d) (pointwise nat_eq o p) h in ap (λ (z : List ℕ). WriteFile z o) (same c d b.0) ∙ ap (WriteFile d) (same o p b.1)
+    let b = and_parts (pointwise nat_eq c d) (pointwise nat_eq o p) h in ap (λ (z : List ℕ). WriteFile z o) (same c d b.0) ∙ ap (WriteFile d) (same o p b.1)
 only_action (Genrule ss o c) (Genrule ts p d) h =
-    let a = both (same_sources ss ts) (pointwise nat_eq o p && pointwise nat_eq c d) h in
-    let b = both (pointwise nat_eq o p) (pointwise nat_eq c d) a.1 in
+    let a = and_parts (same_sources ss ts) (pointwise nat_eq o p && pointwise nat_eq c d) h in
+    let b = and_parts (pointwise nat_eq o p) (pointwise nat_eq c d) a.1 in
     ap (λ (z : List Source). Genrule z o c) ((sources_decide ss ts).0 a.0) ∙ ap (λ (z : List ℕ). Genrule ts z c) (same o p b.0) ∙ ap (Genrule ts p) (same c d b.1)
 only_action (StampFile o) (StampFile p) h = ap StampFile (same o p h)
 only_action x y h = cc

@@ -3,9 +3,10 @@ ghost use Rattle.std.specs.Prelude.{◌≡◌, ◌↔◌, true, List, []};
 ghost use Rattle.std.specs.List.{AllByRecursion};
 ghost use Rattle.target_file.specs.Calls.{One, Many};
 ghost use Rattle.target_file.specs.Table.{form_of, needed};
-ghost use Rattle.target_file.specs.Files.{Has, Belongs, attributes};
+ghost use Rattle.target_file.specs.Files.{Belongs, attributes};
 ghost use Rattle.target_file.specs.Machine.{HasItem};
 ghost use Rattle.target_file.specs.Seen.{arguments_of};
+ghost use Rattle.lists.specs.Lists.{Has};
 
 use crate::call::Argument;
 use crate::strings::{is_command, is_source};

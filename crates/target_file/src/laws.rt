@@ -1,7 +1,7 @@
 //! Laws of the grammar.
 ghost use Rattle.std.specs.Prelude.{◌≡◌, ◌<◌, ◌^◌, ◌↔◌, ◌++◌, ◌∷◌, ℕ, List, [], length, codes, Some};
 ghost use Rattle.target_file.specs.Calls.{Value, Argument};
-ghost use Rattle.target_file.specs.Files.{Has, AreDistinct, IsDead, IsBad, attributes};
+ghost use Rattle.target_file.specs.Files.{IsDead, IsBad, attributes};
 ghost use Rattle.target_file.specs.Targets.{Located, IsFile, names_of, default_of, target_of};
 ghost use Rattle.target_file.specs.Meaning.{AreSame};
 ghost use Rattle.target_file.specs.Rows.{w_text, w_file, g_text, g_file, g_command};
@@ -9,6 +9,7 @@ ghost use Rattle.target_file.specs.Strings.{locations};
 ghost use Rattle.target_file.specs.declared.table.Attribute.{Attribute};
 ghost use Rattle.target_file.specs.declared.table.Rule.{Rule};
 ghost use Rattle.target_file.specs.Contents.{Holds, Fails, contents};
+ghost use Rattle.lists.specs.Lists.{AreDistinct, Has};
 
 /// The contents of a text, which are one value, are those of the grammar: a text is a file, and then one list
 /// of targets, or bad, and then on one line, and not both.

@@ -31,6 +31,3 @@ pub use laws::{calls_by_meaning, contents_by_grammar, worked_texts};
 pub use reading::read;
 pub use source::{Source, Sources};
 pub use target::Target;
-
-#[cfg(test)]
-mod tests;

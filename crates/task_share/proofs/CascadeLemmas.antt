@@ -2,76 +2,35 @@
 use Rattle.std.proofs.Common.{◌≡◌, ◌≤◌, ◌<◌, ◌+◌, ◌⊎◌, inl, inr, ℕ, zero, suc, Bool, true, false, not, cond, ◌&&◌, List, [], ◌∷◌, length, Some, refl, sym, ap, ◌∙◌, subst, arith}
 use Rattle.std.specs.Map.{lookup, keys_of}
 use Rattle.dice_key.specs.Lawful.{IsEquality}
-use Rattle.task_share.specs.Asked.{By, Promised, Tasked, is_by, Asked, Held, by_promise, by_task, Leads, stays, asks_on, HasNoCircle, AskersLive, IsDone, Takes, IsSame, Cascade, DropsUnheld}
-use Rattle.task_share.specs.Lists.{Has, AreDistinct}
+use Rattle.dice_key.proofs.KeySets.{same_or_not, has_or_not}
+use Rattle.task_share.specs.Asked.{By, Promised, Tasked, is_by, Asked, Held, by_promise, by_task, Leads, stays, asks_on, HasNoCycle, AskersLive, IsDone, Takes, IsSame, Cascade, DropsUnheld}
 use Rattle.task_share.specs.Seen.{Share, is_for, has_live, is_live, asked_of}
-use Rattle.task_share.proofs.PlaceLemmas.{true_or_false, and_both}
+use Rattle.lists.proofs.Distinct.{few}
+use Rattle.lists.specs.Lists.{AreDistinct, Has}
+use Rattle.std.proofs.lemmas.Bool.{and_parts, cases_Bool}
 
 module _ {K : Type 0} where
-  abbrev without : (y : K) → (xs : List K) → Has xs y → List K
-  without y [] h = absurd h
-  without y (x ∷ xs) (inl e) = xs
-  without y (x ∷ xs) (inr h) = x ∷ without y xs h
-
-  without_length : (y : K) (xs : List K) (h : Has xs y) → suc (length (without y xs h)) ≡ length xs
-  without_length y [] h = absurd h
-  without_length y (x ∷ xs) (inl e) = refl
-  without_length y (x ∷ xs) (inr h) = ap suc (without_length y xs h)
-
-  still_has : (y : K) (xs : List K) (h : Has xs y) (q : K) → (y ≡ q → ⊥) → Has xs q → Has (without y xs h) q
-  still_has y [] h q n g = absurd h
-  still_has y (x ∷ xs) (inl e) q n (inl f) = absurd (n (sym e ∙ f))
-  still_has y (x ∷ xs) (inl e) q n (inr g) = g
-  still_has y (x ∷ xs) (inr h) q n (inl f) = inl f
-  still_has y (x ∷ xs) (inr h) q n (inr g) = inr (still_has y xs h q n g)
-
-  -- distinct things of a list are no more than it has
-  pub few : (ds all : List K) → AreDistinct ds → ((q : K) → Has ds q → Has all q) → length ds ≤ length all
-  few [] all d f = omega arith
-  few (x ∷ ds) all d f =
-      let h = f x (inl refl) in
-      let r = few ds (without x all h) d.1 (λ q g. still_has x all h q (λ e. d.0 (subst (Has ds) (sym e) g)) (f q (inr g))) in
-      let l = without_length x all h in
-      let m : length (x ∷ ds) ≡ suc (length ds) = refl in
-      omega arith
-
   has_asker : (s : Asked K) (k : K) → Held s k → (a : By K) × (s.asks k a ≡ true)
   has_asker s k (by_promise n e) = (Promised n, e)
   has_asker s k (by_task {j = j} e h) = (Tasked j, e)
 
   module _ (eq : K → K → Bool) (law : IsEquality eq) where
-    same_or_not : (x y : K) → (x ≡ y) ⊎ (x ≡ y → ⊥)
-    same_or_not x y = elim (true_or_false (eq x y)) as (λ _. (x ≡ y) ⊎ (x ≡ y → ⊥)) [
-      | inl t ↦ inl (law.same x y t)
-      | inr n ↦ inr (λ e. (let t : eq x y ≡ true = subst (λ z. eq x z ≡ true) e (law.itself x) in let f : true ≡ false = sym t ∙ n in cc))
-    ]
-
-    pub has_or_not : (xs : List K) (y : K) → Has xs y ⊎ (Has xs y → ⊥)
-    has_or_not [] y = inr (λ h. h)
-    has_or_not (x ∷ xs) y = elim (same_or_not x y) as (λ _. Has (x ∷ xs) y ⊎ (Has (x ∷ xs) y → ⊥)) [
-      | inl e ↦ inl (inl e)
-      | inr n ↦ elim (has_or_not xs y) as (λ _. Has (x ∷ xs) y ⊎ (Has (x ∷ xs) y → ⊥)) [
-        | inl h ↦ inl (inr h)
-        | inr m ↦ inr (λ h. elim h as (λ _. ⊥) [ inl e ↦ n e | inr g ↦ m g ])
-      ]
-    ]
-
     module _ (s t : Asked K) (k : K) (p : Takes eq s k t) where
       fewer : (q : K) (a : By K) → t.asks q a ≡ true → s.asks q a ≡ true
-      fewer q a e = (and_both (s.asks q a) _ (sym (p.asks q a) ∙ e)).0
+      fewer q a e = (and_parts (s.asks q a) _ (sym (p.asks q a) ∙ e)).0
 
       others : (q : K) (a : By K) → s.asks q a ≡ true → (a ≡ Tasked k → ⊥) → t.asks q a ≡ true
       others q a e n = p.asks q a ∙ (ap (λ b. b && not (is_by eq (Tasked k) a)) e ∙ ap not (by_asker a n))
         where
           by_asker : (a : By K) → (a ≡ Tasked k → ⊥) → is_by eq (Tasked k) a ≡ false
           by_asker (Promised n) m = refl
-          by_asker (Tasked j) m = elim (true_or_false (eq k j)) as (λ _. eq k j ≡ false) [ inl h ↦ absurd (m (ap Tasked (sym (law.same k j h)))) | inr h ↦ h ]
+          by_asker (Tasked j) m = elim (cases_Bool (eq k j)) as (λ _. eq k j ≡ false) [ inl h ↦ absurd (m (ap Tasked (sym (law.same k j h)))) | inr h ↦ h ]
 
       withdrawn : (q : K) → t.asks q (Tasked k) ≡ true → ⊥
-      withdrawn q e = let b = (and_both (s.asks q (Tasked k)) _ (sym (p.asks q (Tasked k)) ∙ e)).1 in let f : not (eq k k) ≡ false = ap not (law.itself k) in let c : true ≡ false = sym b ∙ f in cc
+      withdrawn q e = let b = (and_parts (s.asks q (Tasked k)) _ (sym (p.asks q (Tasked k)) ∙ e)).1 in let f : not (eq k k) ≡ false = ap not (law.itself k) in let c : true ≡ false = sym b ∙ f in cc
 
       lives : (q : K) → (q ≡ k → ⊥) → t.live q ≡ s.live q
-      lives q n = p.live q ∙ elim (true_or_false (eq k q)) as (λ _. (s.live q && not (eq k q)) ≡ s.live q) [
+      lives q n = p.live q ∙ elim (cases_Bool (eq k q)) as (λ _. (s.live q && not (eq k q)) ≡ s.live q) [
         | inl h ↦ absurd (n (sym (law.same k q h)))
         | inr h ↦ ap (λ b. s.live q && not b) h ∙ and_true (s.live q)
       ]
@@ -97,27 +56,27 @@ module _ {K : Type 0} where
       leads_back a b stays = stays
       leads_back a b (asks_on {i = i} e h) = asks_on (fewer i (Tasked a) e) (leads_back i b h)
 
-      no_circle_on : HasNoCircle s → HasNoCircle t
-      no_circle_on h a i e l = h a i (fewer i (Tasked a) e) (leads_back i a l)
+      no_cycle_on : HasNoCycle s → HasNoCycle t
+      no_cycle_on h a i e l = h a i (fewer i (Tasked a) e) (leads_back i a l)
 
       askers_on : AskersLive s → AskersLive t
-      askers_on h i j e = elim (same_or_not j k) as (λ _. t.live j ≡ true) [
+      askers_on h i j e = elim (same_or_not eq law j k) as (λ _. t.live j ≡ true) [
         | inl q ↦ absurd (withdrawn i (subst (λ x. t.asks i (Tasked x) ≡ true) q e))
         | inr n ↦ lives j n ∙ h i j (fewer i (Tasked j) e)
       ]
 
       live_on : (q : K) → t.live q ≡ true → s.live q ≡ true
-      live_on q e = (and_both (s.live q) _ (sym (p.live q) ∙ e)).0
+      live_on q e = (and_parts (s.live q) _ (sym (p.live q) ∙ e)).0
 
     -- where nothing is left to drop, each task that lives is held
-    climbs : (s : Asked K) (all : List K) → ((q : K) → s.live q ≡ true → Has all q) → HasNoCircle s → AskersLive s → IsDone s
+    climbs : (s : Asked K) (all : List K) → ((q : K) → s.live q ≡ true → Has all q) → HasNoCycle s → AskersLive s → IsDone s
         → (n : ℕ) (q : K) (path : List K) → ((e : K) → Has (q ∷ path) e → Leads s q e) → ((e : K) → Has (q ∷ path) e → s.live e ≡ true) → AreDistinct (q ∷ path) → length all < length (q ∷ path) + n → Held s q
     climbs s all fin free living done zero q path l v d room = absurd (let z = few (q ∷ path) all d (λ e h. fin e (v e h)) in omega arith)
     climbs s all fin free living done (suc n) q path l v d room = let a = done q (v q (inl refl)) in by_asker (λ j p2. climbs s all fin free living done n j p2) a.0 a.1
       where
         by_asker : ((j : K) (p2 : List K) → ((e : K) → Has (j ∷ p2) e → Leads s j e) → ((e : K) → Has (j ∷ p2) e → s.live e ≡ true) → AreDistinct (j ∷ p2) → length all < length (j ∷ p2) + n → Held s j) → (a : By K) → s.asks q a ≡ true → Held s q
         by_asker again (Promised p) e = by_promise p e
-        by_asker again (Tasked j) e = elim (has_or_not (q ∷ path) j) as (λ _. Held s q) [
+        by_asker again (Tasked j) e = elim (has_or_not eq law (q ∷ path) j) as (λ _. Held s q) [
           | inl found ↦ absurd (free j q e (l j found))
           | inr fresh ↦ by_task e (again j (q ∷ path)
               (λ x h. elim h as (λ _. Leads s j x) [ inl i ↦ subst (Leads s j) i stays | inr g ↦ asks_on e (l x g) ])
@@ -129,7 +88,7 @@ module _ {K : Type 0} where
     held_same s t m q (by_promise n e) = by_promise n (sym (m.asks q (Promised n)) ∙ e)
     held_same s t m q (by_task {j = j} e h) = by_task (sym (m.asks q (Tasked j)) ∙ e) (held_same s t m j h)
 
-    drops : (s : Asked K) (ks : List K) (t : Asked K) (all : List K) → ((q : K) → s.live q ≡ true → Has all q) → HasNoCircle s → AskersLive s → Cascade eq s ks t → IsDone t
+    drops : (s : Asked K) (ks : List K) (t : Asked K) (all : List K) → ((q : K) → s.live q ≡ true → Has all q) → HasNoCycle s → AskersLive s → Cascade eq s ks t → IsDone t
         → (q : K) → (Has ks q → (s.live q ≡ true) × (Held s q → ⊥)) × (s.live q ≡ true → (Has ks q → ⊥) → Held s q × (t.live q ≡ true))
     drops s [] t all fin free living c done q = (
       λ h. absurd h,
@@ -142,7 +101,7 @@ module _ {K : Type 0} where
     drops s (k ∷ ks) t all fin free living c done q =
         let u = c.0 in
         let p = c.1 in
-        let r = drops u ks t all (λ x e. fin x (live_on s u k p x e)) (no_circle_on s u k p free) (askers_on s u k p living) c.2 done q in (
+        let r = drops u ks t all (λ x e. fin x (live_on s u k p x e)) (no_cycle_on s u k p free) (askers_on s u k p living) c.2 done q in (
           λ h. elim h as (λ _. (s.live q ≡ true) × (Held s q → ⊥)) [
             | inl i ↦ (subst (λ x. s.live x ≡ true) i p.taken, λ g. let a = has_asker s q g in let z : s.asks k a.0 ≡ true = subst (λ x. s.asks x a.0 ≡ true) (sym i) a.1 in let f : true ≡ false = sym z ∙ p.unasked a.0 in cc)
             | inr g ↦ (live_on s u k p q (r.0 g).0, λ w. (r.0 g).1 (held_on s u k p q w))
@@ -159,11 +118,11 @@ module _ {K : Type 0} where
         by_test false t e again = inr (again e)
 
     -- the cascade drops exactly the tasks that have not ended and that no promise holds
-    pub drops_all : {T : Type 0} (ps : List (K × Share K T)) (ks : List K) (t : Asked K) → HasNoCircle (asked_of eq ps) → AskersLive (asked_of eq ps) → Cascade eq (asked_of eq ps) ks t → IsDone t → DropsUnheld (asked_of eq ps) ks t
+    pub drops_all : {T : Type 0} (ps : List (K × Share K T)) (ks : List K) (t : Asked K) → HasNoCycle (asked_of eq ps) → AskersLive (asked_of eq ps) → Cascade eq (asked_of eq ps) ks t → IsDone t → DropsUnheld (asked_of eq ps) ks t
     drops_all ps ks t free living c done = record {
       dropped = λ q. (r q).0;
-      unheld = λ q v n. elim (has_or_not ks q) as (λ _. Has ks q) [ inl h ↦ h | inr m ↦ absurd (n ((r q).1 v m).0) ];
-      held = λ q v h. elim (has_or_not ks q) as (λ _. t.live q ≡ true) [ inl g ↦ absurd (((r q).0 g).1 h) | inr m ↦ ((r q).1 v m).1 ];
+      unheld = λ q v n. elim (has_or_not eq law ks q) as (λ _. Has ks q) [ inl h ↦ h | inr m ↦ absurd (n ((r q).1 v m).0) ];
+      held = λ q v h. elim (has_or_not eq law ks q) as (λ _. t.live q ≡ true) [ inl g ↦ absurd (((r q).0 g).1 h) | inr m ↦ ((r q).1 v m).1 ];
     }
       where
         r : (q : K) → (Has ks q → (is_live eq ps q ≡ true) × (Held (asked_of eq ps) q → ⊥)) × (is_live eq ps q ≡ true → (Has ks q → ⊥) → Held (asked_of eq ps) q × (t.live q ≡ true))

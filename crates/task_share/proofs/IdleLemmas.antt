@@ -15,18 +15,15 @@ use Rattle.std.proofs.lemmas.List.Sums.{sum_by-cons}
 use Rattle.std.proofs.lemmas.Map.Entries.{sum_by-set_value, sum_by-remove_entry, sum_by_values_permutation}
 use Rattle.dice_key.specs.Lawful.{IsEquality}
 use Rattle.task_share.specs.Asked.{By, Promised, Tasked, is_by}
-use Rattle.task_share.specs.Lists.{Has}
 use Rattle.task_share.specs.Seen.{Share, is_for, list_for, number_for, has_by, has_live, has_place, asks, waits_at, ask_count, one_if, live_count}
 use Rattle.task_share.specs.Listed.{share_of, entry_of, shares_of, is_idle, kept_name, IsNamed, IsListed, IsChanged, Left, UsesRoom, Withdraws, Withdrawing, NoneIdle, IsKept, IsPopped, IsVacant, AllRun}
 use Rattle.task_share.specs.declared.place.Place.{Place}
-use Rattle.task_share.proofs.PlaceLemmas.{true_or_false, and_both, lookup_shares}
+use Rattle.task_share.proofs.PlaceLemmas.{lookup_shares}
 use Rattle.task_share.proofs.TurnLemmas.{tasks_kept, room_kept, asks_turned, waits_turned, same_cond, tasks_on, room_on, room_itself, kept_on}
-
-pub has_split : {X : Type 0} (cs : List X) (x q : X) → Has (cs ++ x ∷ []) q → Has cs q ⊎ (x ≡ q)
-has_split [] x q (inl e) = inr e
-has_split [] x q (inr h) = absurd h
-has_split (c ∷ cs) x q (inl e) = inl (inl e)
-has_split (c ∷ cs) x q (inr h) = elim (has_split cs x q h) as (λ _. Has (c ∷ cs) q ⊎ (x ≡ q)) [ inl i ↦ inl (inr i) | inr e ↦ inr e ]
+use Rattle.lists.proofs.Members.{has_last}
+use Rattle.lists.proofs.Options.{is_missing}
+use Rattle.lists.specs.Lists.{Has}
+use Rattle.std.proofs.lemmas.Bool.{and_parts, cases_Bool}
 
 name_counts : {K T : Type 0} (p : Share K T) → kept_name p ≤ 1
 name_counts p = by_bool (is_some p.name)
@@ -47,7 +44,7 @@ module _ {K T : Type 0} (eq : K → K → Bool) (law : IsEquality eq) where
       idle = z.idle;
       named = z.named;
       runs = z.runs;
-      listed = λ n. elim (has_split cs k q (z.listed n)) as (λ _. Has cs q) [ inl h ↦ h | inr s ↦ absurd (none-some p (sym (subst (λ x. lookup (eq x) ps ≡ None) s none) ∙ e)) ];
+      listed = λ n. elim (has_last cs k q (z.listed n)) as (λ _. Has cs q) [ inl h ↦ h | inr s ↦ absurd (none-some p (sym (subst (λ x. lookup (eq x) ps ≡ None) s none) ∙ e)) ];
     });
     fits = (let a = l.fits in let b = length-append cs (k ∷ []) in omega arith);
   }
@@ -56,14 +53,14 @@ module _ {K T : Type 0} (eq : K → K → Bool) (law : IsEquality eq) where
   pub back_listed : (ps qs : List (K × Share K T)) (cs : List K) (k : K) (h : Share K T) (room : ℕ) → lookup (eq k) ps ≡ Some h → is_idle h ≡ false → qs ≡ set_value (eq k) ps (record h { name = Some k }) → lookup (eq k) qs ≡ Some (record h { name = Some k })
       → ((q : K) → eq k q ≡ false → lookup (eq q) qs ≡ lookup (eq q) ps) → IsListed eq ps (cs ++ k ∷ []) room → IsListed eq qs cs room
   back_listed ps qs cs k h room known busy set here others l = record {
-    each = λ q p e. elim (true_or_false (eq k q)) as (λ _. IsNamed cs q p) [
+    each = λ q p e. elim (cases_Bool (eq k q)) as (λ _. IsNamed cs q p) [
       | inl t ↦ (let s : k ≡ q = law.same k q t in
           subst (λ x. IsNamed cs x p) s (subst (λ (r : Share K T). IsNamed cs k r) (same_Some (record h { name = Some k }) p (sym here ∙ subst (λ x. lookup (eq x) qs ≡ Some p) (sym s) e)) at_key))
       | inr t ↦ (let z = l.each q p (sym (others q t) ∙ e) in record {
         idle = z.idle;
         named = z.named;
         runs = z.runs;
-        listed = λ n. elim (has_split cs k q (z.listed n)) as (λ _. Has cs q) [ inl i ↦ i | inr s ↦ absurd (let a : eq k q ≡ true = subst (λ x. eq k x ≡ true) s (law.itself k) in let b : true ≡ false = sym a ∙ t in cc) ];
+        listed = λ n. elim (has_last cs k q (z.listed n)) as (λ _. Has cs q) [ inl i ↦ i | inr s ↦ absurd (let a : eq k q ≡ true = subst (λ x. eq k x ≡ true) s (law.itself k) in let b : true ≡ false = sym a ∙ t in cc) ];
       })
     ];
     fits = (let a = sum_by-set_value kept_name (eq k) ps h (record h { name = Some k }) known in
@@ -94,7 +91,7 @@ module _ {K T : Type 0} (eq : K → K → Bool) (law : IsEquality eq) where
         idle = z.idle;
         named = z.named;
         runs = z.runs;
-        listed = λ n. elim (has_split cs k q (z.listed n)) as (λ _. Has cs q) [ inl i ↦ i | inr s ↦ absurd (let a : eq k q ≡ true = subst (λ x. eq k x ≡ true) s (law.itself k) in let b : true ≡ false = sym a ∙ t in cc) ];
+        listed = λ n. elim (has_last cs k q (z.listed n)) as (λ _. Has cs q) [ inl i ↦ i | inr s ↦ absurd (let a : eq k q ≡ true = subst (λ x. eq k x ≡ true) s (law.itself k) in let b : true ≡ false = sym a ∙ t in cc) ];
       }
 
   -- where no candidate is left, no task is idle
@@ -247,7 +244,7 @@ module _ {K T : Type 0} (eq : K → K → Bool) (law : IsEquality eq) where
       where
         by_test : (q : K) (p : Share K T) (b : Bool) → eq k q ≡ b → cond b (Some v) (lookup (eq q) ps) ≡ Some p → IsNamed cs q p
         by_test q p true t e = subst (λ x. IsNamed cs x p) (law.same k q t) (subst (λ (r : Share K T). IsNamed cs k r) (same_Some v p e) (record {
-          idle = λ i. absurd (let a = (and_both v.live _ i).0 in let f : true ≡ false = sym a ∙ vacant.live in cc);
+          idle = λ i. absurd (let a = (and_parts v.live _ i).0 in let f : true ≡ false = sym a ∙ vacant.live in cc);
           runs = λ i. absurd (let f : true ≡ false = sym i ∙ vacant.live in cc);
           listed = λ n. absurd (none-some k (sym n ∙ vacant.name));
           named = λ n f. sym (same_Some k n (sym vacant.name ∙ f));
@@ -327,10 +324,6 @@ module _ {K T : Type 0} (eq : K → K → Bool) (law : IsEquality eq) where
 pub still_some : {X Y : Type 0} (f : X → Y) (o : Option X) → is_some (option_map f o) ≡ is_some o
 still_some f None = refl
 still_some f (Some x) = refl
-
-pub is_missing : {X : Type 0} (o : Option X) → is_some o ≡ false → o ≡ None
-is_missing None e = refl
-is_missing (Some x) e = cc
 
 pub at_none : {X : Type 0} {P : Type 0} (Q : X → Type 0) (o : Option X) → o ≡ None → MatchOption o P Q → P
 at_none Q None e p = p

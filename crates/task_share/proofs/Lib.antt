@@ -3,3 +3,4 @@ pub mod TurnLemmas
 pub mod IdleLemmas
 pub mod TableLemmas
 pub mod CascadeLemmas
+pub mod Leads

@@ -11,31 +11,16 @@ use Rattle.std.proofs.lemmas.List.{length-append, length-map}
 use Rattle.std.proofs.lemmas.Map.Entries.{sum_by-set_value, sum_by-remove_entry}
 use Rattle.dice_key.specs.Lawful.{IsEquality}
 use Rattle.task_share.specs.Asked.{By, Promised, Tasked, is_by}
-use Rattle.task_share.specs.Lists.{Has}
 use Rattle.task_share.specs.Seen.{Share, number_for, has_by, has_live, ask_count, one_if}
 use Rattle.task_share.specs.Listed.{share_of, entry_of, shares_of, is_idle, settled, released, kept_name, IsNamed, IsListed, AreIn, IsChanged, KeepsListed}
 use Rattle.task_share.specs.declared.place.Place.{Place}
-
-pub and_both : (a b : Bool) → (a && b) ≡ true → (a ≡ true) × (b ≡ true)
-and_both true b e = (refl, e)
-and_both false b e = cc
+use Rattle.lists.proofs.Members.{has_left, has_right, none_left}
+use Rattle.lists.specs.Lists.{Has}
+use Rattle.std.proofs.lemmas.Bool.{and_parts, cases_Bool}
 
 idle_nothing : {X : Type 0} (xs : List X) → eqb (length xs) 0 ≡ true → xs ≡ []
 idle_nothing [] e = refl
 idle_nothing (x ∷ xs) e = absurd (let z = eqb-true (length (x ∷ xs)) 0 e in let l : length (x ∷ xs) ≡ suc (length xs) = refl in omega arith)
-
-pub true_or_false : (b : Bool) → (b ≡ true) ⊎ (b ≡ false)
-true_or_false true = inl refl
-true_or_false false = inr refl
-
-pub has_front : {X : Type 0} (cs ds : List X) (x : X) → Has cs x → Has (cs ++ ds) x
-has_front [] ds x h = absurd h
-has_front (c ∷ cs) ds x (inl e) = inl e
-has_front (c ∷ cs) ds x (inr h) = inr (has_front cs ds x h)
-
-pub has_back : {X : Type 0} (cs ds : List X) (x : X) → Has ds x → Has (cs ++ ds) x
-has_back [] ds x h = h
-has_back (c ∷ cs) ds x h = inr (has_back cs ds x h)
 
 module _ {K A T : Type 0} where
   -- a look-up among the places without their pointers
@@ -73,16 +58,16 @@ module _ {K T : Type 0} (eq : K → K → Bool) (law : IsEquality eq) where
 
       -- a name that was kept or is given away is the key; one that was away before is a candidate
       each_here : (b : Bool) → is_idle w ≡ b → (n : Option K) → w.name ≡ n → IsNamed (cs ++ option_to_list (cond b n None)) k (record w { name = cond b None n })
-      each_here true e None f = record { idle = λ _. refl; listed = λ _. has_front cs [] k (was.listed (sym same ∙ f)); named = λ n g. cc; runs = runs }
-      each_here true e (Some n) f = record { idle = λ _. refl; listed = λ _. has_back cs (n ∷ []) k (inl (was.named n (sym same ∙ f))); named = λ n g. cc; runs = runs }
-      each_here false e n f = record { idle = λ g. absurd (let a : true ≡ false = sym g ∙ e in cc); listed = λ g. has_front cs [] k (was.listed (sym same ∙ (f ∙ g))); named = λ m g. was.named m (sym same ∙ (f ∙ g)); runs = runs }
+      each_here true e None f = record { idle = λ _. refl; listed = λ _. has_left cs [] k (was.listed (sym same ∙ f)); named = λ n g. cc; runs = runs }
+      each_here true e (Some n) f = record { idle = λ _. refl; listed = λ _. has_right cs (n ∷ []) k (inl (was.named n (sym same ∙ f))); named = λ n g. cc; runs = runs }
+      each_here false e n f = record { idle = λ g. absurd (let a : true ≡ false = sym g ∙ e in cc); listed = λ g. has_left cs [] k (was.listed (sym same ∙ (f ∙ g))); named = λ m g. was.named m (sym same ∙ (f ∙ g)); runs = runs }
 
       each_on : (q : K) (p : Share K T) → lookup (eq q) qs ≡ Some p → IsNamed ds q p
-      each_on q p e = elim (true_or_false (eq k q)) as (λ _. IsNamed ds q p) [
+      each_on q p e = elim (cases_Bool (eq k q)) as (λ _. IsNamed ds q p) [
         | inl t ↦ (let s : k ≡ q = law.same k q t in
             subst (λ x. IsNamed ds x p) s (subst (λ (r : Share K T). IsNamed ds k r) (same_Some (settled w) p (sym here ∙ subst (λ x. lookup (eq x) qs ≡ Some p) (sym s) e))
             (subst (λ xs. IsNamed xs k (settled w)) (sym grown) (each_here (is_idle w) refl w.name refl))))
-        | inr t ↦ (let z = l.each q p (sym (others q t) ∙ e) in record { idle = z.idle; listed = λ g. subst (λ xs. Has xs q) (sym grown) (has_front cs (option_to_list (released w)) q (z.listed g)); named = z.named; runs = z.runs })
+        | inr t ↦ (let z = l.each q p (sym (others q t) ∙ e) in record { idle = z.idle; listed = λ g. subst (λ xs. Has xs q) (sym grown) (has_left cs (option_to_list (released w)) q (z.listed g)); named = z.named; runs = z.runs })
       ]
 
       fits_on : (b : Bool) → is_idle w ≡ b → (n : Option K) → w.name ≡ n → sum_by kept_name (values_of qs) + length ds ≤ room
@@ -149,14 +134,14 @@ module _ {K T : Type 0} (eq : K → K → Bool) (law : IsEquality eq) where
 
   -- an idle task is not asked for
   pub idle_unasked : (p : Share K T) → is_idle p ≡ true → (a : By K) → has_by eq p a ≡ false
-  idle_unasked p i (Promised n) = ap (list_any (nat_eq n)) (idle_nothing p.promises (and_both (eqb (length p.promises) 0) (eqb (length p.askers) 0) (and_both (has_live p) _ i).1).0)
-  idle_unasked p i (Tasked j) = ap (list_any (eq j)) (idle_nothing p.askers (and_both (eqb (length p.promises) 0) (eqb (length p.askers) 0) (and_both (has_live p) _ i).1).1)
+  idle_unasked p i (Promised n) = ap (list_any (nat_eq n)) (idle_nothing p.promises (and_parts (eqb (length p.promises) 0) (eqb (length p.askers) 0) (and_parts (has_live p) _ i).1).0)
+  idle_unasked p i (Tasked j) = ap (list_any (eq j)) (idle_nothing p.askers (and_parts (eqb (length p.promises) 0) (eqb (length p.askers) 0) (and_parts (has_live p) _ i).1).1)
 
   pub asked_busy : (p : Share K T) (a : By K) → has_by eq p a ≡ true → is_idle p ≡ true → ⊥
   asked_busy p a e i = let f : true ≡ false = sym e ∙ idle_unasked p i a in cc
 
   pub ended_busy : (p : Share K T) → p.live ≡ false → is_idle p ≡ true → ⊥
-  ended_busy p e i = let l = (and_both p.live _ i).0 in let f : false ≡ true = sym e ∙ l in cc
+  ended_busy p e i = let l = (and_parts p.live _ i).0 in let f : false ≡ true = sym e ∙ l in cc
 
   -- a place keeps its key, and has no idle task that it did not have
   pub kept_listed : {A : Type 0} (key : Arc K A) (es fs : List (Arc K A × Place K T)) (h w : Place K T) → IsWritten eq key es fs h w → (share_of w).name ≡ (share_of h).name → (is_idle (share_of w) ≡ true → is_idle (share_of h) ≡ true) → (((share_of h).live ≡ true → is_some h.task ≡ true) → (share_of w).live ≡ true → is_some w.task ≡ true) → KeepsListed eq (shares_of es) (shares_of fs)
@@ -266,10 +251,6 @@ any_last p (y ∷ ys) x e = ap (λ b. p y || b) (any_last p ys x e) ∙ or_true 
     or_true : (b : Bool) → (b || true) ≡ true
     or_true true = refl
     or_true false = refl
-
-pub no_more : {X : Type 0} (xs : List X) → (0 < length xs → ⊥) → xs ≡ []
-no_more [] f = refl
-no_more (x ∷ xs) f = absurd (f (let l : length (x ∷ xs) ≡ suc (length xs) = refl in omega arith))
 
 -- how many keys there are after a removal, an insertion, and where they stay
 pub fewer_count : {K A : Type 0} (b : Bool) (old new : List (Arc K A)) → length new + cond b 1 0 ≡ length old → length (map arc_value new) ≤ length (map arc_value old) + 0

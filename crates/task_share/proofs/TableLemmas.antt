@@ -12,10 +12,11 @@ use Rattle.dice_key.specs.Lawful.{IsEquality}
 use Rattle.task_share.specs.Asked.{By, Promised, Tasked, is_by, Takes, IsDone}
 use Rattle.task_share.specs.Seen.{Share, is_for, list_for, number_for, has_by, has_live, task_at, is_live, asks, waits_at, asked_of, has_place, promise_room, asker_room, wait_room, ask_count, one_if, live_count, KeepsTasks, KeepsAsks, KeepsRoom, KeepsOtherRoom, UsesRoomOf}
 use Rattle.task_share.specs.Lent.{WritesTask}
-use Rattle.task_share.specs.Lists.{Has, AreDistinct}
 use Rattle.task_share.specs.Listed.{is_idle, IsListed, AreIn, IsChanged, Turns, Joined, Left, UsesRoom, IsKept, IsMirrored, Withdraws, IsPopped, NoneIdle}
-use Rattle.task_share.proofs.PlaceLemmas.{and_both, idle_unasked}
+use Rattle.task_share.proofs.PlaceLemmas.{idle_unasked}
 use Rattle.task_share.proofs.TurnLemmas.{same_cond, asks_turned, waits_turned, task_turned, test_turned, tasks_kept, count_kept, room_kept, place_kept, number_kept, by_key, tasks_on, room_on}
+use Rattle.lists.specs.Lists.{AreDistinct, Has}
+use Rattle.std.proofs.lemmas.Bool.{and_parts}
 
 no_number : (b : Bool) (m n : ℕ) → m ≤ n + cond b 0 0 → m ≤ n + 0
 no_number true m n h = omega arith
@@ -291,7 +292,7 @@ module _ {K T : Type 0} (eq : K → K → Bool) (law : IsEquality eq) where
     popped_asks q a = w.asks q a ∙ (ap (λ b. b && not (is_by eq (Tasked k) a && list_any (eq q) W)) (asks_then q a) ∙ withdrawn_at ps k W waited (asks eq ps q a) q a refl)
 
     live_here : is_live eq ps k ≡ true
-    live_here = sym (p.kept.tasks.live k) ∙ (ap (is_for has_live) p.taken.there ∙ (and_both (has_live p.place) _ p.taken.idle).0)
+    live_here = sym (p.kept.tasks.live k) ∙ (ap (is_for has_live) p.taken.there ∙ (and_parts (has_live p.place) _ p.taken.idle).0)
 
     pub popped_live : (q : K) → is_live eq rs q ≡ (is_live eq ps q && not (eq k q))
     popped_live q = w.tasks.live q ∙ (gone_at (is_for has_live) q ∙ (ap (λ b. cond (eq k q) false b) (p.kept.tasks.live q) ∙ by_bools (eq k q) (is_live eq ps q)))

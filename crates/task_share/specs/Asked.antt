@@ -1,6 +1,6 @@
 -- Tasks and who asks for them, and what the cascade drops.
 use Rattle.std.specs.Prelude.{◌≡◌, ℕ, Bool, true, false, not, ◌&&◌, nat_eq, List, [], ◌∷◌}
-use Rattle.task_share.specs.Lists.{Has}
+use Rattle.lists.specs.Lists.{Has}
 
 -- who asks for a task: a promise by its number, or another task by its key
 pub data By (K : Type 0) : Type 0 where
@@ -30,9 +30,9 @@ module _ {K : Type 0} (s : Asked K) where
     stays : {k : K} → Leads k k
     asks_on : {k i j : K} → s.asks i (Tasked k) ≡ true → Leads i j → Leads k j
 
-  -- the asks of tasks form no circle
-  abbrev pub HasNoCircle : Type 0
-  HasNoCircle = (k i : K) → s.asks i (Tasked k) ≡ true → Leads i k → ⊥
+  -- the asks of tasks form no cycle
+  abbrev pub HasNoCycle : Type 0
+  HasNoCycle = (k i : K) → s.asks i (Tasked k) ≡ true → Leads i k → ⊥
 
   -- each asking task is in the table and has not ended
   abbrev pub AskersLive : Type 0

@@ -7,10 +7,10 @@ use Rattle.std.specs.Option.{option_map}
 use Rattle.std.specs.HashSet.{spare}
 use Rattle.std.specs.declared.sync.Arc.{Arc}
 use Rattle.task_share.specs.Asked.{By, Tasked, is_by}
-use Rattle.task_share.specs.Lists.{Has}
 pub use Rattle.task_share.specs.Seen.{IsMirrored}
 use Rattle.task_share.specs.Seen.{Share, number_for, has_live, has_by, asks, waits_at, ask_count, one_if, live_count, KeepsTasks, KeepsAsks, KeepsRoom}
 use Rattle.task_share.specs.declared.place.Place.{Place}
+use Rattle.lists.specs.Lists.{Has}
 
 -- a place without its pointers
 abbrev pub share_of : {K T : Type 0} → Place K T → Share K T

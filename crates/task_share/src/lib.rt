@@ -12,6 +12,3 @@ mod table;
 pub use asker::{Asker, Askers, Wait};
 pub use cascade::drops_unheld;
 pub use table::{Table, table_in_order};
-
-#[cfg(test)]
-mod tests;

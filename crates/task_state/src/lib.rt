@@ -4,6 +4,3 @@
 mod state;
 
 pub use state::{Need, Outcome, Stage, TaskState};
-
-#[cfg(test)]
-mod tests;

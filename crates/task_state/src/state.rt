@@ -21,7 +21,7 @@ pub enum Stage {
 pub enum Outcome<K: Drop, V: Drop> {
     /// Its key has this value.
     Value(Arc<V>),
-    /// Its key reaches this circle.
+    /// Its key reaches this cycle.
     Cycle(Arc<Path<K>>),
     /// It was given up for want of memory.
     Lost,

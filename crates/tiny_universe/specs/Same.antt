@@ -5,7 +5,7 @@ use Rattle.std.proofs.Common.{ap}
 use Rattle.std.specs.Ordering.{nat_cmp, bool_cmp}
 use Rattle.std.proofs.lemmas.Map.Lookups.{exact_pairs, exact_unsigned}
 use Rattle.std.proofs.Math.Dec.{eqb}
-use Rattle.std.proofs.lemmas.Bool.{eqb-true}
+use Rattle.std.proofs.lemmas.Bool.{eqb-true, and_parts}
 use Rattle.dice_key.specs.Lawful.{SameKeys, AreSame}
 use Rattle.tiny_universe.specs.contracts.place.PlaceOrd.TheImpl as ordered
 use Rattle.tiny_universe.specs.contracts.place.PlacePartialEq.TheImpl as compared
@@ -25,12 +25,8 @@ equal_bools false true h = cc
 equal_bools true false h = cc
 equal_bools true true h = refl
 
-both : (p q : Bool) → (p && q) ≡ true → (p ≡ true) × (q ≡ true)
-both false q h = cc
-both true q h = (refl, h)
-
 equal_pairs : (a b c d : ℕ) → (eqb a c && eqb b d) ≡ true → (a ≡ c) × (b ≡ d)
-equal_pairs a b c d h = let s = both (eqb a c) (eqb b d) h in (eqb-true a c s.0, eqb-true b d s.1)
+equal_pairs a b c d h = let s = and_parts (eqb a c) (eqb b d) h in (eqb-true a c s.0, eqb-true b d s.1)
 
 pub same_places : SameKeys ordered.ghosts.cmp
 same_places (Cell a) (Cell c) h = ap Cell (exact_unsigned a c h)

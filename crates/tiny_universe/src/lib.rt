@@ -8,6 +8,3 @@ mod tiny;
 pub use fronts::{CellKey, FollowKey, ParityKey};
 pub use place::{Place, Value};
 pub use tiny::{Run, Tiny};
-
-#[cfg(test)]
-mod tests;

@@ -10,8 +10,6 @@ mod seat;
 mod served;
 mod table;
 mod tale;
-#[cfg(test)]
-mod tests;
 mod turn;
 mod turns;
 mod view;

@@ -6,8 +6,6 @@
 
 mod memory;
 mod open_versions;
-#[cfg(test)]
-mod tests;
 
 pub use memory::NoMemory;
 pub use open_versions::{Standing, Tracker};

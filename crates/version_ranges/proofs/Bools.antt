@@ -1,15 +1,12 @@
 -- Tests joined by "or" and "and".
 use Rattle.std.proofs.Common.{◌≡◌, Bool, true, false, ◌&&◌, ◌||◌, refl}
+use Rattle.std.proofs.Math.Bool.{or_assoc}
 
 pub same_tests : (a b : Bool) → (a ≡ true → b ≡ true) → (b ≡ true → a ≡ true) → a ≡ b
 same_tests true true f g = refl
 same_tests true false f g = cc (f refl)
 same_tests false true f g = cc (g refl)
 same_tests false false f g = refl
-
-pub or_assoc : (a b c : Bool) → ((a || b) || c) ≡ (a || (b || c))
-or_assoc true b c = refl
-or_assoc false b c = refl
 
 -- one test of a list on the left, or on the right, goes to what is done
 pub or_left_done : (o r a b : Bool) → ((o || r) || (a || b)) ≡ (o || ((r || a) || b))

@@ -4,7 +4,7 @@ use Rattle.std.proofs.lemmas.Bool.{ltb-true, leb-true, ltb-false, lt-ltb, le-leb
 use Rattle.version_ranges.specs.declared.half_open.Range.{Range}
 use Rattle.version_ranges.specs.Members.{is_before, is_in, contains}
 use Rattle.version_ranges.specs.Order.{ends_below, BeginAbove, IsSeparate}
-use Rattle.version_ranges.proofs.Bools.{or_assoc}
+use Rattle.std.proofs.Math.Bool.{or_assoc}
 
 pub below_up : (e : Option ℕ) (v w : ℕ) → ends_below e v ≡ true → v ≤ w → ends_below e w ≡ true
 below_up None v w h l = cc

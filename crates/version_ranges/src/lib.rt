@@ -11,8 +11,6 @@ mod memory;
 mod merge;
 mod search;
 mod set;
-#[cfg(test)]
-mod tests;
 
 pub use half_open::Range;
 pub use laws::{open_has_a_tail, same_members};

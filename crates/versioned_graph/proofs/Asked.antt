@@ -3,12 +3,14 @@ use Rattle.std.proofs.Common.{◌≡◌, inl, inr, ℕ, Bool, true, List, [], �
 use Rattle.std.specs.List.{AllZip, list_any}
 use Rattle.dice_key.specs.Lawful.{IsEquality}
 use Rattle.dice_key.specs.Meaning.{Meaning, Answered, Asks, Ends}
-use Rattle.dice_model.specs.Log.{Has}
 use Rattle.dice_model.specs.Eval.{HasValue}
 use Rattle.dice_model.specs.Asks.{Goes, AsksFor}
 use Rattle.dice_model.proofs.EvalLaws.{one_value}
 use Rattle.versioned_graph.specs.Edges.{is_asked}
-use Rattle.versioned_graph.proofs.Bools.{or_left, or_right, HasKey}
+use Rattle.versioned_graph.proofs.Bools.{HasKey}
+use Rattle.dice_key.proofs.KeySets.{has_any}
+use Rattle.lists.specs.Lists.{Has}
+use Rattle.std.proofs.lemmas.Bool.{or_left, or_right}
 
 -- an answer to each key, and only one
 zip_same : {K V : Type 0} (R : K → V → Type 0) → ((k : K) (x y : V) → R k x → R k y → x ≡ y) → (ks : List K) (xs ys : List V) → AllZip R ks xs → AllZip R ks ys → xs ≡ ys
@@ -40,15 +42,8 @@ module _ {K V : Type 0} (eq : K → K → Bool) (m : Meaning K V) (C : List (Lis
   pub asked_in_trace : (k j : K) (x : V) (A : List (Answered K V)) → Goes eq m C v k [] A → m.next k A v ≡ Ends x → AsksFor eq m C v k j → HasKey A j
   asked_in_trace k j x A g e a = asked_from k j x a.keys [] A a.before g e a.goes a.asks a.among
 
--- the same by tests
-module _ {K : Type 0} (eq : K → K → Bool) (law : IsEquality eq) where
-  pub any_of : (ks : List K) (j : K) → Has ks j → list_any (eq j) ks ≡ true
-  any_of [] j h = absurd h
-  any_of (k ∷ ks) j (inl e) = or_left (eq j k) (list_any (eq j) ks) (ap (eq j) e ∙ law.itself j)
-  any_of (k ∷ ks) j (inr h) = or_right (eq j k) (list_any (eq j) ks) (any_of ks j h)
-
 module _ {K V : Type 0} (eq : K → K → Bool) (law : IsEquality eq) where
   pub is_asked_of : (A : List (Answered K V)) (j : K) → HasKey A j → is_asked eq A j ≡ true
   is_asked_of [] j h = absurd h
-  is_asked_of (b ∷ bs) j (inl h) = or_left (list_any (eq j) b.keys) (is_asked eq bs j) (any_of eq law b.keys j h)
+  is_asked_of (b ∷ bs) j (inl h) = or_left (list_any (eq j) b.keys) (is_asked eq bs j) (has_any eq law b.keys j h)
   is_asked_of (b ∷ bs) j (inr h) = or_right (list_any (eq j) b.keys) (is_asked eq bs j) (is_asked_of bs j h)

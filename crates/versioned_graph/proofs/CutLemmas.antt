@@ -5,20 +5,20 @@ use Rattle.std.specs.declared.sync.Arc.{Arc}
 use Rattle.std.specs.List.{list_any}
 use Rattle.std.specs.Map.{lookup, keys_of}
 use Rattle.std.specs.Option.{option_map}
-use Rattle.std.proofs.lemmas.List.{take_more, map-append}
+use Rattle.std.proofs.lemmas.List.{take_more, map-append, take_all}
 use Rattle.std.proofs.lemmas.Option.{none-some, same_Some}
 use Rattle.dice_key.specs.Meaning.{Meaning}
 use Rattle.dice_key.specs.Lawful.{IsLawful, IsEquality}
 use Rattle.dice_key.specs.declared.universe.Kind.TheVariants.{Injected}
-use Rattle.dice_model.specs.Log.{Has, input, last_value_of}
+use Rattle.dice_model.specs.Log.{input, last_value_of}
 use Rattle.versioned_graph.specs.Entries.{Stored, Kept, entry_at, cut_at}
 use Rattle.versioned_graph.specs.Edges.{is_edge, CutBy, CommitReaches, changes, leads, IsCut}
 use Rattle.versioned_graph.specs.Sound.{IsTrue, IsTailed, Edges, AreTrue}
 use Rattle.versioned_graph.specs.Users.{users_of, IsIndexed}
-use Rattle.versioned_graph.proofs.Asked.{any_of}
-use Rattle.versioned_graph.proofs.Bools.{take_beyond, true_or_false}
 use Rattle.versioned_graph.proofs.Tails.{more_edges, cut_true, cut_tailed, left_true, left_tailed}
-use Rattle.versioned_graph.proofs.Sets.{any_end, any_has}
+use Rattle.dice_key.proofs.KeySets.{any_end, any_has, has_any}
+use Rattle.lists.specs.Lists.{Has}
+use Rattle.std.proofs.lemmas.Bool.{cases_Bool}
 
 pub none_of : {X : Type 0} (a b : Bool) (xs : List X) → cond a [] (cond b [] xs) ≡ cond (cond a true b) [] xs
 none_of true b xs = refl
@@ -72,18 +72,18 @@ module _ {K V : Type 0} (eq : K → K → Bool) (law : IsEquality eq) (es : List
   R q = list_any (eq q) rs
 
   reached_test : (q : K) → CommitReaches eq es changed q → R q ≡ true
-  reached_test q h = any_of eq law rs q (all q h)
+  reached_test q h = has_any eq law rs q (all q h)
 
   test_reached : (q : K) → R q ≡ true → CommitReaches eq es changed q
   test_reached q h = only q (any_has eq law rs q h)
 
   unreached_test : (q : K) → (CommitReaches eq es changed q → ⊥) → R q ≡ false
-  unreached_test q n = elim (true_or_false (R q)) as (λ _. R q ≡ false) [ inl t ↦ absurd (n (test_reached q t)) | inr f ↦ f ]
+  unreached_test q n = elim (cases_Bool (R q)) as (λ _. R q ≡ false) [ inl t ↦ absurd (n (test_reached q t)) | inr f ↦ f ]
 
   -- what was cut is what the commit reaches
   pub is_cut : (v : ℕ) (fs : List (K × Stored K V)) → CutBy eq v R es fs → IsCut eq es changed v fs
   is_cut v fs h = record {
-    decided = λ q. elim (true_or_false (R q)) as (λ _. CommitReaches eq es changed q ⊎ (CommitReaches eq es changed q → ⊥)) [
+    decided = λ q. elim (cases_Bool (R q)) as (λ _. CommitReaches eq es changed q ⊎ (CommitReaches eq es changed q → ⊥)) [
       | inl t ↦ inl (test_reached q t)
       | inr f ↦ inr (λ h. let z : true ≡ false = sym (reached_test q h) ∙ f in cc)
     ];
@@ -105,7 +105,7 @@ module _ {K V : Type 0} (eq : K → K → Bool) (law : IsEquality eq) (es : List
 
       by_test : (b : Bool) → R k ≡ b → cond b false (is_edge eq es j k) ≡ true → Has (users_of eq vs j) k
       by_test true r d = cc
-      by_test false r d = elim (true_or_false (R j)) as (λ _. Has (users_of eq vs j) k) [ inl t ↦ absurd (from r t d) | inr f ↦ stay j k f (indexed j k d) ]
+      by_test false r d = elim (cases_Bool (R j)) as (λ _. Has (users_of eq vs j) k) [ inl t ↦ absurd (from r t d) | inr f ↦ stay j k f (indexed j k d) ]
 
   module _ (m : Meaning K V) (lawful : IsLawful m) (C : List (List (K × V))) (c : List (K × V)) (covers : (k : K) → Has (keys_of c) k → Has changed k) where
     last_more : (t : K → Bool) (B : List (List (K × V))) (y : V) → last_value_of t y (B ++ c ∷ []) ≡ unwrap_or (lookup t c) (last_value_of t y B)
@@ -123,8 +123,8 @@ module _ {K V : Type 0} (eq : K → K → Bool) (law : IsEquality eq) (es : List
     inputs : (d : K) → m.kind d ≡ Injected → R d ≡ false → input eq m (C ++ c ∷ []) (suc (length C)) d ≡ input eq m C (length C) d
     inputs d i f =
         let l = length-append C (c ∷ []) in
-        let a : take (suc (length C)) (C ++ c ∷ []) ≡ C ++ c ∷ [] = take_beyond (suc (length C)) (C ++ c ∷ []) (omega arith) in
-        let b : take (length C) C ≡ C = take_beyond (length C) C (omega arith) in
+        let a : take (suc (length C)) (C ++ c ∷ []) ≡ C ++ c ∷ [] = take_all (suc (length C)) (C ++ c ∷ []) (omega arith) in
+        let b : take (length C) C ≡ C = take_all (length C) C (omega arith) in
         let n : lookup (eq d) c ≡ None = unset c d (λ h. let z : true ≡ false = sym (reached_test d (changes (covers d h))) ∙ f in cc) in
         ap (last_value_of (eq d) (m.absent d)) a
         ∙ (last_more (eq d) C (m.absent d)

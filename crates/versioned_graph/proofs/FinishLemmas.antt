@@ -1,7 +1,7 @@
 -- `finish` keeps what is kept.
 use Rattle.std.proofs.Common.{◌≡◌, ◌≢◌, ◌≤◌, ◌<◌, inl, inr, ℕ, suc, Bool, true, false, not, ◌&&◌, ◌||◌, cond, nat_eq, nat_le, List, [], length, Option, Some, None, refl, sym, ap, ◌∙◌, subst, arith, eqb-true}
 use Rattle.std.specs.Prelude.{take}
-use Rattle.std.proofs.lemmas.Bool.{eq-eqb}
+use Rattle.std.proofs.lemmas.Bool.{eq-eqb, and_from, and_parts, not-true, or_cases, or_left, or_right}
 use Rattle.std.proofs.lemmas.Option.{same_Some}
 use Rattle.version_ranges.specs.declared.half_open.Range.{Range}
 use Rattle.version_ranges.specs.Members.{contains}
@@ -19,9 +19,10 @@ use Rattle.versioned_graph.specs.Entries.{Kept, Stored, entry_at, if_injected, a
 use Rattle.versioned_graph.specs.Edges.{is_edge, is_asked, Records}
 use Rattle.versioned_graph.specs.Sound.{IsOpenAt, IsTrue, IsRecorded, IsTailed, Edges, AreTrue, Holds}
 use Rattle.versioned_graph.proofs.Asked.{asked_in_trace, is_asked_of}
-use Rattle.versioned_graph.proofs.Bools.{and_both, or_either, both_and, or_left, or_right, not_true, take_beyond, all_map, HasKey, all_at}
+use Rattle.versioned_graph.proofs.Bools.{all_map, HasKey, all_at}
 use Rattle.versioned_graph.proofs.MarkLemmas.{marked_true, trace_true}
 use Rattle.versioned_graph.proofs.Tails.{more_edges, written_tailed}
+use Rattle.std.proofs.lemmas.List.{take_all}
 
 module _ {K V : Type 0} (eq : K → K → Bool) (m : Meaning K V) (law : IsLawful m) (veq : V → V → Bool) (same : AreSame veq) (C : List (List (K × V))) where
   -- the entry that is written is true, where the new one and the one that was there are
@@ -35,7 +36,7 @@ module _ {K V : Type 0} (eq : K → K → Bool) (m : Meaning K V) (law : IsLawfu
     traced = subst (IsTrace eq m C q.finished k n.trace) (sym s) q.traced;
     same = subst (HasValue eq m C n.version k) (sym s) q.same;
     own = or_right (e.ranges n.version) (n.ranges n.version) q.own;
-    holds = λ w h l. elim (or_either (e.ranges w) (n.ranges w) h) as (λ _. HasValue eq m C w k e.value) [ inl i ↦ p.holds w i l | inr i ↦ subst (HasValue eq m C w k) (sym s) (q.holds w i l) ];
+    holds = λ w h l. elim (or_cases (e.ranges w) (n.ranges w) h) as (λ _. HasValue eq m C w k e.value) [ inl i ↦ p.holds w i l | inr i ↦ subst (HasValue eq m C w k) (sym s) (q.holds w i l) ];
   }
   joined_true k e n false s lasts p q = record {
     single = λ t. absurd (let z : true ≡ false = sym t ∙ lasts in cc);
@@ -45,7 +46,7 @@ module _ {K V : Type 0} (eq : K → K → Bool) (m : Meaning K V) (law : IsLawfu
     traced = p.traced;
     same = p.same;
     own = or_left (e.ranges e.version) (n.ranges e.version) p.own;
-    holds = λ w h l. elim (or_either (e.ranges w) (n.ranges w) h) as (λ _. HasValue eq m C w k e.value) [ inl i ↦ p.holds w i l | inr i ↦ subst (HasValue eq m C w k) (sym s) (q.holds w i l) ];
+    holds = λ w h l. elim (or_cases (e.ranges w) (n.ranges w) h) as (λ _. HasValue eq m C w k e.value) [ inl i ↦ p.holds w i l | inr i ↦ subst (HasValue eq m C w k) (sym s) (q.holds w i l) ];
   }
 
   pub written_true : (k : K) (o : Option (Kept K V)) (n : Kept K V) → ((e : Kept K V) → o ≡ Some e → IsTrue eq m C k e) → IsTrue eq m C k n → IsTrue eq m C k (written m veq o n)
@@ -57,7 +58,7 @@ module _ {K V : Type 0} (eq : K → K → Bool) (m : Meaning K V) (law : IsLawfu
       by_version false = p e refl
 
       by_first : (b : Bool) → (veq e.value n.value && not (m.is_transient e.value)) ≡ b → IsTrue eq m C k (cond b (joined m veq e n) (cond (nat_le e.version n.version) n e))
-      by_first true h = joined_true k e n (nat_le e.version n.version) (same e.value n.value (and_both (veq e.value n.value) _ h).0) (not_true (m.is_transient e.value) (and_both (veq e.value n.value) _ h).1) (p e refl) q
+      by_first true h = joined_true k e n (nat_le e.version n.version) (same e.value n.value (and_parts (veq e.value n.value) _ h).0) (not-true (m.is_transient e.value) (and_parts (veq e.value n.value) _ h).1) (p e refl) q
       by_first false h = by_version (nat_le e.version n.version)
 
   module _ (at : ℕ → K → V) (holds : Holds eq m C at) (es : K → Option (Kept K V)) (true_ones : (k : K) (e : Kept K V) → es k ≡ Some e → IsTrue eq m C k e) where
@@ -65,7 +66,7 @@ module _ {K V : Type 0} (eq : K → K → Bool) (m : Meaning K V) (law : IsLawfu
     pub new_true : (k : K) (v : ℕ) (x : V) (A : List (Answered K V)) (r : ℕ → Bool) → v ≤ length C → IsTrace eq m C v k A x → ((w : ℕ) → r w ≡ true → marked m veq at es v x A w ≡ true) → r v ≡ true → IsTrue eq m C k (record { value = x; trace = A; ranges = r; version = v })
     new_true k v x A r h t f own = record {
       own = own;
-      single = λ tr w i. elim (or_either (nat_eq w v) _ (f w i)) as (λ _. w ≡ v) [ inl p ↦ eqb-true w v p | inr q ↦ absurd (let z = not_true (m.is_transient x) (and_both (not (m.is_transient x)) (all_of (known m veq at es v w) A) q).0 in let y : true ≡ false = sym tr ∙ z in cc) ];
+      single = λ tr w i. elim (or_cases (nat_eq w v) _ (f w i)) as (λ _. w ≡ v) [ inl p ↦ eqb-true w v p | inr q ↦ absurd (let z = not-true (m.is_transient x) (and_parts (not (m.is_transient x)) (all_of (known m veq at es v w) A) q).0 in let y : true ≡ false = sym tr ∙ z in cc) ];
       finished = v;
       before = omega arith;
       within = h;
@@ -90,7 +91,7 @@ module _ {K V : Type 0} (eq : K → K → Bool) (m : Meaning K V) (law : IsLawfu
 
       by_kinds : (kd : Kind) → if_injected kd (veq (at w d) (at v d)) (known_by m veq (es d) v a w) ≡ true → if_injected kd (veq (at u d) (at v d)) (known_by m veq (es d) v a u) ≡ true
       by_kinds Injected q =
-          let s : take u C ≡ take w C = take_beyond u C hu ∙ sym (take_beyond w C (omega arith)) in
+          let s : take u C ≡ take w C = take_all u C hu ∙ sym (take_all w C (omega arith)) in
           let t : at u d ≡ at w d = holds u d ∙ (ap (last_value_of (eq d) (m.absent d)) s ∙ sym (holds w d)) in
           rw t q
       by_kinds Computed q = by_entry (es d) refl q
@@ -114,9 +115,9 @@ module _ {K V : Type 0} (eq : K → K → Bool) (m : Meaning K V) (law : IsLawfu
       by_kinds Projection p q = by_entry (es d) refl q
 
   above : (v w : ℕ) (x : V) (A : List (Answered K V)) → v ≤ length C → length C < w → marked m veq at es v x A w ≡ true → (m.is_transient x ≡ false) × (all_of (known m veq at es v w) A ≡ true)
-  above v w x A hv hw e = elim (or_either (nat_eq w v) _ e) as (λ _. (m.is_transient x ≡ false) × (all_of (known m veq at es v w) A ≡ true)) [
+  above v w x A hv hw e = elim (or_cases (nat_eq w v) _ e) as (λ _. (m.is_transient x ≡ false) × (all_of (known m veq at es v w) A ≡ true)) [
     | inl p ↦ absurd (let z = eqb-true w v p in omega arith)
-    | inr q ↦ (let b = and_both (not (m.is_transient x)) (all_of (known m veq at es v w) A) q in (not_true (m.is_transient x) b.0, b.1))
+    | inr q ↦ (let b = and_parts (not (m.is_transient x)) (all_of (known m veq at es v w) A) q in (not-true (m.is_transient x) b.0, b.1))
   ]
 
   -- the new entry's tail, with its edges recorded
@@ -180,7 +181,7 @@ module _ {K V : Type 0} (eq : K → K → Bool) (equality : IsEquality eq) (m : 
     edges_new g o j h =
         let i : records.opened ≡ true = records.is_open.1 (length C, o) in
         records.edges j k ∙ or_right (is_edge eq es j k) (eq k k && (goes_in m veq (entry_at eq es k) n && (records.opened && is_asked eq A j)))
-        (both_and (eq k k) _ (equality.itself k) (both_and (goes_in m veq (entry_at eq es k) n) _ g (both_and records.opened (is_asked eq A j) i (is_asked_of eq equality A j h))))
+        (and_from (eq k k) _ (equality.itself k) (and_from (goes_in m veq (entry_at eq es k) n) _ g (and_from records.opened (is_asked eq A j) i (is_asked_of eq equality A j h))))
 
     finished_tailed : goes_in m veq (entry_at eq es k) n ≡ true → IsTailed eq m C (length C) (Edges eq m fs) k n
     finished_tailed g = new_tailed eq m law veq same C at holds (entry_at eq es) (λ j e h. (true_ones j e h).0) (Edges eq m es) (λ j e h. (true_ones j e h).1) k v x A within trace (Edges eq m fs) edges_on (edges_new g)

@@ -6,10 +6,11 @@ use Rattle.std.specs.List.{list_any}
 use Rattle.std.proofs.lemmas.List.{at_drop_more}
 use Rattle.dice_key.specs.Lawful.{IsEquality}
 use Rattle.dice_key.specs.Meaning.{Answered}
-use Rattle.dice_model.specs.Log.{Has}
 use Rattle.dep_recorder.specs.Recordings.{keys_in}
 use Rattle.versioned_graph.specs.Users.{users_of}
 use Rattle.versioned_graph.specs.Edges.{is_asked}
+use Rattle.lists.specs.Lists.{Has}
+use Rattle.std.proofs.Math.Bool.{or_assoc}
 
 module _ {K : Type 0} (eq : K → K → Bool) (k : K) where
   -- k stands in the list of each key of the set; and all that stood in a list still does
@@ -36,10 +37,6 @@ module _ {K V A B : Type 0} where
   -- the keys that are left, the first one named
   pub keys_left : (ps : List (Arc K A × Arc V B)) (i : ℕ) (p : Arc K A × Arc V B) → i < length ps → p ≡ get_or ps i p → keys_in (drop i ps) ≡ arc_value p.0 ∷ keys_in (drop (i + 1) ps)
   keys_left ps i p l e = at_drop_more keys_in ps i p l ∙ ap (λ q. arc_value q.0 ∷ keys_in (drop (i + 1) ps)) (sym e)
-
-or_assoc : (a b c : Bool) → ((a || b) || c) ≡ (a || (b || c))
-or_assoc true b c = refl
-or_assoc false b c = refl
 
 or_swap : (a b c : Bool) → ((a || b) || c) ≡ (b || (a || c))
 or_swap true true c = refl

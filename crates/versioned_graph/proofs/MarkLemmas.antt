@@ -13,7 +13,7 @@ use Rattle.dice_model.proofs.Traces.{trace_value}
 use Rattle.dice_model.proofs.Alike.{same_answers}
 use Rattle.versioned_graph.specs.Entries.{Kept, if_injected, all_of_batch, all_of, known_by, known, marked}
 use Rattle.versioned_graph.specs.Sound.{IsTrue, Holds}
-use Rattle.versioned_graph.proofs.Bools.{and_both, or_either, not_true, true_or_false}
+use Rattle.std.proofs.lemmas.Bool.{and_parts, cases_Bool, not-true, or_cases}
 
 module _ {K V : Type 0} (eq : K → K → Bool) (m : Meaning K V) (law : IsLawful m) (veq : V → V → Bool) (same : AreSame veq)
     (C : List (List (K × V))) (at : ℕ → K → V) (holds : Holds eq m C at) (es : K → Option (Kept K V)) (true_ones : (k : K) (e : Kept K V) → es k ≡ Some e → IsTrue eq m C k e) where
@@ -26,7 +26,7 @@ module _ {K V : Type 0} (eq : K → K → Bool) (m : Meaning K V) (law : IsLawfu
     where
       by_entry : (o : Option (Kept K V)) → es d ≡ o → known_by m veq o v a w ≡ true → HasValue eq m C w d a
       by_entry None p q = subst (λ n. HasValue eq m C n d a) (sym (eqb-true w v q)) i
-      by_entry (Some f) p q = elim (true_or_false (veq f.value a)) as (λ _. HasValue eq m C w d a) [
+      by_entry (Some f) p q = elim (cases_Bool (veq f.value a)) as (λ _. HasValue eq m C w d a) [
         | inl t ↦ (let r : f.ranges w ≡ true = rw t at q in subst (HasValue eq m C w d) (same f.value a t) ((true_ones d f p).holds w r h))
         | inr t ↦ (let r : nat_eq w v ≡ true = rw t at q in subst (λ n. HasValue eq m C n d a) (sym (eqb-true w v r)) i)
       ]
@@ -44,19 +44,19 @@ module _ {K V : Type 0} (eq : K → K → Bool) (m : Meaning K V) (law : IsLawfu
   batch_true v w h [] (x ∷ xs) z e = z
   batch_true v w h (k ∷ ks) [] z e = z
   batch_true v w h (k ∷ ks) (x ∷ xs) z e =
-      let b = and_both (known m veq at es v w k x) (all_of_batch (known m veq at es v w) ks xs) e in
+      let b = and_parts (known m veq at es v w k x) (all_of_batch (known m veq at es v w) ks xs) e in
       (known_true v w h k x z.0 b.0, batch_true v w h ks xs z.1 b.1)
 
   pub trace_true : (v w : ℕ) → w ≤ length C → (k : K) (before A : List (Answered K V)) → Goes eq m C v k before A → all_of (known m veq at es v w) A ≡ true → AllTrue (HasValue eq m C w) A
   trace_true v w h k before [] g e = tt
   trace_true v w h k before (b ∷ bs) g e =
-      let p = and_both (all_of_batch (known m veq at es v w) b.keys b.values) (all_of (known m veq at es v w) bs) e in
+      let p = and_parts (all_of_batch (known m veq at es v w) b.keys b.values) (all_of (known m veq at es v w) bs) e in
       (batch_true v w h b.keys b.values g.1 p.0, trace_true v w h k (before ++ b ∷ []) bs g.2 p.1)
 
   -- M is sound: at each version in it, up to the newest, the key has the finished value
   pub marked_true : (v : ℕ) (k : K) (x : V) (A : List (Answered K V)) → IsTrace eq m C v k A x → (w : ℕ) → marked m veq at es v x A w ≡ true → w ≤ length C → HasValue eq m C w k x
-  marked_true v k x A t w e h = elim (or_either (nat_eq w v) _ e) as (λ _. HasValue eq m C w k x) [
+  marked_true v k x A t w e h = elim (or_cases (nat_eq w v) _ e) as (λ _. HasValue eq m C w k x) [
     | inl p ↦ subst (λ n. HasValue eq m C n k x) (sym (eqb-true w v p)) (trace_value eq m C v law k A x t.computed t.goes t.ends)
-    | inr q ↦ (let b = and_both (not (m.is_transient x)) (all_of (known m veq at es v w) A) q in
-        (same_answers eq m law C C v w k A x t.computed t.goes t.ends (not_true (m.is_transient x) b.0) (trace_true v w h k [] A t.goes b.1)).2)
+    | inr q ↦ (let b = and_parts (not (m.is_transient x)) (all_of (known m veq at es v w) A) q in
+        (same_answers eq m law C C v w k A x t.computed t.goes t.ends (not-true (m.is_transient x) b.0) (trace_true v w h k [] A t.goes b.1)).2)
   ]

@@ -1,6 +1,6 @@
 -- What is written over an entry, and what a commit cuts, keeps the tails.
 use Rattle.std.proofs.Common.{◌≡◌, ◌≢◌, ◌≤◌, ◌<◌, ◌⊎◌, inl, inr, ℕ, suc, Bool, true, false, not, ◌&&◌, ◌||◌, cond, nat_le, nat_lt, List, [], ◌∷◌, ◌++◌, length, Option, Some, None, refl, sym, ◌∙◌, subst, arith, length-append}
-use Rattle.std.proofs.lemmas.Bool.{lt-ltb, cases_lt}
+use Rattle.std.proofs.lemmas.Bool.{lt-ltb, cases_lt, and_from, and_parts, cases_Bool, or_cases, or_left, or_right}
 use Rattle.std.proofs.Common.{ltb-true}
 use Rattle.dice_key.specs.Meaning.{Meaning}
 use Rattle.dice_key.specs.Lawful.{IsLawful}
@@ -13,13 +13,12 @@ use Rattle.dice_model.proofs.Stable.{value_stable, goes_stable}
 use Rattle.dice_model.proofs.Alike.{alike, asks_back, reaches_back, reached_valued}
 use Rattle.versioned_graph.specs.Entries.{Kept, joined, written, goes_in, cut_at}
 use Rattle.versioned_graph.specs.Sound.{IsOpenAt, IsTrue, IsTailed, IsRecorded}
-use Rattle.versioned_graph.proofs.Bools.{and_both, both_and, or_either, or_left, or_right, true_or_false}
 
 module _ {K V : Type 0} (eq : K → K → Bool) (m : Meaning K V) (C : List (List (K × V))) (v : ℕ) where
   -- where two ranges are joined, one of them is open
   either_open : (e n : Kept K V) (Edge : K → K → Type 0) (k : K) (r : ℕ → Bool) → IsTailed eq m C v Edge k e → IsTailed eq m C v Edge k n → ((w : ℕ) → r w ≡ (e.ranges w || n.ranges w))
       → (w : ℕ) → r w ≡ true → v < w → IsOpenAt v e.ranges ⊎ IsOpenAt v n.ranges
-  either_open e n Edge k r p q s w h l = elim (or_either (e.ranges w) (n.ranges w) (sym (s w) ∙ h)) as (λ _. IsOpenAt v e.ranges ⊎ IsOpenAt v n.ranges) [ inl i ↦ inl (p.tail w i l) | inr i ↦ inr (q.tail w i l) ]
+  either_open e n Edge k r p q s w h l = elim (or_cases (e.ranges w) (n.ranges w) (sym (s w) ∙ h)) as (λ _. IsOpenAt v e.ranges ⊎ IsOpenAt v n.ranges) [ inl i ↦ inl (p.tail w i l) | inr i ↦ inr (q.tail w i l) ]
 
   joined_tailed : (e n f : Kept K V) (Edge : K → K → Type 0) (k : K) → IsTailed eq m C v Edge k e → IsTailed eq m C v Edge k n → ((w : ℕ) → f.ranges w ≡ (e.ranges w || n.ranges w)) → IsTailed eq m C v Edge k f
   joined_tailed e n f Edge k p q s = record {
@@ -69,16 +68,16 @@ module _ {K V : Type 0} (eq : K → K → Bool) (m : Meaning K V) (C : List (Lis
     within = omega arith;
     traced = still_traced;
     same = value_stable eq m C (c ∷ []) e.version in_log k e.value is_true.same;
-    own = both_and (e.ranges e.version) (nat_lt e.version (suc N)) is_true.own (lt-ltb e.version (suc N) (omega arith));
-    single = λ t w i. is_true.single t w (and_both (e.ranges w) (nat_lt w (suc N)) i).0;
-    holds = λ w i _. (let b = and_both (e.ranges w) (nat_lt w (suc N)) i in let h = ltb-true w (suc N) b.1 in
+    own = and_from (e.ranges e.version) (nat_lt e.version (suc N)) is_true.own (lt-ltb e.version (suc N) (omega arith));
+    single = λ t w i. is_true.single t w (and_parts (e.ranges w) (nat_lt w (suc N)) i).0;
+    holds = λ w i _. (let b = and_parts (e.ranges w) (nat_lt w (suc N)) i in let h = ltb-true w (suc N) b.1 in
         value_stable eq m C (c ∷ []) w (omega arith) k e.value (is_true.holds w b.0 (omega arith)));
   }
 
   pub cut_tailed : (Edge : K → K → Type 0) → IsTailed eq m D (suc N) Edge k (cut_at (suc N) e)
   cut_tailed Edge = record {
-    tail = λ w i l. absurd (let h = ltb-true w (suc N) (and_both (e.ranges w) (nat_lt w (suc N)) i).1 in omega arith);
-    recorded = λ o. absurd (let h = ltb-true (suc N) (suc N) (and_both (e.ranges (suc N)) (nat_lt (suc N) (suc N)) (o (suc N) (omega arith))).1 in omega arith);
+    tail = λ w i l. absurd (let h = ltb-true w (suc N) (and_parts (e.ranges w) (nat_lt w (suc N)) i).1 in omega arith);
+    recorded = λ o. absurd (let h = ltb-true (suc N) (suc N) (and_parts (e.ranges (suc N)) (nat_lt (suc N) (suc N)) (o (suc N) (omega arith))).1 in omega arith);
   }
 
   module _ (law : IsLawful m) (Edge : K → K → Type 0) (R : K → Bool)
@@ -106,7 +105,7 @@ module _ {K V : Type 0} (eq : K → K → Bool) (m : Meaning K V) (C : List (Lis
       now = is_true.holds N (o N (omega arith)) (omega arith)
 
       unreached : (d : K) → S d → R d ≡ false
-      unreached d s = elim (true_or_false (R d)) as (λ _. R d ≡ false) [
+      unreached d s = elim (cases_Bool (R d)) as (λ _. R d ≡ false) [
         | inl t ↦ absurd (let h = chain_back k d s (tailed.recorded o) t in let z : true ≡ false = sym h ∙ not_reached in cc)
         | inr f ↦ f
       ]

@@ -5,13 +5,13 @@ use Rattle.std.specs.Arc.{arc_value, arc_with_value}
 use Rattle.std.specs.Option.{option_map, option_copied}
 use Rattle.std.specs.Borrow.{Bor}
 use Rattle.std.specs.List.{list_any}
-use Rattle.versioned_graph.proofs.Asked.{any_of}
-use Rattle.versioned_graph.proofs.Sets.{any_map, any_has}
+use Rattle.versioned_graph.proofs.Sets.{any_map}
 use Rattle.std.specs.declared.sync.Arc.{Arc}
 use Rattle.std.specs.HashSet.{HashSet}
 use Rattle.dice_key.specs.Lawful.{IsEquality, AreSame}
-use Rattle.dice_model.specs.Log.{Has}
 use Rattle.versioned_graph.specs.Users.{set_of, or_none, users_of}
+use Rattle.dice_key.proofs.KeySets.{any_has, has_any}
+use Rattle.lists.specs.Lists.{Has}
 
 abbrev pub keys_in : {K B S : Type 0} → HashSet (Arc K B) S → List K
 keys_in s = map arc_value s.keys
@@ -62,7 +62,7 @@ module _ {K B : Type 0} (eq : K → K → Bool) (law : IsEquality eq) where
   -- what is in a set stays there when one key is added
   pub still_in : (old new : List (Arc K B)) (k : K) → ((q : K) → list_any (λ y. eq q (arc_value y)) new ≡ cond (eq k q) true (list_any (λ y. eq q (arc_value y)) old)) → (q : K) → Has (map arc_value old) q → Has (map arc_value new) q
   still_in old new k marks q h =
-      any_has eq law (map arc_value new) q (any_map eq q new ∙ (marks q ∙ by_test (eq k q) (sym (any_map eq q old) ∙ any_of eq law (map arc_value old) q h)))
+      any_has eq law (map arc_value new) q (any_map eq q new ∙ (marks q ∙ by_test (eq k q) (sym (any_map eq q old) ∙ has_any eq law (map arc_value old) q h)))
     where
       by_test : (b : Bool) → list_any (λ y. eq q (arc_value y)) old ≡ true → cond b true (list_any (λ y. eq q (arc_value y)) old) ≡ true
       by_test true e = refl

@@ -3,48 +3,14 @@ use Rattle.std.proofs.Common.{◌≡◌, ◌≤◌, ◌+◌, ◌⊎◌, inl, inr
 use Rattle.std.specs.Map.{lookup}
 use Rattle.std.specs.List.{list_any}
 use Rattle.dice_key.specs.Lawful.{IsEquality}
-use Rattle.dice_model.specs.Log.{Has}
-use Rattle.versioned_graph.proofs.Sets.{any_end, any_has}
 use Rattle.versioned_graph.specs.Entries.{Stored}
 use Rattle.versioned_graph.specs.Edges.{is_edge, CommitReaches, changes, leads}
 use Rattle.versioned_graph.specs.Users.{or_none, users_of, IsIndexed, recorded_of}
-
-has_append : {X : Type 0} (xs ys : List X) (q : X) → Has (xs ++ ys) q → Has xs q ⊎ Has ys q
-has_append [] ys q h = inr h
-has_append (x ∷ xs) ys q (inl e) = inl (inl e)
-has_append (x ∷ xs) ys q (inr h) = elim (has_append xs ys q h) as (λ _. Has (x ∷ xs) q ⊎ Has ys q) [ inl i ↦ inl (inr i) | inr j ↦ inr j ]
-
-has_front : {X : Type 0} (xs ys : List X) (q : X) → Has xs q → Has (xs ++ ys) q
-has_front [] ys q h = absurd h
-has_front (x ∷ xs) ys q (inl e) = inl e
-has_front (x ∷ xs) ys q (inr h) = inr (has_front xs ys q h)
-
-has_back : {X : Type 0} (xs ys : List X) (q : X) → Has ys q → Has (xs ++ ys) q
-has_back [] ys q h = h
-has_back (x ∷ xs) ys q h = inr (has_back xs ys q h)
-
--- what is left by a test is what passes it
-filter_has : {X : Type 0} (f : X → Bool) (xs : List X) (q : X) → Has (filter f xs) q → f q ≡ true
-filter_has f [] q h = absurd h
-filter_has f (x ∷ xs) q h = by_test (f x) refl (λ i. filter_has f xs q i) h
-  where
-    by_test : (b : Bool) → f x ≡ b → (Has (filter f xs) q → f q ≡ true) → Has (cond b (x ∷ filter f xs) (filter f xs)) q → f q ≡ true
-    by_test true e g (inl p) = subst (λ y. f y ≡ true) p e
-    by_test true e g (inr i) = g i
-    by_test false e g i = g i
-
-has_filter : {X : Type 0} (f : X → Bool) (xs : List X) (q : X) → Has xs q → f q ≡ true → Has (filter f xs) q
-has_filter f [] q h t = absurd h
-has_filter f (x ∷ xs) q (inl e) t = by_test (f x) (ap f e ∙ t)
-  where
-    by_test : (b : Bool) → b ≡ true → Has (cond b (x ∷ filter f xs) (filter f xs)) q
-    by_test true p = inl e
-    by_test false p = cc
-has_filter f (x ∷ xs) q (inr h) t = by_test (f x) (has_filter f xs q h t)
-  where
-    by_test : (b : Bool) → Has (filter f xs) q → Has (cond b (x ∷ filter f xs) (filter f xs)) q
-    by_test true i = inr i
-    by_test false i = i
+use Rattle.dice_key.proofs.KeySets.{any_end, any_has}
+use Rattle.lists.proofs.Members.{filter_has, has_either, has_filter, has_left, has_right}
+use Rattle.lists.proofs.Options.{was_new, was_seen}
+use Rattle.lists.specs.Lists.{Has}
+use Rattle.std.proofs.lemmas.List.{nil_from_length}
 
 filter_length : {X : Type 0} (f : X → Bool) (xs : List X) → length (filter f xs) ≤ length xs
 filter_length f [] = omega arith
@@ -89,34 +55,34 @@ module _ {K V : Type 0} (eq : K → K → Bool) (es : List (K × Stored K V)) (s
 
   module _ (us : List (K × List K)) (indexed : IsIndexed eq es us) (reached todo rest : List K) (key : K) (w : IsWalk reached todo) (split : todo ≡ rest ++ key ∷ []) where
     key_led : CommitReaches eq es start key
-    key_led = w.todo_led key (subst (λ t. Has t key) (sym split) (has_back rest (key ∷ []) key (inl refl)))
+    key_led = w.todo_led key (subst (λ t. Has t key) (sym split) (has_right rest (key ∷ []) key (inl refl)))
 
     -- a key that was not reached yet
     pub walk_more : IsWalk (reached ++ key ∷ []) (rest ++ recorded_of eq es us key)
     walk_more = record {
       begun = λ q h. on q (w.begun q h);
-      closed = λ a b h e. elim (has_append reached (key ∷ []) a h) as (λ _. Has (reached ++ key ∷ []) b ⊎ Has (rest ++ recorded_of eq es us key) b) [
+      closed = λ a b h e. elim (has_either reached (key ∷ []) a h) as (λ _. Has (reached ++ key ∷ []) b ⊎ Has (rest ++ recorded_of eq es us key) b) [
         | inl i ↦ on b (w.closed a b i e)
         | inr j ↦ elim j as (λ _. Has (reached ++ key ∷ []) b ⊎ Has (rest ++ recorded_of eq es us key) b) [
-          | inl p ↦ (let f = subst (λ x. is_edge eq es x b ≡ true) (sym p) e in inr (has_back rest (recorded_of eq es us key) b (has_filter (is_edge eq es key) (users_of eq us key) b (indexed key b f) f)))
+          | inl p ↦ (let f = subst (λ x. is_edge eq es x b ≡ true) (sym p) e in inr (has_right rest (recorded_of eq es us key) b (has_filter (is_edge eq es key) (users_of eq us key) b (indexed key b f) f)))
           | inr n ↦ absurd n
         ]
       ];
-      reached_led = λ a h. elim (has_append reached (key ∷ []) a h) as (λ _. CommitReaches eq es start a) [
+      reached_led = λ a h. elim (has_either reached (key ∷ []) a h) as (λ _. CommitReaches eq es start a) [
         | inl i ↦ w.reached_led a i
         | inr j ↦ elim j as (λ _. CommitReaches eq es start a) [ inl p ↦ subst (CommitReaches eq es start) p key_led | inr n ↦ absurd n ]
       ];
-      todo_led = λ a h. elim (has_append rest (recorded_of eq es us key) a h) as (λ _. CommitReaches eq es start a) [
-        | inl i ↦ w.todo_led a (subst (λ t. Has t a) (sym split) (has_front rest (key ∷ []) a i))
+      todo_led = λ a h. elim (has_either rest (recorded_of eq es us key) a h) as (λ _. CommitReaches eq es start a) [
+        | inl i ↦ w.todo_led a (subst (λ t. Has t a) (sym split) (has_left rest (key ∷ []) a i))
         | inr j ↦ leads key_led (filter_has (is_edge eq es key) (users_of eq us key) a j)
       ];
     }
       where
         on : (q : K) → Has reached q ⊎ Has todo q → Has (reached ++ key ∷ []) q ⊎ Has (rest ++ recorded_of eq es us key) q
-        on q (inl s) = inl (has_front reached (key ∷ []) q s)
-        on q (inr h) = elim (has_append rest (key ∷ []) q (subst (λ t. Has t q) split h)) as (λ _. Has (reached ++ key ∷ []) q ⊎ Has (rest ++ recorded_of eq es us key) q) [
-          | inl i ↦ inr (has_front rest (recorded_of eq es us key) q i)
-          | inr j ↦ elim j as (λ _. Has (reached ++ key ∷ []) q ⊎ Has (rest ++ recorded_of eq es us key) q) [ inl e ↦ inl (has_back reached (key ∷ []) q (inl e)) | inr n ↦ absurd n ]
+        on q (inl s) = inl (has_left reached (key ∷ []) q s)
+        on q (inr h) = elim (has_either rest (key ∷ []) q (subst (λ t. Has t q) split h)) as (λ _. Has (reached ++ key ∷ []) q ⊎ Has (rest ++ recorded_of eq es us key) q) [
+          | inl i ↦ inr (has_left rest (recorded_of eq es us key) q i)
+          | inr j ↦ elim j as (λ _. Has (reached ++ key ∷ []) q ⊎ Has (rest ++ recorded_of eq es us key) q) [ inl e ↦ inl (has_right reached (key ∷ []) q (inl e)) | inr n ↦ absurd n ]
         ]
 
   module _ (reached todo rest : List K) (key : K) (w : IsWalk reached todo) (split : todo ≡ rest ++ key ∷ []) where
@@ -126,12 +92,12 @@ module _ {K V : Type 0} (eq : K → K → Bool) (es : List (K × Stored K V)) (s
       begun = λ q h. same q (w.begun q h);
       closed = λ a b h e. same b (w.closed a b h e);
       reached_led = w.reached_led;
-      todo_led = λ a h. w.todo_led a (subst (λ t. Has t a) (sym split) (has_front rest (key ∷ []) a h));
+      todo_led = λ a h. w.todo_led a (subst (λ t. Has t a) (sym split) (has_left rest (key ∷ []) a h));
     }
       where
         same : (q : K) → Has reached q ⊎ Has todo q → Has reached q ⊎ Has rest q
         same q (inl s) = inl s
-        same q (inr h) = elim (has_append rest (key ∷ []) q (subst (λ t. Has t q) split h)) as (λ _. Has reached q ⊎ Has rest q) [
+        same q (inr h) = elim (has_either rest (key ∷ []) q (subst (λ t. Has t q) split h)) as (λ _. Has reached q ⊎ Has rest q) [
           | inl i ↦ inr i
           | inr j ↦ elim j as (λ _. Has reached q ⊎ Has rest q) [ inl e ↦ inl (subst (Has reached) e k) | inr n ↦ absurd n ]
         ]
@@ -198,15 +164,3 @@ module _ {K V : Type 0} (eq : K → K → Bool) (law : IsEquality eq) (es : List
       by_test : (x : K) (b : Bool) → eq key x ≡ b → cond b true (seen x) ≡ seen x
       by_test x true e = sym (subst (λ n. seen n ≡ true) (law.same key x e) old)
       by_test x false e = refl
-
-pub was_new : (b x : Bool) → x ≡ not b → x ≡ true → b ≡ false
-was_new true x e t = let z : true ≡ not true = sym t ∙ e in cc
-was_new false x e t = refl
-
-pub was_seen : (b x : Bool) → x ≡ not b → x ≡ false → b ≡ true
-was_seen false x e t = let z : false ≡ not false = sym t ∙ e in cc
-was_seen true x e t = refl
-
-pub is_empty_list : {X : Type 0} (xs : List X) → length xs ≡ 0 → xs ≡ []
-is_empty_list [] e = refl
-is_empty_list (x ∷ xs) e = absurd (let l : length (x ∷ xs) ≡ suc (length xs) = refl in omega arith)

@@ -4,8 +4,8 @@ use Rattle.std.specs.Map.{lookup}
 use Rattle.std.specs.List.{list_any}
 use Rattle.std.specs.Option.{option_map}
 use Rattle.dice_key.specs.Meaning.{Meaning, Answered}
-use Rattle.dice_model.specs.Log.{Has}
 use Rattle.versioned_graph.specs.Entries.{Stored, Kept, entry_at, cut_at, goes_in}
+use Rattle.lists.specs.Lists.{Has}
 
 -- a test of versions that holds from some version on
 abbrev pub HasTail : (ℕ → Bool) → Type 0

@@ -4,9 +4,9 @@ use Rattle.std.specs.Arc.{arc_value}
 use Rattle.std.specs.declared.sync.Arc.{Arc}
 use Rattle.std.specs.HashSet.{HashSet}
 use Rattle.std.specs.Map.{lookup}
-use Rattle.dice_model.specs.Log.{Has}
 use Rattle.versioned_graph.specs.Entries.{Stored}
 use Rattle.versioned_graph.specs.Edges.{is_edge}
+use Rattle.lists.specs.Lists.{Has}
 
 -- a set with its key, without pointers
 abbrev pub set_of : {K A B S : Type 0} → Arc K A × HashSet (Arc K B) S → K × List K

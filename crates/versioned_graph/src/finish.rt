@@ -2,10 +2,10 @@
 ghost use Rattle.std.specs.Prelude.{◌≡◌, ◌&&◌, true, IfOk};
 ghost use Rattle.std.specs.Arc.{arc_value};
 ghost use Rattle.std.specs.List.{list_any};
-ghost use Rattle.dice_model.specs.Log.{Has};
 ghost use Rattle.version_ranges.specs.Members.{is_open};
 ghost use Rattle.versioned_graph.specs.Edges.{is_asked};
 ghost use Rattle.versioned_graph.specs.Users.{users_of};
+ghost use Rattle.lists.specs.Lists.{Has};
 
 use crate::users::Users;
 use dep_recorder::Trace;

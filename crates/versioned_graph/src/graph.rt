@@ -6,11 +6,11 @@ ghost use Rattle.std.specs.Option.{option_map};
 ghost use Rattle.injected.specs.Seen.{cell_at};
 ghost use Rattle.dice_model.specs.Asks.{IsTrace};
 ghost use Rattle.dice_model.specs.Eval.{HasValue};
-ghost use Rattle.dice_model.specs.Log.{Has};
 ghost use Rattle.versioned_graph.specs.Edges.{Records, IsCut, is_edge};
 ghost use Rattle.versioned_graph.specs.Entries.{Kept, entry_at, finished, seen_at, written};
 ghost use Rattle.versioned_graph.specs.Looks.{look_of, look, Matches};
 ghost use Rattle.versioned_graph.specs.Sound.{AreTrue, Holds};
+ghost use Rattle.lists.specs.Lists.{Has};
 
 use crate::cut::{cut_all, forget_all};
 use crate::entry::Entry;

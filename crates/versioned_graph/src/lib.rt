@@ -9,8 +9,6 @@ mod graph;
 mod marks;
 mod reach;
 mod store;
-#[cfg(test)]
-mod tests;
 mod users;
 
 pub use found::{Found, Why};

@@ -1,9 +1,9 @@
 //! What a commit reaches.
 ghost use Rattle.std.specs.Prelude.{◌≡◌, ◌++◌, List, map, IfOk, OnOk};
 ghost use Rattle.std.specs.Arc.{arc_value};
-ghost use Rattle.dice_model.specs.Log.{Has};
 ghost use Rattle.versioned_graph.specs.Edges.{CommitReaches};
 ghost use Rattle.versioned_graph.specs.Users.{IsIndexed, recorded_of};
+ghost use Rattle.lists.specs.Lists.{Has};
 
 use crate::store::Store;
 use crate::users::Users;

@@ -1,8 +1,8 @@
 //! Which keys may use a key.
 ghost use Rattle.std.specs.Prelude.{◌≡◌, List, [], map, if◌then◌else◌, OnOk, MatchOption};
 ghost use Rattle.std.specs.Arc.{arc_value};
-ghost use Rattle.dice_model.specs.Log.{Has};
 ghost use Rattle.versioned_graph.specs.Users.{users_of};
+ghost use Rattle.lists.specs.Lists.{Has};
 
 use dice_key::{NoMemory, Universe, laws_of};
 use std::alloc::Global;

@@ -1,5 +1,5 @@
 use Rattle.action_digest.specs.Cycles.{labels_of}
-use Rattle.action_digest.proofs.Circles.{is_in_turn}
+use Rattle.action_digest.proofs.Rounds.{is_in_turn}
 use Rattle.action_digest.proofs.Turning.{labels_distinct}
 use Rattle.action_digest.proofs.laws.cycles_are_of_labels.Goals as goal
 

@@ -1,7 +1,7 @@
 use Rattle.std.proofs.Common.{◌≡◌, map, reverse, Some, None, true, false, cond, ap, sym, ◌∙◌, subst, arith}
 use Rattle.std.specs.Arc.{arc_value, arc_with_value}
 use Rattle.task_share.specs.Seen.{asked_of}
-use Rattle.cycle_guard.specs.Circle.{IsCircle}
+use Rattle.cycle_guard.specs.WaitCycle.{IsWaitCycle}
 use Rattle.cycle_guard.specs.Search.{next_wait, is_met}
 use Rattle.cycle_guard.proofs.StepLemmas.{step_begins, step_popped, step_passed, step_met, step_found, step_leads, step_over, apart_by, was_met, was_unmet}
 use Rattle.cycle_guard.proofs.guard.search.Goals as goal
@@ -32,7 +32,7 @@ returns-then-eq-clause-path g c =
     let eq = g.K.PartialEq.eq in
     let law = c.table_in_order.ensures.equality in
     let next : next_wait eq c.args.table.now (reverse (map arc_value c.loop-count.path.items)) c.in-Some.count ≡ Some (arc_value c.in-Some-wait_at.next.now) = ap (λ xs. next_wait eq c.args.table.now (reverse (map arc_value xs)) c.in-Some.count) (sym c.deref.ensures.value) ∙ sym c.in-Some-wait_at.ensures.next in
-    subst (IsCircle (asked_of eq c.args.table.now) (arc_value c.args.from.now) (arc_value c.args.to.now)) (sym c.from_keys.ensures)
+    subst (IsWaitCycle (asked_of eq c.args.table.now) (arc_value c.args.from.now) (arc_value c.args.to.now)) (sym c.from_keys.ensures)
     (step_found eq law c.args.table.now (arc_value c.args.from.now) (arc_value c.args.to.now) c.table_in_order.ensures.waits c.loop-count.path.items c.loop-count.passed.items c.pop.new.self.items c.in-Some.count (arc_value c.in-Some-wait_at.next.now) (is_met eq c.loop-count.seen.keys)
     c.in-Some.ensures.items next (law.same (arc_value c.in-Some-wait_at.next.now) (arc_value c.args.from.now) (sym c.if-eq.ensures)) c.loop-count.invariant)
 

@@ -1,8 +1,7 @@
 use Rattle.std.proofs.Common.{◌<◌, length, arith, ap, ◌∙◌}
 use Rattle.std.specs.Arc.{arc_value}
-use Rattle.std.proofs.lemmas.List.{length-map}
+use Rattle.std.proofs.lemmas.List.{length-map, take_all}
 use Rattle.dep_recorder.specs.Recordings.{keys_in}
-use Rattle.dep_recorder.proofs.Findings.{take_all}
 use Rattle.dep_recorder.proofs.check.copied_keys.Goals as goal
 
 pub from_keys-requires : goal.from_keys-requires

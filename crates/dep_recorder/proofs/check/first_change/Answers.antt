@@ -2,15 +2,12 @@ use Rattle.std.proofs.Common.{◌≡◌, ◌∙◌, sym, arith, not, Bool, true,
 use Rattle.std.specs.Arc.{arc_value}
 use Rattle.dep_recorder.proofs.Findings.{change_here}
 use Rattle.dep_recorder.proofs.check.first_change.Goals as goal
-
-not_true : (b : Bool) → not b ≡ true → b ≡ false
-not_true true e = cc
-not_true false e = refl
+use Rattle.std.proofs.lemmas.Bool.{not-true}
 
 pub returns-then-ne-clause-some : goal.returns-then-ne-clause-some
 returns-then-ne-clause-some g c =
     let eq = g.V.PartialEq.eq in
-    let f = not_true (eq c.deref.result.now c.deref-in-loop-i.result.now) (sym c.ne.ensures ∙ c.if-ne.true) in (
+    let f = not-true (eq c.deref.result.now c.deref-in-loop-i.result.now) (sym c.ne.ensures ∙ c.if-ne.true) in (
       c.loop-i-test.true,
       c.loop-i.invariant
           ∙ change_here eq c.loop-i.i c.args.was.now c.args.now.now c.index-was-i.result c.index-now-i.result c.loop-i-test.true (omega (arith, c.requires, c.loop-i-test.true)) c.index-was-i.is c.index-now-i.is

@@ -5,13 +5,13 @@ use Rattle.task_share.specs.Asked.{Promised, is_by}
 use Rattle.task_share.specs.Seen.{asks, asked_of}
 use Rattle.journal.specs.declared.event.Told.TheVariants.{Leave, Drop}
 use Rattle.journal.specs.Events.{ended_at}
-use Rattle.core_laws.proofs.Shapes.{both_parts}
 use Rattle.dice_tasks.specs.Hands.{DeskSeen, Cleaning}
 use Rattle.dice_tasks.specs.Endings.{DropsTasks}
 use Rattle.dice_core.proofs.AskingLemmas.{dropped_live, left_cleaning, left_tasked, in_hand_again}
 use Rattle.dice_tasks.proofs.Dropped.{cascade_distinct}
 use Rattle.dice_tasks.proofs.EntriesLemmas.{stand_leave}
 use Rattle.dice_core.proofs.asking.leave_promise.Goals as goal
+use Rattle.std.proofs.lemmas.Bool.{and_parts}
 
 pub cascade-requires-clause-cleaning : goal.cascade-requires-clause-cleaning
 cascade-requires-clause-cleaning g c κs within =
@@ -48,5 +48,5 @@ returns-clause-kept g c = λ w owed es s h.
     (subst (λ z. DropsTasks eq c.args.version d.0 c.leave.new.self c.cascade.new.tasks z c.cascade.new.desk) c.push.ensures d.1) h.told (stand_leave eq m (reverse c.args.desk.now.events) es h.entries c.args.by c.args.ask)
     (record { are = h.cells.are; newest = h.cells.newest }) h.opened
     (c.cascade.ensures.kept w owed cleaning)
-    (c.cascade.ensures.tasked (left_tasked eq c.laws_of.ensures.keys m c.laws_of.ensures.lawful c.args.version _ c.leave.new.self c.leave.ensures.tasks (λ q a i. (both_parts (asks eq c.args.tasks.now q a) (not (eq (arc_value c.args.key.now) q && is_by eq (Promised c.args.ask) a)) (sym (c.leave.ensures.asks q a) ∙ i)).0) h.tasked))
+    (c.cascade.ensures.tasked (left_tasked eq c.laws_of.ensures.keys m c.laws_of.ensures.lawful c.args.version _ c.leave.new.self c.leave.ensures.tasks (λ q a i. (and_parts (asks eq c.args.tasks.now q a) (not (eq (arc_value c.args.key.now) q && is_by eq (Promised c.args.ask) a)) (sym (c.leave.ensures.asks q a) ∙ i)).0) h.tasked))
     c.cascade.ensures.done

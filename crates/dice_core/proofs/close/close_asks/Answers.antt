@@ -1,13 +1,13 @@
 use Rattle.std.proofs.Common.{◌≡◌, reverse, Some, refl, sym, ap, ◌∙◌, subst}
 use Rattle.journal.specs.declared.event.Told.TheVariants.{Close}
 use Rattle.journal.specs.Events.{ended_at}
-use Rattle.core_laws.proofs.Shapes.{both_parts}
 use Rattle.dice_core.specs.Sessions.{owed}
 use Rattle.dice_tasks.specs.Hands.{DeskSeen, with_event, Cleaning}
 use Rattle.dice_tasks.specs.Endings.{DropsTasks}
 use Rattle.dice_core.proofs.AskingLemmas.{left_tasked}
 use Rattle.dice_core.proofs.CloseLemmas.{promised_here, closed_cleaning, closed_log, closed_sessions, closed_counts, left_again}
 use Rattle.dice_core.proofs.close.close_asks.Goals as goal
+use Rattle.std.proofs.lemmas.Bool.{and_parts}
 
 pub cascade-requires-clause-cleaning : goal.cascade-requires-clause-cleaning
 cascade-requires-clause-cleaning g c κs within =
@@ -73,4 +73,4 @@ returns-clause-kept g c w es s h =
     let cleaning = subst (λ z. Cleaning eq m v w less c.take_promises.new.tasks z) (sym told) r.0 in
     left_again eq keys m law v c.args.session.by c.args.tx d.0 less _ _ c.args.desk.now c.cascade.new.desk es s w
     (subst (λ z. DropsTasks eq v d.0 c.take_promises.new.tasks c.cascade.new.tasks z c.cascade.new.desk) told d.1) h.told h.entries h.cells (c.cascade.ensures.kept w less cleaning)
-    (c.cascade.ensures.tasked (left_tasked eq keys m law v _ _ c.take_promises.ensures.tasks (λ q a i. (both_parts _ _ (sym (t.asks q a) ∙ i)).0) h.tasked)) c.cascade.ensures.done
+    (c.cascade.ensures.tasked (left_tasked eq keys m law v _ _ c.take_promises.ensures.tasks (λ q a i. (and_parts _ _ (sym (t.asks q a) ∙ i)).0) h.tasked)) c.cascade.ensures.done

@@ -9,8 +9,9 @@ use Rattle.dice_model.specs.Log.{pairs_of}
 use Rattle.dice_core.specs.Commits.{NotInjected, Twice, AreSettable, IsFirstFault}
 use Rattle.dice_steps.proofs.SeenLemmas.{was_seen, was_new}
 use Rattle.dice_core.proofs.CommitLemmas.{keys_more, keys_split, settable_more, settable_has_none, one_fault}
-use Rattle.dice_steps.proofs.NotedLemmas.{AreSeen, any_has, has_any, seen_more}
+use Rattle.dice_steps.proofs.NotedLemmas.{AreSeen, seen_more}
 use Rattle.dice_core.proofs.commit.check_changes.Goals as goal
+use Rattle.dice_key.proofs.KeySets.{any_has, has_any}
 
 pub returns-in_default : goal.returns-in_default
 returns-in_default g c =

@@ -3,7 +3,7 @@ use Rattle.std.proofs.Common.{◌≡◌, ◌<◌, ◌+◌, ◌++◌, ◌∷◌, 
 use Rattle.std.specs.Arc.{arc_value}
 use Rattle.std.specs.Map.{keys_of}
 use Rattle.std.proofs.lemmas.List.{length-map}
-use Rattle.dice_model.specs.Log.{Has, AreDistinct, pair_of, pairs_of}
+use Rattle.dice_model.specs.Log.{pair_of, pairs_of}
 use Rattle.versioned_graph.specs.Edges.{IsCut}
 use Rattle.journal.specs.declared.event.Told.TheVariants.{Commit}
 use Rattle.dice_core.specs.Commits.{differs, differing_of}
@@ -11,6 +11,7 @@ use Rattle.dice_tasks.specs.Hands.{DeskSeen}
 use Rattle.dice_core.proofs.CommitLaws.{distinct_left, committed, cuts_entries}
 use Rattle.dice_steps.proofs.NotedLemmas.{not_empty}
 use Rattle.dice_core.proofs.commit.commit_settable.Goals as goal
+use Rattle.lists.specs.Lists.{AreDistinct, Has}
 
 pub set_cells-requires-clause-distinct : goal.set_cells-requires-clause-distinct
 set_cells-requires-clause-distinct g c κs within =

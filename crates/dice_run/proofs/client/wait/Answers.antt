@@ -13,9 +13,7 @@ use Rattle.dice_model.specs.Eval.{HasValue}
 use Rattle.core_laws.specs.Stands.{CycleStands}
 use Rattle.dice_run.proofs.Turning.{later_goes, later_log, later_live}
 use Rattle.dice_run.proofs.client.wait.Goals as goal
-
-none_some : {X : Type 0} {x : X} → None ≡ Some x → ⊥
-none_some e = cc
+use Rattle.lists.proofs.Options.{none_some}
 
 pub returns-in_err-value-clause-goes : goal.returns-in_err-value-clause-goes
 returns-in_err-value-clause-goes g c = later_goes c.args.engine.now c.args.seat.now c.wait.new.seat c.requires.ours c.wait.ensures.later.0 c.wait.ensures.later.1

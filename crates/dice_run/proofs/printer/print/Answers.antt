@@ -1,9 +1,10 @@
 use Rattle.std.proofs.Common.{◌≡◌, ◌+◌, sym, ap, subst, List, [], ◌∷◌, drop, rules}
 use Rattle.script.specs.declared.line.Line.{Line}
 use Rattle.dice_run.specs.Output.{IsOutput}
-use Rattle.dice_run.proofs.Ending.{drop_item, drop_whole}
+use Rattle.dice_run.proofs.Ending.{drop_whole}
 use Rattle.dice_run.proofs.Printed.{Printing, printing_more, printing_end}
 use Rattle.dice_run.proofs.printer.print.Goals as goal
+use Rattle.lists.proofs.Places.{drop_item}
 
 pub loop-line-preserved : goal.loop-line-preserved
 loop-line-preserved c =

@@ -1,9 +1,9 @@
 use Rattle.std.proofs.Common.{◌∙◌, ◌++◌, ap, subst, arith}
 use Rattle.std.specs.Prelude.{IsSome, option_to_list}
-use Rattle.dice_tasks.proofs.ParkLemmas.{none_left}
 use Rattle.dice_steps.proofs.MakesLemmas.{next_part, next_room, room_next, makes_next, on_next, makes_end, on_end}
 use Rattle.dice_steps.proofs.LookedLemmas.{parted_end, next_makable, next_parted}
 use Rattle.dice_steps.proofs.batch.make_all.Goals as goal
+use Rattle.lists.proofs.Members.{none_left}
 
 pub parts-init : goal.parts-init
 parts-init g c = record { kept = λ W w owed h. h; room = c.requires.room; makes = λ qs e h. h; makable = λ born h. h; looked = λ born may qs e gs h. h }

@@ -194,7 +194,7 @@ returns-in-Ends-clause-done g c w owed s hand plan =
     subst (λ z. IsPlanDone eq m c.args.version owed a c.args.parked.keys c.args.tasks.now c.args.desk.now c.args.graph.now s z c.give_up.new.tasks c.give_up.new.desk c.args.graph.now) (sym c.in-Ends.is)
     (record {
       path = path;
-      circle = (subst (λ z. IsPlan eq m c.args.version owed a c.args.parked.keys c.args.tasks.now c.args.desk.now c.args.graph.now s z) c.in-Ends.is plan).0;
+      cycle = (subst (λ z. IsPlan eq m c.args.version owed a c.args.parked.keys c.args.tasks.now c.args.desk.now c.args.graph.now s z) c.in-Ends.is plan).0;
       ends = subst (λ z. GivesUpAll eq c.args.version (Some path) z c.args.tasks.now c.give_up.new.tasks c.args.desk.now c.give_up.new.desk) (sym c.requires.own.0) c.give_up.ensures.ends;
       entries = refl;
     })

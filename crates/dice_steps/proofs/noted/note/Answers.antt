@@ -1,6 +1,6 @@
 -- The keys that were seen, read without pointers.
-use Rattle.dice_steps.proofs.SeenLemmas.{noted}
 use Rattle.dice_steps.proofs.noted.note.Goals as goal
+use Rattle.dice_key.proofs.KeySets.{noted}
 
 pub returns-clause-seen : goal.returns-clause-seen
 returns-clause-seen g c =

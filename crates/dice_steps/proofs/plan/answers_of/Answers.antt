@@ -2,9 +2,10 @@ use Rattle.std.proofs.Common.{◌∙◌, ◌++◌, ◌∷◌, [], sym, ap, subst
 use Rattle.std.specs.Arc.{arc_value}
 use Rattle.std.specs.List.{AllZip}
 use Rattle.dice_steps.specs.Plans.{IsAtHand}
-use Rattle.dice_steps.proofs.PartLemmas.{keys_next, zip_last}
+use Rattle.dice_steps.proofs.PartLemmas.{keys_next}
 use Rattle.dice_steps.proofs.SurveyLemmas.{key_of_batch}
 use Rattle.dice_steps.proofs.plan.answers_of.Goals as goal
+use Rattle.lists.proofs.Each.{zip_end}
 
 pub returns-in_default-clause-none : goal.returns-in_default-clause-none
 returns-in_default-clause-none g c =
@@ -16,4 +17,4 @@ loop-key-preserved g c =
     let x = c.key-item.result in
     subst (λ z. AllZip P z c.push.new.self) (sym (keys_next c.keys-keys.result.now c.loop-key.key-index x c.loop-key-test.true c.key-item.is))
     (subst (AllZip P (map arc_value (take c.loop-key.key-index c.keys-keys.result.now) ++ arc_value x ∷ [])) (sym (c.in_ok-push.ensures.ok ∙ ap (λ z. c.loop-key.answers ++ z ∷ []) c.in_ok-try_clone.ensures))
-    (zip_last P (map arc_value (take c.loop-key.key-index c.keys-keys.result.now)) c.loop-key.answers (arc_value x) (arc_value c.in-Some.value.now) c.loop-key.invariant c.in-Some.ensures.some))
+    (zip_end P (map arc_value (take c.loop-key.key-index c.keys-keys.result.now)) c.loop-key.answers (arc_value x) (arc_value c.in-Some.value.now) c.loop-key.invariant c.in-Some.ensures.some))

@@ -3,12 +3,12 @@ use Rattle.std.specs.Arc.{arc_value}
 use Rattle.std.specs.List.{list_any}
 use Rattle.std.proofs.lemmas.List.{take_all}
 use Rattle.dice_key.specs.declared.universe.Kind.TheVariants.{Injected}
-use Rattle.dice_model.specs.Log.{Has}
 use Rattle.dice_steps.specs.Plans.{key_in, AreParts}
 use Rattle.dice_steps.proofs.NotedLemmas.{AreSeen}
 use Rattle.dice_steps.proofs.PartLemmas.{map_last, parts_none, parts_turned}
 use Rattle.dice_steps.proofs.SurveyLemmas.{batch_at, comes_to_none, seen_same, seen_new, seen_has, unseen, skips, adds}
 use Rattle.dice_steps.proofs.plan.look_over_all.Goals as goal
+use Rattle.lists.specs.Lists.{Has}
 
 pub returns-in-Some : goal.returns-in-Some
 returns-in-Some g c = record {

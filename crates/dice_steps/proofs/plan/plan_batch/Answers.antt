@@ -5,13 +5,13 @@ use Rattle.dice_jobs.specs.Jobs.{Name}
 use Rattle.task_share.specs.Seen.{wait_room}
 use Rattle.dice_steps.specs.Plans.{waits_of, ArePlaced, IsAtHand, HasNone}
 use Rattle.dice_steps.proofs.NotedLemmas.{not_empty}
-use Rattle.dice_steps.proofs.PartLemmas.{zip_count}
 use Rattle.dice_steps.proofs.PlanLemmas.{none_there, parts_as, goes_so, waits_some, waits_none}
 use Rattle.dice_steps.proofs.plan.plan_batch.Goals as goal
+use Rattle.lists.proofs.Each.{zip_length}
 
 pub of_batch-requires-after_bounds : goal.of_batch-requires-after_bounds
 of_batch-requires-after_bounds g c κs within =
-    zip_count (IsAtHand g.U.Key.PartialEq.eq g.U.Universe.meaning c.version-version.result c.reserve_parts.new.tasks c.args.graph.now c.args.cells.now) c.args.batch.now c.in-Some.answers (rw c.in-Some.is at c.in_ok-answers.ensures.some)
+    zip_length (IsAtHand g.U.Key.PartialEq.eq g.U.Universe.meaning c.version-version.result c.reserve_parts.new.tasks c.args.graph.now c.args.cells.now) c.args.batch.now c.in-Some.answers (rw c.in-Some.is at c.in_ok-answers.ensures.some)
 
 pub returns-then-not-is_empty-clause-plan : goal.returns-then-not-is_empty-clause-plan
 returns-then-not-is_empty-clause-plan g c =

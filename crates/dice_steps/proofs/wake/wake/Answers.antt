@@ -5,11 +5,11 @@ use Rattle.std.specs.Arc.{arc_value}
 use Rattle.journal.specs.declared.event.Told.{Told}
 use Rattle.task_share.specs.Asked.{Tasked}
 use Rattle.dice_tasks.specs.Waitings.{MayWake}
-use Rattle.dice_tasks.proofs.ParkLemmas.{none_left}
 use Rattle.dice_steps.proofs.WakeLemmas.{wakes_on, wakes_rest, not_at_hand, one_fewer, last_here, all_woken, still_waits, released_so, told_all}
 use Rattle.dice_steps.proofs.WakesLemmas.{next_is_new, comes_next, none_woken, all_came, one_woken, one_told, same_woken, tasked_woken, tasked_told}
 use Rattle.dice_tasks.proofs.TaskedLemmas.{tasked_same}
 use Rattle.dice_steps.proofs.wake.wake.Goals as goal
+use Rattle.lists.proofs.Members.{none_left}
 
 pub ready-init : goal.ready-init
 ready-init g c = record { kept = λ v W w owed work may. (work, may); room = c.requires.room; events = refl; woken = ([], sym (append-nil c.args.woken.items), none_woken g.U.Key.PartialEq.eq c.laws_of.ensures.keys (arc_value c.args.key.now) _ _); tasked = λ t. t }

@@ -1,10 +1,10 @@
 use Rattle.std.proofs.Common.{sym, ap, subst}
 use Rattle.std.specs.Arc.{arc_value}
-use Rattle.dice_model.specs.Log.{Has}
 use Rattle.dice_tasks.specs.Shelves.{place_of}
 use Rattle.dice_tasks.specs.Waitings.{Wakes, WakesOne}
 use Rattle.dice_steps.proofs.WakeLemmas.{wakes_so, waits_still}
 use Rattle.dice_steps.proofs.wake.wake_one.Goals as goal
+use Rattle.lists.specs.Lists.{Has}
 
 pub resume-requires-after_bounds : goal.resume-requires-after_bounds
 resume-requires-after_bounds g c κs within =

@@ -1,10 +1,10 @@
 use Rattle.std.proofs.Common.{rules, ◌≡◌, ◌∙◌, subst, false}
 use Rattle.std.specs.Arc.{arc_value}
 use Rattle.std.specs.List.{AllByRecursion}
-use Rattle.dice_model.specs.Log.{Has}
 use Rattle.task_share.specs.Seen.{waits_at}
 use Rattle.dice_steps.proofs.WokenLemmas.{among, alone_of, more_of, all_taken}
 use Rattle.dice_steps.proofs.woken.asks_alone.Goals as goal
+use Rattle.lists.specs.Lists.{Has}
 
 pub returns-then-ne-clause-more : goal.returns-then-ne-clause-more
 returns-then-ne-clause-more g c = λ _.

@@ -6,8 +6,9 @@ use Rattle.std.proofs.lemmas.Result.{IfOk-weaker}
 use Rattle.core_laws.specs.Tasks.{IsWaiting, waits_for}
 use Rattle.dice_tasks.specs.Helds.{Held, FollowsOn, held_of}
 use Rattle.dice_steps.specs.Wokens.{IsAnswer, IsAnswered}
-use Rattle.dice_steps.proofs.WokenLemmas.{zip_next, zip_length, all_taken, answered_so}
+use Rattle.dice_steps.proofs.WokenLemmas.{zip_next, all_taken, answered_so}
 use Rattle.dice_steps.proofs.woken.next_of.Goals as goal
+use Rattle.lists.proofs.Each.{zip_length}
 
 pub loop-asked-preserved : goal.loop-asked-preserved
 loop-asked-preserved g c =

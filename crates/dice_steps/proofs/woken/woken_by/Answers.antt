@@ -2,7 +2,7 @@ use Rattle.std.proofs.Common.{◌∙◌, ◌+◌, refl, sym, ap, subst, map, tak
 use Rattle.std.specs.Arc.{arc_value}
 use Rattle.dice_tasks.specs.Waitings.{Wakes}
 use Rattle.dice_steps.specs.Wokens.{IsAnswered}
-use Rattle.dice_steps.proofs.WokenLemmas.{SoFar, none_so_far, other_more, woken_more, all_woken, distinct_askers, first_more, is_new, among, any_has, all_taken}
+use Rattle.dice_steps.proofs.WokenLemmas.{SoFar, none_so_far, other_more, woken_more, all_woken, first_more, is_new, among, any_has, all_taken}
 use Rattle.dice_steps.proofs.woken.woken_by.Goals as goal
 use Rattle.dice_steps.proofs.woken.woken_by.Goals.{then-asks_alone+in_ok-next+in_ok-one+in_ok-push, else-asks_alone}
 
@@ -31,7 +31,7 @@ loop-asker-preserved g c =
           let one = w.in_ok-one.ensures in
           woken_more eq m c.args.cells.now c.args.version k x c.args.tasks.now done c.loop-asker.woken.items c.loop-asker.invariant j (map arc_value (take (i + 1) asking)) w.in_ok-one.one c.if-asks_alone.woken.items more
           (ap (λ z. z.items) w.woken-is ∙ w.in_ok-push.ensures.items)
-          (is_new arc_value asking i c.asker-item.result c.loop-asker-test.true c.asker-item.is (distinct_askers (map arc_value asking) c.askers.ensures.distinct))
+          (is_new arc_value asking i c.asker-item.result c.loop-asker-test.true c.asker-item.is c.askers.ensures.distinct)
           (ap (λ (z : Wakes g.row.U-Key.Denot g.row.U-Value.Denot). z.place) one) (w.if-asks_alone.ensures.alone refl)
           (subst (IsAnswered eq m c.args.cells.now c.args.version k x c.args.tasks.now j) (sym (ap (λ (z : Wakes g.row.U-Key.Denot g.row.U-Value.Denot). z.ahead) one)) w.in_ok-next.ensures))
       | else-asks_alone w ↦ subst (SoFar eq m c.args.cells.now c.args.version k x c.args.tasks.now (map arc_value (take (i + 1) asking))) (sym (ap (λ z. z.items) w.woken-is))

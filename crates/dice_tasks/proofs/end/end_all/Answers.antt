@@ -2,13 +2,13 @@ use Rattle.std.proofs.Common.{◌≡◌, inl, inr, ◌+◌, ◌*◌, ◌<◌, []
 use Rattle.std.specs.Arc.{arc_value}
 use Rattle.dice_tasks.specs.Hands.{DeskSeen}
 use Rattle.core_laws.specs.Tasks.{Outcome}
-use Rattle.core_laws.proofs.Counts.{has_front}
 use Rattle.dice_tasks.specs.Endings.{ListsEnd, path_of, ends_so, told_end}
 use Rattle.dice_tasks.proofs.EndsLemmas.{working_knows}
 use Rattle.dice_tasks.proofs.TellLemmas.{begins_telling, listed, asker_ended, last_told, asker_fewer, told_fewer, ends_telling}
 use Rattle.dice_tasks.proofs.AllLemmas.{all_first, all_more, all_told, listed_first, listed_more, listed_told, untold_first, untold_more, untold_told, with_askers, comes_so}
 use Rattle.dice_tasks.proofs.TaskedLemmas.{tasked_end, tasked_same}
 use Rattle.dice_tasks.proofs.end.end_all.Goals as goal
+use Rattle.lists.proofs.Members.{has_more}
 
 pub end_own-requires-clause-known : goal.end_own-requires-clause-known
 end_own-requires-clause-known g c l o =
@@ -46,7 +46,7 @@ askers-preserved g c =
     let n = c.askers.invariant.ends in
     elim (c.tell_one.ensures.some c.askers-test.true) [
       | inl a ↦ record {
-        ends = (n.0 ++ (a.asker, a.came) ∷ [], all_more eq c.laws_of.ensures.keys v p k n.0 _ _ _ _ _ _ n.1 a (n.2 a.key a.listed), listed_more eq c.laws_of.ensures.keys v p k n.0 _ _ _ _ _ _ n.1 a n.2, untold_more eq c.laws_of.ensures.keys v p k n.0 _ _ _ _ _ _ n.1 a n.3, has_front n.0 (a.asker, a.came) (k, ends_so p) n.4);
+        ends = (n.0 ++ (a.asker, a.came) ∷ [], all_more eq c.laws_of.ensures.keys v p k n.0 _ _ _ _ _ _ n.1 a (n.2 a.key a.listed), listed_more eq c.laws_of.ensures.keys v p k n.0 _ _ _ _ _ _ n.1 a n.2, untold_more eq c.laws_of.ensures.keys v p k n.0 _ _ _ _ _ _ n.1 a n.3, has_more n.0 (a.asker, a.came) (k, ends_so p) n.4);
         tasked = λ h. tasked_end eq c.laws_of.ensures.keys v a.asker a.held a.came _ _ _ _ a.ends.tells.ends (c.askers.invariant.tasked h);
         kept = λ w owed work. asker_ended eq c.laws_of.ensures.keys m c.laws_of.ensures.lawful v p w owed _ _ _ _ a (c.askers.invariant.kept w owed work);
       }

@@ -1,6 +1,5 @@
 use Rattle.std.proofs.Common.{◌≡◌, ◌⊎◌, ◌+◌, ◌*◌, ℕ, false, List, [], length}
 use Rattle.std.specs.Arc.{arc_value}
-use Rattle.dice_model.specs.Log.{Has}
 use Rattle.task_share.specs.Asked.{Tasked}
 use Rattle.task_share.specs.Seen.{asks}
 use Rattle.core_laws.specs.Tasks.{Outcome}
@@ -8,6 +7,7 @@ use Rattle.core_laws.specs.Desk.{World}
 use Rattle.dice_tasks.specs.Hands.{Working}
 use Rattle.dice_tasks.specs.Endings.{Telling, EndsTasks, AreTasked, path_of, ends_so}
 use Rattle.dice_tasks.proofs.end.end_all.Given as goal
+use Rattle.lists.specs.Lists.{Has}
 
 -- these tasks have ended, and those on the list are among them; nobody asks for one that is not on the list; whatever held before, the telling goes on
 abbrev pub invariant-askers : goal.invariant-askers

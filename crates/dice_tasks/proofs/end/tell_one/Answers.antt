@@ -1,11 +1,11 @@
 use Rattle.std.proofs.Common.{◌≡◌, inl, inr, sym, subst, ◌∙◌, ap}
 use Rattle.std.specs.Arc.{arc_value}
-use Rattle.dice_model.specs.Log.{Has}
-use Rattle.core_laws.proofs.Counts.{has_last}
 use Rattle.dice_tasks.specs.Hands.{DeskSeen, with_told_next}
 use Rattle.dice_tasks.specs.Endings.{told_end}
 use Rattle.dice_tasks.proofs.EndedLemmas.{knows_still, lists_from, last_same}
 use Rattle.dice_tasks.proofs.end.tell_one.Goals as goal
+use Rattle.lists.proofs.Members.{has_end}
+use Rattle.lists.specs.Lists.{Has}
 
 pub end_one-requires-clause-known : goal.end_one-requires-clause-known
 end_one-requires-clause-known g c l o =
@@ -17,7 +17,7 @@ returns-in-Some-take_asker-clause-some g c t =
     let k = c.in-Some.ensures.some in
     inl (record {
       key = arc_value c.in-Some.last.now;
-      listed = subst (λ xs. Has xs (arc_value c.in-Some.last.now)) (sym k.1) (has_last k.0 (arc_value c.in-Some.last.now));
+      listed = subst (λ xs. Has xs (arc_value c.in-Some.last.now)) (sym k.1) (has_end k.0 (arc_value c.in-Some.last.now));
       asker = arc_value c.in-Some-take_asker.asker;
       asks = c.in-Some-take_asker.ensures.asked;
       held = x.0;

@@ -1,11 +1,11 @@
 use Rattle.std.proofs.Common.{◌≡◌, ◌+◌, arith, ap, ◌∙◌, length, map}
 use Rattle.std.proofs.lemmas.List.{length_push}
 use Rattle.std.proofs.lemmas.List.Edits.{length-swap}
-use Rattle.dice_model.specs.Log.{AreDistinct}
 use Rattle.dice_tasks.specs.Shelves.{place_of}
 use Rattle.dice_tasks.proofs.Laid.{ready_eq, same_place, one_place, inserted, put_in_is}
 use Rattle.dice_tasks.proofs.Parts.{distinct_places}
 use Rattle.dice_tasks.proofs.shelf.put_in.Goals as goal
+use Rattle.lists.specs.Lists.{AreDistinct}
 
 pub swap_indices-requires-clause-a_in_bounds : goal.swap_indices-requires-clause-a_in_bounds
 swap_indices-requires-clause-a_in_bounds g c =

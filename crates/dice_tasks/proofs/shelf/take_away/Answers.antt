@@ -1,11 +1,11 @@
 use Rattle.std.proofs.Common.{ℕ, ◌≡◌, arith, ◌∙◌, Some, map}
 use Rattle.std.specs.Arc.{arc_value}
 use Rattle.std.specs.List.{swap_remove}
-use Rattle.dice_model.specs.Log.{AreDistinct}
 use Rattle.dice_tasks.specs.Shelves.{place_of}
 use Rattle.dice_tasks.proofs.Laid.{ready_eq, same_place, found_after, take_away_is, one_fewer, at_some, in_second}
 use Rattle.dice_tasks.proofs.Parts.{distinct_places}
 use Rattle.dice_tasks.proofs.shelf.take_away.Goals as goal
+use Rattle.lists.specs.Lists.{AreDistinct}
 
 pub returns-in-Some : goal.returns-in-Some
 returns-in-Some g c =

@@ -3,11 +3,11 @@ use Rattle.std.specs.Arc.{arc_value}
 use Rattle.std.specs.List.{swap_remove}
 use Rattle.std.proofs.lemmas.Option.{slice_get-get_or}
 use Rattle.std.proofs.lemmas.List.Edits.{length-swap}
-use Rattle.dice_model.specs.Log.{AreDistinct}
 use Rattle.dice_tasks.specs.Shelves.{place_of}
 use Rattle.dice_tasks.proofs.Laid.{ready_eq, same_place, found_before, take_out_is, one_fewer, at_some, in_first}
 use Rattle.dice_tasks.proofs.Parts.{distinct_places}
 use Rattle.dice_tasks.proofs.shelf.take_out.Goals as goal
+use Rattle.lists.specs.Lists.{AreDistinct}
 
 pub swap_indices-requires-clause-a_in_bounds : goal.swap_indices-requires-clause-a_in_bounds
 swap_indices-requires-clause-a_in_bounds g c =

@@ -1,7 +1,8 @@
 use Rattle.std.proofs.Common.{◌++◌, refl, subst, ap, ◌∙◌, arith}
 use Rattle.std.specs.Prelude.{IsSome, option_to_list}
-use Rattle.dice_tasks.proofs.ParkLemmas.{room_more, asks_more, asks_none, fits_asker, fits_wait, none_left}
+use Rattle.dice_tasks.proofs.ParkLemmas.{room_more, asks_more, asks_none, fits_asker, fits_wait}
 use Rattle.dice_tasks.proofs.wait.add_waits.Goals as goal
+use Rattle.lists.proofs.Members.{none_left}
 
 pub each-init : goal.each-init
 each-init g c = record { room = c.requires; tasks = record { tasks = λ q. refl; live = λ q. refl; count = refl }; asked = λ q a. refl }

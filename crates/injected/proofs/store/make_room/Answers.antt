@@ -5,10 +5,7 @@ use Rattle.std.specs.Map.{lookup}
 use Rattle.injected.specs.Seen.{named, sets_in}
 use Rattle.injected.proofs.Maps.{writes_at, writes_as, cell_is, sets_unknown, some_known}
 use Rattle.injected.proofs.store.make_room.Goals as goal
-
-none_of : {X : Type 0} (o : Option X) → is_some o ≡ false → o ≡ None
-none_of None e = refl
-none_of (Some x) e = cc
+use Rattle.lists.proofs.Options.{is_missing}
 
 some_of : {X : Type 0} (o : Option X) → is_some o ≡ true → IsSome o
 some_of None e = cc
@@ -28,7 +25,7 @@ returns-clause-ok g c =
     let es = c.args.histories.now.entries in
     let fs = c.insert.new.self.entries in
     let f = c.in_ok-history.history in
-    let none : lookup (λ y. eq k (arc_value y)) es ≡ None = none_of (lookup (λ y. eq k (arc_value y)) es) (sym c.contains_key.ensures ∙ c.if-contains_key.false) in
+    let none : lookup (λ y. eq k (arc_value y)) es ≡ None = is_missing (lookup (λ y. eq k (arc_value y)) es) (sym c.contains_key.ensures ∙ c.if-contains_key.false) in
     let sets : f.sets ≡ sets_in (lookup (eq k) (map named es)) = c.in_ok-history.ensures.sets ∙ sym (sets_unknown eq k es none) in (
       f.room,
       c.in_ok-history.ensures.room,

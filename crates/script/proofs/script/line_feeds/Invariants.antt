@@ -1,6 +1,6 @@
 use Rattle.std.proofs.Common.{◌≡◌, ◌≤◌, ◌+◌, drop}
-use Rattle.script.specs.Lines.{line_feeds}
 use Rattle.script.proofs.script.line_feeds.Given as goal
+use Rattle.lists.specs.Lines.{line_feeds}
 
 abbrev pub invariant-loop-byte : goal.invariant-loop-byte
 invariant-loop-byte l = record {

@@ -4,9 +4,9 @@ use Rattle.std.specs.Vec.Iter.{into_iter_items}
 use Rattle.target_file.specs.declared.call.Call.{Call}
 use Rattle.target_file.specs.Files.{IsFine}
 use Rattle.target_file.specs.Seen.{call_of}
-use Rattle.target_file.proofs.Meaning.{nothing_left}
 use Rattle.target_file.proofs.Finding.{pushed, all_done}
 use Rattle.target_file.proofs.locating.located_all.Goals as goal
+use Rattle.std.proofs.lemmas.List.{nil_from_length}
 
 pub locate-requires : goal.locate-requires
 locate-requires c =
@@ -29,5 +29,5 @@ loop-call-preserved c =
 pub returns : goal.returns
 returns c =
     let at = c.loop-call in
-    let empty : into_iter_items at.call-iterator ≡ [] = nothing_left _ (sym at.invariant.count ∙ c.in-None.ensures.steps.0) in
+    let empty : into_iter_items at.call-iterator ≡ [] = nil_from_length _ (sym at.invariant.count ∙ c.in-None.ensures.steps.0) in
     all_done at.targets.items (into_iter_items at.call-iterator) _ c.args.calls.items at.invariant.so_far empty c.into_iter-call-iterator.ensures.into_iter_gives.0

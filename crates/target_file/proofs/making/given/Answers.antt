@@ -1,9 +1,9 @@
 use Rattle.std.proofs.Common.{◌∙◌, sym, rules}
 use denote.Enum.Bare.{same_true, same_false}
 use Rattle.target_file.specs.contracts.table.Attribute.{the_type}
-use Rattle.target_file.proofs.Having.{drop_item}
 use Rattle.target_file.proofs.Gathering.{given_hit, given_miss}
 use Rattle.target_file.proofs.making.given.Goals as goal
+use Rattle.lists.proofs.Places.{drop_item}
 
 pub returns-then-eq : goal.returns-then-eq
 returns-then-eq c =

@@ -3,10 +3,10 @@ use Rattle.std.specs.Prelude.{IsSome}
 use Rattle.std.specs.Arc.{arc_value}
 use Rattle.std.specs.Vec.{vec_capacity}
 use Rattle.task_share.specs.Listed.{shares_of, IsListed}
-use Rattle.task_share.proofs.PlaceLemmas.{no_more}
 use Rattle.task_share.proofs.TurnLemmas.{kept_on}
 use Rattle.task_share.proofs.IdleLemmas.{none_idle, popped, popped_on, all_run}
 use Rattle.task_share.proofs.idle.pop_idle.Goals as goal
+use Rattle.lists.proofs.Members.{none_left}
 
 pub take_idle-requires-clause-runs : goal.take_idle-requires-clause-runs
 take_idle-requires-clause-runs g c = all_run g.K.PartialEq.eq (shares_of c.loop-key.places.entries) (map arc_value c.loop-key.candidates.items) (vec_capacity c.loop-key.candidates) c.loop-key.invariant.listed
@@ -33,5 +33,5 @@ loop-key-preserved g c =
 pub returns-clause-none : goal.returns-clause-none
 returns-clause-none g c =
     let eq = g.K.PartialEq.eq in
-    let empty = ap (map arc_value) (no_more c.loop-key.candidates.items (λ lt. let z = subst IsSome c.in_default.is (c.pop.ensures.variant.1 (omega arith)) in cc)) in
+    let empty = ap (map arc_value) (none_left c.loop-key.candidates.items (λ lt. let z = subst IsSome c.in_default.is (c.pop.ensures.variant.1 (omega arith)) in cc)) in
     (c.loop-key.invariant.kept, none_idle eq c.requires.equality (shares_of c.loop-key.places.entries) (vec_capacity c.loop-key.candidates) (subst (λ cs. IsListed eq (shares_of c.loop-key.places.entries) cs (vec_capacity c.loop-key.candidates)) empty c.loop-key.invariant.listed))

@@ -2,9 +2,9 @@ use Rattle.std.proofs.Common.{map, ap, subst}
 use Rattle.std.specs.Prelude.{IsSome}
 use Rattle.std.specs.Arc.{arc_value}
 use Rattle.task_share.specs.Listed.{shares_of, Withdrawing}
-use Rattle.task_share.proofs.PlaceLemmas.{no_more}
 use Rattle.task_share.proofs.IdleLemmas.{popped, withdrawing_none, withdrawing_more, withdrawing_done}
 use Rattle.task_share.proofs.idle.withdraw.Goals as goal
+use Rattle.lists.proofs.Members.{none_left}
 
 pub loop-asked-init : goal.loop-asked-init
 loop-asked-init g c = record { listed = c.requires.listed; gone = withdrawing_none g.K.PartialEq.eq c.requires.equality (arc_value c.args.key.now) (map arc_value c.args.waits.keys) (shares_of c.args.places.now.entries) }
@@ -19,6 +19,6 @@ loop-asked-preserved g c = record {
 pub returns-clause-withdrawn : goal.returns-clause-withdrawn
 returns-clause-withdrawn g c =
     let eq = g.K.PartialEq.eq in
-    let empty = ap (map arc_value) (no_more c.loop-asked.rest.keys (λ lt. let z = subst IsSome c.in_default.is (c.pop.ensures.found.1 lt) in cc)) in
+    let empty = ap (map arc_value) (none_left c.loop-asked.rest.keys (λ lt. let z = subst IsSome c.in_default.is (c.pop.ensures.found.1 lt) in cc)) in
     withdrawing_done eq c.requires.equality (arc_value c.args.key.now) (map arc_value c.args.waits.keys) (shares_of c.args.places.now.entries) (shares_of c.loop-asked.places.entries)
     (subst (λ rest. Withdrawing eq (arc_value c.args.key.now) (map arc_value c.args.waits.keys) rest (shares_of c.args.places.now.entries) (shares_of c.loop-asked.places.entries)) empty c.loop-asked.invariant.gone)

@@ -10,8 +10,9 @@ use Rattle.task_share.specs.Asked.{Tasked}
 use Rattle.task_share.specs.Seen.{Share, has_by, is_for}
 use Rattle.task_share.specs.Listed.{share_of, shares_of, IsListed}
 use Rattle.task_share.specs.declared.place.Place.{Place}
-use Rattle.task_share.proofs.PlaceLemmas.{lookup_shares, popped_fewer, fewer_by_one, fewer_count, same_asks, if_some, if_none, any_last, no_more, IsWritten, changed_none, changed_written, written_listed, has_room, left_task, list_any_values}
+use Rattle.task_share.proofs.PlaceLemmas.{lookup_shares, popped_fewer, fewer_by_one, fewer_count, same_asks, if_some, if_none, any_last, IsWritten, changed_none, changed_written, written_listed, has_room, left_task, list_any_values}
 use Rattle.task_share.proofs.places.pop_asker.Goals as goal
+use Rattle.lists.proofs.Members.{none_left}
 
 pub returns-in_default-clause-none : goal.returns-in_default-clause-none
 returns-in_default-clause-none g c =
@@ -84,7 +85,7 @@ returns-clause-none g c =
     let mid : Place g.row.K.Denot g.row.T.Denot = record { task = h.task; live = h.live; promises = h.promises; askers = c.pop-asker.new.self; waits = h.waits; name = h.name } in
     let found = lookup_shares (eq (arc_value key)) c.args.places.now.entries ∙ ap (option_map share_of) known in
     if_none c.pop-asker.result (λ e.
-    let empty : h.askers.keys ≡ [] = no_more h.askers.keys (λ lt. let z = subst IsSome e (c.pop-asker.ensures.found.1 lt) in cc) in
+    let empty : h.askers.keys ≡ [] = none_left h.askers.keys (λ lt. let z = subst IsSome e (c.pop-asker.ensures.found.1 lt) in cc) in
     let same : mid.askers.keys ≡ h.askers.keys = sym (append-nil mid.askers.keys) ∙ sym (c.pop-asker.ensures.keys ∙ ap (λ r. mid.askers.keys ++ option_to_list r) e) in (
       λ j. ap (is_for (λ (p : Share g.row.K.Denot g.row.T.Denot). has_by eq p (Tasked j))) found ∙ ap (λ ks. list_any (eq j) (map arc_value ks)) empty,
       changed_written eq c.requires.equality key c.args.places.now.entries (c.get_mut.follows.lender w).entries h w _ i

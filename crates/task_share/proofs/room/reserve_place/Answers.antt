@@ -8,8 +8,9 @@ use Rattle.task_share.specs.Listed.{share_of, entry_of, shares_of, IsVacant, IsK
 use Rattle.task_share.proofs.PlaceLemmas.{lookup_shares}
 use Rattle.std.proofs.lemmas.List.{length-map}
 use Rattle.task_share.proofs.TurnLemmas.{kept_itself}
-use Rattle.task_share.proofs.IdleLemmas.{room_grown, vacant_placed, vacant_listed, vacant_kept, put_at, put_more, put_count, put_live, still_some, is_missing, at_none}
+use Rattle.task_share.proofs.IdleLemmas.{room_grown, vacant_placed, vacant_listed, vacant_kept, put_at, put_more, put_count, put_live, still_some, at_none}
 use Rattle.task_share.proofs.room.reserve_place.Goals as goal
+use Rattle.lists.proofs.Options.{is_missing}
 
 pub returns-then-contains_key-clause-kept : goal.returns-then-contains_key-clause-kept
 returns-then-contains_key-clause-kept g c = kept_itself g.K.PartialEq.eq (shares_of c.args.places.now.entries)

@@ -2,8 +2,9 @@
 use Rattle.std.proofs.Common.{◌||◌, sym, ap, ◌∙◌}
 use Rattle.std.specs.Arc.{arc_value}
 use Rattle.std.specs.List.{list_any}
-use Rattle.versioned_graph.proofs.Sets.{added, moved}
+use Rattle.versioned_graph.proofs.Sets.{moved}
 use Rattle.versioned_graph.proofs.entry.united.Goals as goal
+use Rattle.dice_key.proofs.KeySets.{noted}
 
 pub loop-key-init : goal.loop-key-init
 loop-key-init g c = λ q.
@@ -14,7 +15,7 @@ pub loop-key-preserved : goal.loop-key-preserved
 loop-key-preserved g c = λ q.
     let eq = g.U.Key.PartialEq.eq in
     moved eq c.laws_of.ensures.keys (arc_value c.in-Some.key.now) q (list_any (λ a. eq q (arc_value a)) c.next.new.self) (list_any (λ a. eq q (arc_value a)) c.loop-key.united.keys) (list_any (λ a. eq q (arc_value a)) c.insert.new.self.keys)
-    (added eq c.in-Some.key.now c.in_ok-try_clone.field-0 c.loop-key.united.keys c.insert.new.self.keys c.in_ok-try_clone.ensures c.in_ok-insert.ensures.updates.0 q)
+    (noted eq c.in-Some.key.now c.in_ok-try_clone.field-0 c.loop-key.united.keys c.insert.new.self.keys c.in_ok-try_clone.ensures c.in_ok-insert.ensures.updates.0 q)
     ∙ (ap (λ ks. list_any (λ a. eq q (arc_value a)) ks || list_any (λ a. eq q (arc_value a)) c.loop-key.united.keys) (sym c.in-Some.ensures.steps) ∙ c.loop-key.invariant q)
 
 pub returns : goal.returns

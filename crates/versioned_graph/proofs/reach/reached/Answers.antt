@@ -1,12 +1,13 @@
 -- One key less to do.
 use Rattle.std.proofs.Common.{◌≡◌, [], ◌∷◌, ap, ◌∙◌, subst, map, length, length-append, arith, false, true}
-use Rattle.std.proofs.lemmas.List.{length-map, map-append}
+use Rattle.std.proofs.lemmas.List.{length-map, map-append, nil_from_length}
 use Rattle.std.specs.Arc.{arc_value}
 use Rattle.std.specs.List.{list_any}
 use Rattle.versioned_graph.specs.Users.{recorded_of}
-use Rattle.versioned_graph.proofs.Sets.{added}
-use Rattle.versioned_graph.proofs.Walk.{reach_begins, reach_more, reach_same, walk_ends, unseen_less, recorded_length, was_new, was_seen, is_empty_list}
+use Rattle.versioned_graph.proofs.Walk.{reach_begins, reach_more, reach_same, walk_ends, unseen_less, recorded_length}
 use Rattle.versioned_graph.proofs.reach.reached.Goals as goal
+use Rattle.dice_key.proofs.KeySets.{noted}
+use Rattle.lists.proofs.Options.{was_new, was_seen}
 
 pub loop-key-init : goal.loop-key-init
 loop-key-init g c =
@@ -22,7 +23,7 @@ loop-key-smaller-in_ok-push g c =
     let us = c.args.users.now in
     let seen = λ (q : g.row.U-Key.Denot). list_any (λ a. eq q (arc_value a)) c.loop-key.seen.keys in
     let later = λ (q : g.row.U-Key.Denot). list_any (λ a. eq q (arc_value a)) c.insert.new.self.keys in
-    let marks = added eq c.in-Some.key c.in_ok-try_clone.field-0 c.loop-key.seen.keys c.insert.new.self.keys c.in_ok-try_clone.ensures c.in_ok-insert.ensures.updates.0 in
+    let marks = noted eq c.in-Some.key c.in_ok-try_clone.field-0 c.loop-key.seen.keys c.insert.new.self.keys c.in_ok-try_clone.ensures c.in_ok-insert.ensures.updates.0 in
     let new : seen k ≡ false = subst (λ x. seen x ≡ false) c.in_ok-try_clone.ensures (was_new (seen (arc_value c.in_ok-try_clone.field-0)) _ c.in_ok-insert.ensures.added c.if-branch.true) in
     let u = unseen_less eq law seen later k marks us new in
     let r = recorded_length eq c.args.store.now us k in
@@ -39,7 +40,7 @@ loop-key-preserved-in_ok-push g c =
     let k = arc_value c.in-Some.key in
     let es = c.args.store.now in
     let us = c.args.users.now in
-    let marks = added eq c.in-Some.key c.in_ok-try_clone.field-0 c.loop-key.seen.keys c.insert.new.self.keys c.in_ok-try_clone.ensures c.in_ok-insert.ensures.updates.0 in
+    let marks = noted eq c.in-Some.key c.in_ok-try_clone.field-0 c.loop-key.seen.keys c.insert.new.self.keys c.in_ok-try_clone.ensures c.in_ok-insert.ensures.updates.0 in
     reach_more eq law es (map arc_value c.args.changed.now) us c.requires (λ q. list_any (λ a. eq q (arc_value a)) c.loop-key.seen.keys) (λ q. list_any (λ a. eq q (arc_value a)) c.insert.new.self.keys) (map arc_value c.loop-key.reached.items) (map arc_value c.loop-key.todo.items) (map arc_value c.pop.new.self.items) k c.loop-key.invariant
     (ap (map arc_value) c.in-Some.ensures.items ∙ map-append arc_value c.pop.new.self.items (c.in-Some.key ∷ [])) marks
     (map arc_value c.push.new.self.items) (map arc_value c.push_users.new.todo.items) (ap (map arc_value) c.in_ok-push.ensures.items ∙ map-append arc_value c.loop-key.reached.items (c.in-Some.key ∷ [])) c.in_ok-push_users.ensures
@@ -50,11 +51,11 @@ loop-key-preserved g c =
     let law = c.laws_of.ensures.keys in
     let k = arc_value c.in-Some.key in
     let seen = λ (q : g.row.U-Key.Denot). list_any (λ a. eq q (arc_value a)) c.loop-key.seen.keys in
-    let marks = added eq c.in-Some.key c.in_ok-try_clone.field-0 c.loop-key.seen.keys c.insert.new.self.keys c.in_ok-try_clone.ensures c.in_ok-insert.ensures.updates.0 in
+    let marks = noted eq c.in-Some.key c.in_ok-try_clone.field-0 c.loop-key.seen.keys c.insert.new.self.keys c.in_ok-try_clone.ensures c.in_ok-insert.ensures.updates.0 in
     let old : seen k ≡ true = subst (λ x. seen x ≡ true) c.in_ok-try_clone.ensures (was_seen (seen (arc_value c.in_ok-try_clone.field-0)) _ c.in_ok-insert.ensures.added c.if-branch.false) in
     reach_same eq law c.args.store.now (map arc_value c.args.changed.now) (λ q. list_any (λ a. eq q (arc_value a)) c.loop-key.seen.keys) (λ q. list_any (λ a. eq q (arc_value a)) c.insert.new.self.keys) (map arc_value c.loop-key.reached.items) (map arc_value c.loop-key.todo.items) (map arc_value c.pop.new.self.items) k c.loop-key.invariant
     (ap (map arc_value) c.in-Some.ensures.items ∙ map-append arc_value c.pop.new.self.items (c.in-Some.key ∷ [])) marks old
 
 pub returns-clause-all : goal.returns-clause-all
 returns-clause-all g c = walk_ends g.U.Key.PartialEq.eq c.args.store.now (map arc_value c.args.changed.now) (map arc_value c.loop-key.reached.items) (map arc_value c.loop-key.todo.items) c.loop-key.invariant.walk
-    (ap (map arc_value) (is_empty_list c.loop-key.todo.items (let a = c.in_default.ensures.cases.0 in omega arith)))
+    (ap (map arc_value) (nil_from_length c.loop-key.todo.items (let a = c.in_default.ensures.cases.0 in omega arith)))

@@ -1,11 +1,11 @@
 use Rattle.std.proofs.Common.{◌≡◌, ◌↔◌, ◌++◌, IsTrue, List, None, map, subst}
-use Rattle.dice_model.specs.Log.{Has}
 use Rattle.journal.specs.declared.event.Told.TheVariants.{Lost, Drop}
 use Rattle.dice_core.specs.Cores.{CoreSeen, Turned, IsNameOut, GivesUpOnly, core_of, events_of}
 use Rattle.dice_tasks.specs.Endings.{IsJobNamed, GivesUpAll}
 use Rattle.dice_core.specs.Cores.{table_at}
 use Rattle.dice_core.proofs.PublicLemmas.{named_iff, lost_log, gives_up_only, home_now}
 use Rattle.dice_core.proofs.machine.Core.fail.Goals as goal
+use Rattle.lists.specs.Lists.{Has}
 
 pub invariant_of-self : goal.invariant_of-self
 invariant_of-self g c = c.fail_named.ensures.kept c.self.inside.graph c.self.inside.cells c.self.inside.sessions c.self.invariant

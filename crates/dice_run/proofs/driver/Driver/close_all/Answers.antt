@@ -1,9 +1,10 @@
 use Rattle.std.proofs.Common.{◌≡◌, ◌+◌, sym, subst, List, [], ◌∷◌, drop, rules}
 use Rattle.script.specs.declared.line.Line.{Line}
 use Rattle.dice_run.specs.Driven.{Closing}
-use Rattle.dice_run.proofs.Ending.{drop_item, drop_whole}
+use Rattle.dice_run.proofs.Ending.{drop_whole}
 use Rattle.dice_run.proofs.Closings.{closing_first}
 use Rattle.dice_run.proofs.driver.Driver.close_all.Goals as goal
+use Rattle.lists.proofs.Places.{drop_item}
 
 pub loop-line-init : goal.loop-line-init
 loop-line-init g c =

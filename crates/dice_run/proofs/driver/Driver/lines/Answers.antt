@@ -1,8 +1,9 @@
 use Rattle.std.proofs.Common.{◌≡◌, ◌+◌, sym, subst, List, [], ◌∷◌, drop, rules}
 use Rattle.script.specs.Past.{is_cancelled}
 use Rattle.script.specs.declared.line.Line.{Line}
-use Rattle.dice_run.proofs.Ending.{Going, going_first, going_more, going_ready, going_end, drop_item, drop_whole}
+use Rattle.dice_run.proofs.Ending.{Going, going_first, going_more, going_ready, going_end, drop_whole}
 use Rattle.dice_run.proofs.driver.Driver.lines.Goals as goal
+use Rattle.lists.proofs.Places.{drop_item}
 
 pub loop-line-init : goal.loop-line-init
 loop-line-init g c =

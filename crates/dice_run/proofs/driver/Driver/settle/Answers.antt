@@ -1,8 +1,9 @@
 use Rattle.std.proofs.Common.{◌≡◌, ◌+◌, sym, subst, List, [], ◌∷◌, drop, rules}
 use Rattle.script.specs.declared.line.Line.{Line}
 use Rattle.dice_run.specs.Driven.{Waiting}
-use Rattle.dice_run.proofs.Ending.{waiting_first, waiting_end, drop_item, drop_whole}
+use Rattle.dice_run.proofs.Ending.{waiting_first, waiting_end, drop_whole}
 use Rattle.dice_run.proofs.driver.Driver.settle.Goals as goal
+use Rattle.lists.proofs.Places.{drop_item}
 
 pub loop-line-init : goal.loop-line-init
 loop-line-init g c =

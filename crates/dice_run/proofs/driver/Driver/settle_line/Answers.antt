@@ -4,8 +4,9 @@ use Rattle.script.specs.declared.line.Line.TheVariants.{Put, Drop, Commit, Open,
 use Rattle.script.specs.Past.{is_cancelled}
 use Rattle.script.specs.Plan.{Digest, Text, wanted}
 use Rattle.dice_run.specs.Driven.{Waiting}
-use Rattle.dice_run.proofs.Ending.{waiting_past, waiting_more, asked_now, settling_some, has_last}
+use Rattle.dice_run.proofs.Ending.{waiting_past, waiting_more, asked_now, settling_some}
 use Rattle.dice_run.proofs.driver.Driver.settle_line.Goals as goal
+use Rattle.lists.proofs.Members.{has_end}
 
 on_ok : {A E : Type 0} (r : Result A E) (P Q : Type 0) → (P → Q) → OnOk r P → OnOk r Q
 on_ok (Ok a) P Q f p = f p
@@ -18,7 +19,7 @@ settle_one-requires-after_bounds g c κs within =
     let rest = c.requires.0 in
     let w = subst (λ (l : Line). Waiting c.args.engine.now ls (l ∷ rest) c.args.self.now) c.in-Ask.is c.requires.1 in
     let r = wanted (is_cancelled ls) w.plan q (Digest q.label) in
-    record { past = w.past; settling = w.settling; request = r; made = asked_now c.args.engine.now ls rest (Ask q) c.args.self.now r w (has_last w.plan.requests r); named = refl }
+    record { past = w.past; settling = w.settling; request = r; made = asked_now c.args.engine.now ls rest (Ask q) c.args.self.now r w (has_end w.plan.requests r); named = refl }
 
 pub settle_one-requires-in-Action-after_bounds : goal.settle_one-requires-in-Action-after_bounds
 settle_one-requires-in-Action-after_bounds g c κs within =
@@ -27,7 +28,7 @@ settle_one-requires-in-Action-after_bounds g c κs within =
     let rest = c.requires.0 in
     let w = subst (λ (l : Line). Waiting c.args.engine.now ls (l ∷ rest) c.args.self.now) c.in-Action.is c.requires.1 in
     let r = wanted (is_cancelled ls) w.plan q (Text q.label) in
-    record { past = w.past; settling = w.settling; request = r; made = asked_now c.args.engine.now ls rest (Action q) c.args.self.now r w (has_last w.plan.requests r); named = refl }
+    record { past = w.past; settling = w.settling; request = r; made = asked_now c.args.engine.now ls rest (Action q) c.args.self.now r w (has_end w.plan.requests r); named = refl }
 
 pub returns-in-Ask-clause-settles : goal.returns-in-Ask-clause-settles
 returns-in-Ask-clause-settles g c = on_ok c.settle_one.result _ _ (λ f rest v.
@@ -36,7 +37,7 @@ returns-in-Ask-clause-settles g c = on_ok c.settle_one.result _ _ (λ f rest v.
     let w = subst (λ (l : Line). Waiting c.args.engine.now ls (l ∷ rest) c.args.self.now) c.in-Ask.is v in
     let r = wanted (is_cancelled ls) w.plan q (Digest q.label) in
     waiting_more c.args.engine.now ls rest (Ask q) q.name c.args.self.now c.settle_one.new.self w (λ n h. h)
-    (settling_some c.args.engine.now ls c.args.self.now w.past q.name w.settling r (asked_now c.args.engine.now ls rest (Ask q) c.args.self.now r w (has_last w.plan.requests r)) refl) f)
+    (settling_some c.args.engine.now ls c.args.self.now w.past q.name w.settling r (asked_now c.args.engine.now ls rest (Ask q) c.args.self.now r w (has_end w.plan.requests r)) refl) f)
     c.settle_one.ensures.settles
 
 pub returns-in-Action-clause-settles : goal.returns-in-Action-clause-settles
@@ -46,7 +47,7 @@ returns-in-Action-clause-settles g c = on_ok c.settle_one-in-Action.result _ _ (
     let w = subst (λ (l : Line). Waiting c.args.engine.now ls (l ∷ rest) c.args.self.now) c.in-Action.is v in
     let r = wanted (is_cancelled ls) w.plan q (Text q.label) in
     waiting_more c.args.engine.now ls rest (Action q) q.name c.args.self.now c.settle_one-in-Action.new.self w (λ n h. h)
-    (settling_some c.args.engine.now ls c.args.self.now w.past q.name w.settling r (asked_now c.args.engine.now ls rest (Action q) c.args.self.now r w (has_last w.plan.requests r)) refl) f)
+    (settling_some c.args.engine.now ls c.args.self.now w.past q.name w.settling r (asked_now c.args.engine.now ls rest (Action q) c.args.self.now r w (has_end w.plan.requests r)) refl) f)
     c.settle_one-in-Action.ensures.settles
 
 pub returns-in-Put-clause-settles : goal.returns-in-Put-clause-settles

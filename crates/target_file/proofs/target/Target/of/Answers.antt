@@ -2,11 +2,12 @@ use Rattle.std.proofs.Common.{ap, refl, subst, sym}
 use Rattle.target_file.specs.declared.table.Attribute.TheVariants.{Name}
 use Rattle.target_file.specs.Seen.{arguments_of}
 use Rattle.buck_label.specs.Paths.{IsPath}
-use Rattle.target_file.specs.Files.{Has, attributes}
+use Rattle.target_file.specs.Files.{attributes}
 use Rattle.target_file.specs.Targets.{IsSound}
 use Rattle.target_file.proofs.Meaning.{first_needed, sound}
 use Rattle.target_file.proofs.Gathering.{needed_path}
 use Rattle.target_file.proofs.target.Target.of.Goals as goal
+use Rattle.lists.specs.Lists.{Has}
 
 pub path_of-requires : goal.path_of-requires
 path_of-requires c =

@@ -5,10 +5,10 @@ use Rattle.std.specs.Option.{option_copied, option_map}
 use Rattle.task_share.specs.Asked.{Promised, Tasked}
 use Rattle.task_share.specs.Seen.{Share, is_for, has_by, asks}
 use Rattle.task_share.specs.Listed.{share_of}
-use Rattle.task_share.specs.Lists.{AreDistinct}
 use Rattle.task_share.proofs.PlaceLemmas.{lookup_shares}
 use Rattle.task_share.proofs.TableLemmas.{distinct_values, distinct_numbers}
 use Rattle.task_share.proofs.table.Table.askers.Goals as goal
+use Rattle.lists.specs.Lists.{AreDistinct}
 
 pub returns-in-Some-clause-promises : goal.returns-in-Some-clause-promises
 returns-in-Some-clause-promises g c = λ n.

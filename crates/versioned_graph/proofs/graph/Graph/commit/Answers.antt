@@ -1,13 +1,13 @@
 -- What a commit reaches is cut.
 use Rattle.std.proofs.Common.{[], cond, map, sym, ap, ◌∙◌, subst, List}
 use Rattle.std.specs.Arc.{arc_value}
-use Rattle.dice_model.specs.Log.{Has}
 use Rattle.versioned_graph.specs.Users.{users_of}
 use Rattle.versioned_graph.specs.Entries.{Stored}
 use Rattle.versioned_graph.specs.Edges.{IsCut}
 use Rattle.versioned_graph.specs.Sound.{AreTrue}
 use Rattle.versioned_graph.proofs.CutLemmas.{is_cut, cut_stands, still_indexed}
 use Rattle.versioned_graph.proofs.graph.Graph.commit.Goals as goal
+use Rattle.lists.specs.Lists.{Has}
 
 pub returns-clause-cut : goal.returns-clause-cut
 returns-clause-cut g c =

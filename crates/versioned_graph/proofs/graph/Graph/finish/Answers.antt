@@ -5,13 +5,13 @@ use Rattle.version_ranges.specs.Members.{contains, is_open}
 use Rattle.versioned_graph.specs.Entries.{Stored, entry_at, marked, finished, goes_in, written}
 use Rattle.versioned_graph.specs.Edges.{Records, is_edge, is_asked}
 use Rattle.std.specs.List.{list_any}
-use Rattle.dice_model.specs.Log.{Has}
 use Rattle.versioned_graph.specs.Users.{users_of}
-use Rattle.versioned_graph.proofs.Bools.{and_both, or_either}
 use Rattle.versioned_graph.proofs.Sets.{any_map}
 use Rattle.versioned_graph.proofs.FinishLemmas.{made, finish_true, others_tailed}
 use Rattle.versioned_graph.proofs.Holding.{true_with}
 use Rattle.versioned_graph.proofs.graph.Graph.finish.Goals as goal
+use Rattle.lists.specs.Lists.{Has}
+use Rattle.std.proofs.lemmas.Bool.{and_parts, or_cases}
 
 pub returns-clause-ok : goal.returns-clause-ok
 returns-clause-ok g c =
@@ -69,10 +69,10 @@ pub invariant_of-self-2 : goal.invariant_of-self-2
 invariant_of-self-2 g c = λ j q e.
     let eq = g.U.Key.PartialEq.eq in
     let k = arc_value c.args.key in
-    elim (or_either (is_edge eq c.self.inside.store j q) _ (sym (c.in_ok-put.ensures.edges j q) ∙ e)) as (λ _. Has (users_of eq c.link_open.new.users j) q) [
+    elim (or_cases (is_edge eq c.self.inside.store j q) _ (sym (c.in_ok-put.ensures.edges j q) ∙ e)) as (λ _. Has (users_of eq c.link_open.new.users j) q) [
       | inl h ↦ c.in_ok-deps.ensures.stay j q (c.self.invariant j q h)
       | inr h ↦ (
-          let b = and_both (eq k q) _ h in
-          let d = and_both _ (list_any (eq j) (map arc_value c.in_ok-deps.deps.keys)) b.1 in
+          let b = and_parts (eq k q) _ h in
+          let d = and_parts _ (list_any (eq j) (map arc_value c.in_ok-deps.deps.keys)) b.1 in
           subst (Has (users_of eq c.link_open.new.users j)) (c.laws_of.ensures.keys.same k q b.0) (c.in_ok-deps.ensures.there j (sym (any_map eq j c.in_ok-deps.deps.keys) ∙ d.1)))
     ]

@@ -1,13 +1,13 @@
--- A key is added to one set.
+-- A key is noted to one set.
 use Rattle.std.proofs.Common.{◌≡◌, map, ap, sym, ◌∙◌, Some, None, subst, refl, IsSome}
 use Rattle.std.specs.Arc.{arc_value}
 use Rattle.std.specs.Map.{lookup}
 use Rattle.std.specs.Option.{option_copied_mut}
-use Rattle.dice_model.specs.Log.{Has}
 use Rattle.versioned_graph.specs.Users.{set_of, users_of}
-use Rattle.versioned_graph.proofs.Sets.{added}
 use Rattle.versioned_graph.proofs.UsersLemmas.{set-more, set-has, still_in, now_in}
 use Rattle.versioned_graph.proofs.users.Users.add.Goals as goal
+use Rattle.dice_key.proofs.KeySets.{noted}
+use Rattle.lists.specs.Lists.{Has}
 
 pub returns-in_err-try_clone-clause-stay : goal.returns-in_err-try_clone-clause-stay
 returns-in_err-try_clone-clause-stay g c = λ j q h.
@@ -42,7 +42,7 @@ returns-in-Some-clause-ok g c =
     let known : lookup (λ y. eq k (arc_value y)) us ≡ Some l = sym c.get_mut.ensures.value ∙ ap option_copied_mut c.in-Some.is in
     let some : IsSome (lookup (λ y. eq k (arc_value y)) us) = subst IsSome (sym known) refl in
     set-has eq c.laws_of.ensures.keys k c.args.key.now us (c.get_mut.follows.lender f).entries (Some f) (((c.get_mut.follows.holds f).3 some).0) (arc_value c.args.user.now)
-    (now_in eq c.laws_of.ensures.keys l.keys f.keys (arc_value c.args.user.now) (added eq c.args.user.now c.in_ok-try_clone.field-0 l.keys f.keys c.in_ok-try_clone.ensures c.in_ok-insert.ensures.updates.0))
+    (now_in eq c.laws_of.ensures.keys l.keys f.keys (arc_value c.args.user.now) (noted eq c.args.user.now c.in_ok-try_clone.field-0 l.keys f.keys c.in_ok-try_clone.ensures c.in_ok-insert.ensures.updates.0))
 
 pub returns-in-Some-clause-stay : goal.returns-in-Some-clause-stay
 returns-in-Some-clause-stay g c = λ j q h.
@@ -54,7 +54,7 @@ returns-in-Some-clause-stay g c = λ j q h.
     let known : lookup (λ y. eq k (arc_value y)) us ≡ Some l = sym c.get_mut.ensures.value ∙ ap option_copied_mut c.in-Some.is in
     let some : IsSome (lookup (λ y. eq k (arc_value y)) us) = subst IsSome (sym known) refl in
     set-more eq c.laws_of.ensures.keys.same k c.args.key.now us (c.get_mut.follows.lender f).entries (Some l) (Some f) known (((c.get_mut.follows.holds f).3 some).0)
-    (λ x i. still_in eq c.laws_of.ensures.keys l.keys f.keys (arc_value c.args.user.now) (added eq c.args.user.now c.in_ok-try_clone.field-0 l.keys f.keys c.in_ok-try_clone.ensures c.in_ok-insert.ensures.updates.0) x i) j q
+    (λ x i. still_in eq c.laws_of.ensures.keys l.keys f.keys (arc_value c.args.user.now) (noted eq c.args.user.now c.in_ok-try_clone.field-0 l.keys f.keys c.in_ok-try_clone.ensures c.in_ok-insert.ensures.updates.0) x i) j q
     (subst (λ ls. Has (users_of eq ls j) q) (sym c.self.view_is) h)
 
 pub returns-clause-ok : goal.returns-clause-ok
@@ -65,7 +65,7 @@ returns-clause-ok g c =
     let f = c.insert-2.new.self in
     subst (λ n. Has (users_of eq (map set_of c.insert-3.new.self.entries) n) (arc_value c.args.user.now)) c.in_ok-try_clone-3.ensures
     (set-has eq c.laws_of.ensures.keys k c.in_ok-try_clone-3.field-0 us c.insert-3.new.self.entries (Some f) c.in_ok-insert-3.ensures.updates.0 (arc_value c.args.user.now)
-    (now_in eq c.laws_of.ensures.keys c.new-set.result.keys f.keys (arc_value c.args.user.now) (added eq c.args.user.now c.in_ok-try_clone-2.field-0 c.new-set.result.keys f.keys c.in_ok-try_clone-2.ensures c.in_ok-insert-2.ensures.updates.0)))
+    (now_in eq c.laws_of.ensures.keys c.new-set.result.keys f.keys (arc_value c.args.user.now) (noted eq c.args.user.now c.in_ok-try_clone-2.field-0 c.new-set.result.keys f.keys c.in_ok-try_clone-2.ensures c.in_ok-insert-2.ensures.updates.0)))
 
 pub returns-clause-stay : goal.returns-clause-stay
 returns-clause-stay g c = λ j q h.

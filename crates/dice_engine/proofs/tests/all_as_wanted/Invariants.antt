@@ -1,5 +1,0 @@
-use Rattle.turnstile.specs.Seats.{IsSeatOf, IsWriter}
-use Rattle.dice_engine.proofs.tests.all_as_wanted.Given as goal
-
-abbrev pub invariant-loop-changes : goal.invariant-loop-changes
-invariant-loop-changes g l = IsSeatOf l.engine l.seat × IsWriter l.seat

@@ -1,0 +1,19 @@
+//! Tests of the crates that stand lowest: keys, the example universe, evaluation, versions, cells and recordings, through public calls.
+#![tactic(auto)]
+
+#[cfg(test)]
+mod batches;
+#[cfg(test)]
+mod cells;
+#[cfg(test)]
+mod common;
+#[cfg(test)]
+mod epochs;
+#[cfg(test)]
+mod evaluation;
+#[cfg(test)]
+mod ranges;
+#[cfg(test)]
+mod recordings;
+#[cfg(test)]
+mod tiny;
