@@ -1,9 +1,9 @@
 -- The machine reads exactly the paths.
-use Rattle.std.proofs.Common.{◌≡◌, ◌≢◌, ◌⊎◌, ◌∙◌, sym, ap, refl, subst, inl, inr, ℕ, Bool, true, false, cond, List, [], ◌∷◌, ◌++◌, append_assoc, append-nil, if◌then◌else◌, nat_eq, codes}
+use Rattle.std.proofs.Common.{◌≡◌, ◌≢◌, ◌≤◌, ◌⊎◌, ◌∙◌, sym, ap, refl, subst, inl, inr, ℕ, Bool, true, false, cond, List, [], ◌∷◌, ◌++◌, length, append_assoc, append-nil, if◌then◌else◌, nat_eq, codes}
 use Rattle.std.specs.List.{AllByRecursion}
 use Rattle.buck_label.specs.declared.path.Segment.{Segment}
 use Rattle.buck_label.specs.declared.path.Segment.TheVariants.{Empty, Dot, Dots, Good, Bad}
-use Rattle.buck_label.specs.Paths.{is_segment_byte, IsSegmentByte, IsSegment, IsPathText, joined}
+use Rattle.buck_label.specs.Paths.{is_segment_byte, IsSegmentByte, IsSegment, IsPathText, IsPath, joined}
 use Rattle.buck_label.specs.Labels.{IsPackage}
 use Rattle.buck_label.specs.Machine.{after, in_segment, dotted, path_from, Stands}
 use borrow.Author.Tests.{eqb-true}
