@@ -1,7 +1,9 @@
 -- What a sink gained and a source gave, piece by piece.
-use Rattle.std.proofs.Common.{subst, ◌≤◌, ◌+◌, Some, None, refl, ◌≡◌, ◌-◌, ℕ, List, ◌++◌, length, take, drop, Option, sym, ap, ◌∙◌, append_assoc, arith}
+use Rattle.std.proofs.Common.{◌≤◌, ◌<◌, ◌+◌, Some, None, [], refl, ◌≡◌, ◌-◌, ℕ, List, ◌++◌, length, take, drop, Option, sym, ap, ◌∙◌, append_assoc, arith}
 use Rattle.std.proofs.lemmas.Grind.{common_steps}
 use Rattle.std.proofs.lemmas.Option.{none-some, same_Some}
+use Rattle.std.proofs.Math.Seq.{take-add}
+use Rattle.std.specs.Io.KnownBytes.{Consumes, IsAtEnd}
 use Rattle.dice_io.specs.Streams.{Reads, Takes, Gained}
 
 pub gained_more : {t u w : Option (List ℕ)} {bytes : List ℕ} {n : ℕ} (front : List ℕ) → Gained t u front → (h : Takes u w bytes n) → Gained t w (front ++ h.front)
@@ -37,32 +39,39 @@ takes_untold bytes n few = record {
   gained = λ after h. absurd (none-some _ h);
 }
 
--- n bytes behind what a buffer held, of a source that tells none
-pub reads_untold : (into into' : List ℕ) (most n : ℕ) → n ≤ most → take (length into) into' ≡ into → length into' ≡ length into + n → Reads None None into into' most n
-reads_untold into into' most n few same long = record {
-  got = drop (length into) into';
-  appended = let e : take (length into) into' ++ drop (length into) into' ≡ into' = grind (arith, common_steps) in sym e ∙ ap (λ xs. xs ++ drop (length into) into') same;
-  counted = grind (arith, common_steps);
-  few = few;
-  told = λ all h. absurd (none-some _ h);
-  ended = λ all h. absurd (none-some _ h);
-}
+-- what a reader that knows its bytes gave and has left is all that it had
+consumed : (left left' : Option (List ℕ)) (got all : List ℕ) → Consumes left left' got → left ≡ Some all → (rest : List ℕ) × (left' ≡ Some rest) × (all ≡ got ++ rest)
+consumed None left' got all c e = absurd (none-some _ e)
+consumed (Some xs) None got all c e = absurd c
+consumed (Some xs) (Some ys) got all c e = (ys, refl, sym (same_Some _ _ e) ∙ c)
 
--- a buffer that was made longer, then filled behind what it held, then cut behind the n bytes that were read
-pub reads_behind : (into grown filled into' : List ℕ) (most n : ℕ) → n ≤ most → take (length into) grown ≡ into → take (length into) filled ≡ take (length into) grown
-    → length into + n ≤ length filled → into' ≡ take (length into + n) filled → Reads None None into into' most n
-reads_behind into grown filled into' most n few kept same room cut = reads_untold into into' most n few
-    (ap (take (length into)) cut ∙ (let e : take (length into) (take (length into + n) filled) ≡ take (length into) filled = grind (arith, common_steps) in e ∙ (same ∙ kept)))
-    (ap length cut ∙ grind (arith, common_steps))
+at_end : (left' : Option (List ℕ)) (rest : List ℕ) → IsAtEnd left' → left' ≡ Some rest → rest ≡ []
+at_end None rest a e = absurd (none-some _ e)
+at_end (Some xs) rest a e = sym (same_Some _ _ e) ∙ a
+
+none_of_none : (got rest all : List ℕ) → length got ≡ 0 → rest ≡ [] → all ≡ got ++ rest → all ≡ []
+none_of_none got rest all g r e = grind (arith, common_steps)
+
+-- a buffer that was made longer, then filled from `start` on, where it had ended, then cut behind the n bytes that were read
+pub reads_from : (left left' : Option (List ℕ)) (into grown filled into' : List ℕ) (start most n : ℕ) → n ≤ most
+    → take start grown ≡ into → take start filled ≡ take start grown → start < length filled → start + n ≤ length filled
+    → Consumes left left' (take n (drop start filled)) × (n ≡ 0 → 0 < length (drop start filled) → IsAtEnd left') → into' ≡ take (start + n) filled → Reads left left' into into' most n
+reads_from left left' into grown filled into' start most n few kept same room fits moved cut =
+    let got : List ℕ = take n (drop start filled) in
+    let long : length got ≡ n = grind (arith, common_steps) in
+    record {
+      got = got;
+      appended = cut ∙ (take-add start n filled ∙ ap (λ xs. xs ++ got) (same ∙ kept));
+      counted = long;
+      few = few;
+      told = λ all e. consumed left left' got all moved.0 e;
+      ended = λ all e z.
+          let c = consumed left left' got all moved.0 e in
+          none_of_none got c.0 all (long ∙ z) (at_end left' c.0 (moved.1 z (grind (arith, common_steps))) c.1) c.2;
+    }
 
 pub grown_keeps : (into grown pad : List ℕ) (start n : ℕ) → start ≡ length into → grown ≡ take n into ++ pad → length into ≤ n → take start grown ≡ into
 grown_keeps into grown pad start n s e room =
     let whole : take n into ≡ into = grind (arith, common_steps) in
     let f : take (length into) (into ++ pad) ≡ into = grind (arith, common_steps) in
     ap (λ k. take k grown) s ∙ (ap (take (length into)) (e ∙ ap (λ xs. xs ++ pad) whole) ∙ f)
-
-pub reads_from : (into grown filled into' : List ℕ) (start most n : ℕ) → start ≡ length into → n ≤ most → take start grown ≡ into → take start filled ≡ take start grown
-    → start + n ≤ length filled → into' ≡ take (start + n) filled → Reads None None into into' most n
-reads_from into grown filled into' start most n e few =
-    let P : ℕ → Type 0 = λ s. take s grown ≡ into → take s filled ≡ take s grown → s + n ≤ length filled → into' ≡ take (s + n) filled → Reads None None into into' most n in
-    subst P (sym e) (reads_behind into grown filled into' most n few)

@@ -1,5 +1,9 @@
 -- What a source gives and a sink takes. Bytes are `Some` where they are told.
-use Rattle.std.specs.Prelude.{◌≡◌, ◌≤◌, ◌<◌, ◌⊎◌, ◌^◌, ◌-◌, ℕ, List, [], ◌++◌, length, Option, Some}
+use Rattle.std.specs.Prelude.{◌≡◌, ◌≤◌, ◌<◌, ◌⊎◌, ◌^◌, ◌+◌, ◌-◌, ℕ, min, List, [], ◌++◌, length, Option, Some}
+
+-- one more, up to the greatest number that a count can hold
+abbrev pub one_more : ℕ → ℕ
+one_more n = min (n + 1) (2 ^ 64 - 1)
 
 -- a count of faults rose: it is greater than before, or stands at the greatest number that it can hold
 abbrev pub Rose : ℕ → ℕ → Type 0

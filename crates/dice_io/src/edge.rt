@@ -1,6 +1,6 @@
 //! What a source and a sink promise.
 ghost use Rattle.std.specs.Prelude.{◌≡◌, ◌≤◌, ◌<◌, ℕ, List, length, Option, IfOk, OnOk, OnErr, IsErrOf, IsErr};
-ghost use Rattle.dice_io.specs.Streams.{Reads, Unread, Takes, Unchanged, Rose};
+ghost use Rattle.dice_io.specs.Streams.{Reads, Unread, Takes, Unchanged, one_more};
 
 use std::alloc::AllocError;
 use thiserror::Error;
@@ -43,8 +43,8 @@ pub struct Failed;
 
 /// Where bytes are read from.
 ///
-/// A source may tell which bytes are left; one that stands over a file or a pipe tells none. It counts its faults. The count
-/// never falls.
+/// A source may tell which bytes are left; one that stands over a file or a pipe tells none. It counts its faults: a call that
+/// answers `Failed` counts one, up to the greatest number that the count can hold, and no other call counts any.
 pub trait Source {
     /// The bytes that are left, where they are told.
     ghost left: { Self → Option (List ℕ) };
@@ -52,9 +52,9 @@ pub trait Source {
     /// How many faults there were.
     ghost faults: { Self → ℕ };
 
-    /// Reads at most `most` bytes, one or more, to the end of `into`, and says how many; 0 is the end of the input. A source
-    /// that tells its bytes before the call tells them after it. At an error nothing is appended and nothing is used up, and
-    /// `Failed` comes only where the count of faults rose.
+    /// Reads at most `most` bytes to the end of `into`, and says how many. A source that tells its bytes before the call tells
+    /// them after it, and answers 0 only where none are left. At an error nothing is appended, and of bytes that are told none
+    /// is used up.
     fn read(&mut self, into: &mut Vec<u8>, most: usize) -> Result<usize, ReadFail>
         requires { 1 ≤ most }
         ensures reads { IfOk result (λ n. Reads (left self.old) (left self.new) into.old.items into.new.items most n) }
@@ -62,13 +62,14 @@ pub trait Source {
         ensures unread { OnErr result (Unread (left self.old) (left self.new)) }
         ensures counted { faults self.old ≤ faults self.new }
         ensures steady { OnOk result (faults self.new ≡ faults self.old) }
-        ensures failed { IsErrOf result ReadFail.Failed → Rose (faults self.old) (faults self.new) };
+        ensures spared { IsErrOf result ReadFail.NoMemory → faults self.new ≡ faults self.old }
+        ensures failed { IsErrOf result ReadFail.Failed → faults self.new ≡ one_more (faults self.old) };
 }
 
 /// Where bytes are written to.
 ///
-/// A sink may tell which bytes it took; one that stands over a file or a pipe tells none. It counts its faults. The count
-/// never falls.
+/// A sink may tell which bytes it took; one that stands over a file or a pipe tells none. It counts its faults: a call that
+/// fails counts one, up to the greatest number that the count can hold, and no other call counts any.
 pub trait Sink {
     /// The bytes that were taken, where they are told.
     ghost taken: { Self → Option (List ℕ) };
@@ -77,12 +78,12 @@ pub trait Sink {
     ghost faults: { Self → ℕ };
 
     /// Takes some of the bytes from the front, and says how many; of a piece that is not empty at least one. A sink that tells
-    /// its bytes after the call told them before it. At an error nothing is taken, and the count of faults rose.
+    /// its bytes after the call told them before it. At an error a sink that tells its bytes took none.
     fn write(&mut self, bytes: &[u8]) -> Result<usize, Failed>
         ensures takes { IfOk result (λ n. Takes (taken self.old) (taken self.new) bytes.now n) }
         ensures some { IfOk result (λ n. 0 < length bytes.now → 0 < n) }
         ensures kept { OnErr result (Unchanged (taken self.old) (taken self.new)) }
         ensures counted { faults self.old ≤ faults self.new }
         ensures steady { OnOk result (faults self.new ≡ faults self.old) }
-        ensures failed { IsErr result → Rose (faults self.old) (faults self.new) };
+        ensures failed { IsErr result → faults self.new ≡ one_more (faults self.old) };
 }

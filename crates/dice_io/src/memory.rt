@@ -1,7 +1,7 @@
 //! A source and a sink in memory that move a few bytes a call and fail at chosen calls, for tests of what stands on them.
-ghost use Rattle.std.specs.Prelude.{◌≡◌, ◌≤◌, ◌<◌, ◌++◌, ◌-◌, ◌==◌, ◌&&◌, ◌||◌, ℕ, List, [], length, Option, Some, min, take, drop, true, IfOk, OnOk, OnErr, IsErrOf, IsErr, is_err, nat_lt, if◌then◌else◌};
-ghost use Rattle.dice_io.specs.Streams.{Reads, Unread, Takes, Unchanged, Rose};
-ghost use Rattle.dice_io.specs.Held.{Feed, Fill, is_among, one_more};
+ghost use Rattle.std.specs.Prelude.{◌≡◌, ◌≤◌, ◌<◌, ◌++◌, ◌-◌, ◌==◌, ◌&&◌, ◌||◌, ℕ, List, [], length, Option, Some, min, take, drop, true, IfOk, OnOk, OnErr, IsErrOf, IsErr, is_err, nat_lt};
+ghost use Rattle.dice_io.specs.Streams.{Reads, Unread, Takes, Unchanged, one_more};
+ghost use Rattle.dice_io.specs.Held.{Feed, Fill, is_among};
 
 use crate::edge::{Failed, NoMemory, ReadFail, Sink, Source};
 use crate::sure::SureSource;
@@ -65,13 +65,13 @@ impl Source for MemorySource {
         ensures unread { OnErr result (Unread (Some self.old.left) (Some self.new.left)) }
         ensures counted { self.old.faults ≤ self.new.faults }
         ensures steady { OnOk result (self.new.faults ≡ self.old.faults) }
-        ensures failed { IsErrOf result ReadFail.Failed → Rose self.old.faults self.new.faults }
+        ensures spared { IsErrOf result ReadFail.NoMemory → self.new.faults ≡ self.old.faults }
+        ensures failed { IsErrOf result ReadFail.Failed → self.new.faults ≡ one_more self.old.faults }
         // It fails exactly at the calls that it was given, and moves as much as it may.
         ensures chosen { is_among self.old.calls self.old.fails ≡ true → IsErrOf result ReadFail.Failed }
         ensures only { IsErrOf result ReadFail.Failed → is_among self.old.calls self.old.fails ≡ true }
         ensures most { IfOk result (λ n. n ≡ min (min most self.old.piece) (length self.old.left)) }
         ensures next { self.new.calls ≡ one_more self.old.calls }
-        ensures counts { self.new.faults ≡ (if is_among self.old.calls self.old.fails then one_more self.old.faults else self.old.faults) }
         ensures same { (self.new.piece ≡ self.old.piece) × (self.new.fails ≡ self.old.fails) }
     {
         let call = self.calls;
@@ -84,8 +84,8 @@ impl Source for MemorySource {
     }
 }
 
-/// Keeps what it takes, at most a piece a call, in room that is made ahead. The calls with chosen numbers fail, and each call
-/// with a byte for which no room is left.
+/// Keeps what it takes, at most a piece a call, in room that is made ahead. The calls with chosen numbers fail, and so does each
+/// call with a byte where no room is left.
 #[derive(Drop)]
 pub struct MemorySink {
     bytes: Vec<u8>,
@@ -156,12 +156,11 @@ impl Sink for MemorySink {
         ensures kept { OnErr result (Unchanged (Some self.old.taken) (Some self.new.taken)) }
         ensures counted { self.old.faults ≤ self.new.faults }
         ensures steady { OnOk result (self.new.faults ≡ self.old.faults) }
-        ensures failed { IsErr result → Rose self.old.faults self.new.faults }
+        ensures failed { IsErr result → self.new.faults ≡ one_more self.old.faults }
         // It fails exactly at the calls that it was given and where no room is left, and moves as much as it may.
         ensures chosen { is_err result ≡ (is_among self.old.calls self.old.fails || (nat_lt 0 (length bytes.now) && (length self.old.taken == self.old.room))) }
         ensures most { IfOk result (λ n. n ≡ min (min (length bytes.now) self.old.piece) (self.old.room - length self.old.taken)) }
         ensures next { self.new.calls ≡ one_more self.old.calls }
-        ensures counts { IsErr result → self.new.faults ≡ one_more self.old.faults }
         ensures same { (self.new.room ≡ self.old.room) × (self.new.piece ≡ self.old.piece) × (self.new.fails ≡ self.old.fails) }
     {
         let call = self.calls;

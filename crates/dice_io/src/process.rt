@@ -1,14 +1,15 @@
-//! Standard input and standard output. They tell no bytes: what the process reads and writes is trusted.
-ghost use Rattle.std.specs.Prelude.{◌≡◌, ◌≤◌, ◌<◌, ◌++◌, ◌+◌, take, List, length, None, IfOk, OnErr, IsErrOf, IsErr};
-ghost use Rattle.dice_io.specs.Streams.{Reads, Unread, Takes, Unchanged, Rose};
+//! Standard input and standard output. Those of the process tell no bytes: what it reads and writes is trusted.
+ghost use Rattle.std.specs.Prelude.{◌≡◌, ◌≤◌, ◌<◌, ◌++◌, ◌+◌, take, drop, List, length, None, IfOk, OnOk, OnErr, IsErrOf, IsErr};
+ghost use Rattle.std.specs.Io.KnownBytes.{ReadConsumes, WriteAppends};
+ghost use Rattle.dice_io.specs.Streams.{Reads, Unread, Takes, Unchanged, one_more};
 
 use crate::edge::{Failed, ReadFail, Sink, Source};
-use std::io::{self, Input, Print, Read};
+use std::io::{self, Input, Print, Printer, Read, Write};
 
 /// The most bytes of one read.
 const PIECE: usize = 65_536;
 
-/// Standard input.
+/// Standard input. It tells the bytes that its reader knows to be left; the reader of the process knows none.
 #[derive(Drop)]
 pub struct RealSource<R: Input> {
     reader: R::Reader,
@@ -28,7 +29,7 @@ impl<R: Input> RealSource<R> {
 }
 
 impl<R: Input> Source for RealSource<R> {
-    ghost left = { λ s. None };
+    ghost left = { λ s. R.Reader.remaining s.reader };
 
     ghost faults = { λ s. s.faults };
 
@@ -49,19 +50,20 @@ impl<R: Input> Source for RealSource<R> {
     }
 }
 
-// One read into what stands behind `start`.
+// One read into what stands behind `start`. Where the bytes that the reader has left are known, it loses those that were read.
 fn read_behind<R: Read>(reader: &mut R, bytes: &mut [u8], start: usize) -> io::Result<usize>
-    requires { start ≤ length bytes.old }
+    requires { start < length bytes.old }
     ensures few { IfOk result (λ n. start + n ≤ length bytes.old) }
     ensures front { take start bytes.new ≡ take start bytes.old }
+    ensures moved { ReadConsumes (R.remaining reader.old) (R.remaining reader.new) result (drop start bytes.new) }
 {
     reader.read(&mut bytes[start..])
 }
 
-/// Standard output.
+/// Standard output. It tells no bytes.
 #[derive(Drop)]
 pub struct RealSink<'a, P: Print> {
-    out: &'a P,
+    out: Printer<'a, P>,
     faults: u64,
 }
 
@@ -70,7 +72,10 @@ impl<'a, P: Print> RealSink<'a, P> {
     pub fn new(rt: &'a P) -> RealSink<'a, P>
         ensures { result.faults ≡ 0 }
     {
-        RealSink { out: rt, faults: 0 }
+        RealSink {
+            out: io::writer(rt),
+            faults: 0,
+        }
     }
 }
 
@@ -80,12 +85,25 @@ impl<P: Print> Sink for RealSink<'_, P> {
     ghost faults = { λ s. s.faults };
 
     fn write(&mut self, bytes: &[u8]) -> Result<usize, Failed> {
-        match self.out.write_some(bytes) {
-            Ok(n) if n > 0 || bytes.is_empty() => Ok(n),
-            _ => {
-                self.faults = self.faults.saturating_add(1);
-                Err(Failed)
-            }
+        write_once(&mut self.out, bytes, &mut self.faults)
+    }
+}
+
+// One write of bytes from the front, which counts its fault. Where the bytes that the writer holds are known, they gain those
+// that were written.
+fn write_once<W: Write>(out: &mut W, bytes: &[u8], faults: &mut u64) -> Result<usize, Failed>
+    ensures few { IfOk result (λ n. n ≤ length bytes.now) }
+    ensures some { IfOk result (λ n. 0 < length bytes.now → 0 < n) }
+    ensures moved { WriteAppends (W.contents out.old) (W.contents out.new) result bytes.now }
+    ensures counted { faults.old ≤ faults.new }
+    ensures steady { OnOk result (faults.new ≡ faults.old) }
+    ensures failed { IsErr result → faults.new ≡ one_more faults.old }
+{
+    match out.write(bytes) {
+        Ok(n) if n > 0 || bytes.is_empty() => Ok(n),
+        _ => {
+            *faults = faults.saturating_add(1);
+            Err(Failed)
         }
     }
 }

@@ -1,7 +1,7 @@
 //! A source and a sink in memory that never fail.
 ghost use Rattle.std.specs.Prelude.{◌≡◌, ◌≤◌, ◌<◌, ◌++◌, ◌+◌, ℕ, List, [], length, Option, Some, min, take, drop, true, false, IfOk, OnOk, OnErr, IsErrOf, IsErr, IsOk, if◌then◌else◌};
 ghost use Rattle.std.specs.Option.{option_copied};
-ghost use Rattle.dice_io.specs.Streams.{Reads, Unread, Takes, Unchanged, Rose};
+ghost use Rattle.dice_io.specs.Streams.{Reads, Unread, Takes, Unchanged, one_more};
 ghost use Rattle.dice_io.specs.Held.{Sure, told};
 
 use crate::edge::{Failed, NoMemory, ReadFail, Sink, Source};
@@ -46,7 +46,8 @@ impl Source for SureSource {
         ensures unread { OnErr result (Unread (Some self.old) (Some self.new)) }
         ensures counted { 0 ≤ 0 }
         ensures steady { OnOk result (◌≡◌ {A = ℕ} 0 0) }
-        ensures failed { IsErrOf result ReadFail.Failed → Rose 0 0 }
+        ensures spared { IsErrOf result ReadFail.NoMemory → ◌≡◌ {A = ℕ} 0 0 }
+        ensures failed { IsErrOf result ReadFail.Failed → 0 ≡ one_more 0 }
         ensures most { IfOk result (λ n. n ≡ min most (length self.old)) }
     {
         let n = most.min(self.bytes.len() - self.at);
@@ -112,7 +113,7 @@ impl Sink for SureSink {
         ensures kept { OnErr result (Unchanged (told self.old) (told self.new)) }
         ensures counted { 0 ≤ 0 }
         ensures steady { OnOk result (◌≡◌ {A = ℕ} 0 0) }
-        ensures failed { IsErr result → Rose 0 0 }
+        ensures failed { IsErr result → 0 ≡ one_more 0 }
         ensures ok { IsOk result }
         ensures fits { self.old.is_whole ≡ true → length self.old.bytes + length bytes.now ≤ self.old.room → self.new ≡ record self.old { bytes = self.old.bytes ++ bytes.now } }
         ensures beyond { self.old.room < length self.old.bytes + length bytes.now → self.new.is_whole ≡ false }

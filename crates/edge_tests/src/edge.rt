@@ -4,7 +4,7 @@ use dice_io::{
 };
 use std::test::Fail;
 
-const ROW: &[u8] = b"commit 1\nopen t 1\nr 1 action 82\n";
+pub(crate) const ROW: &[u8] = b"commit 1\nopen t 1\nr 1 action 82\n";
 
 fn row(rt: &HostRuntime) -> Result<Vec<u8>, Fail> {
     let mut bytes = Vec::new(rt.alloc());

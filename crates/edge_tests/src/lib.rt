@@ -4,4 +4,6 @@
 #[cfg(test)]
 mod edge;
 #[cfg(test)]
+mod streams;
+#[cfg(test)]
 mod words;
