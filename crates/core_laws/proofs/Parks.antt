@@ -4,8 +4,7 @@ use Rattle.std.proofs.lemmas.Option.{same_Some, none-some}
 use Rattle.dice_key.specs.Meaning.{Meaning, Answered, Asks}
 use Rattle.dice_key.specs.Lawful.{IsLawful, IsEquality}
 use Rattle.dice_key.specs.declared.universe.Kind.TheVariants.{Injected}
-use Rattle.dice_model.specs.Eval.{HasValue}
-use Rattle.dice_model.specs.Asks.{AllTrue, Goes, AsksFor}
+use Rattle.dice_model.specs.Asks.{Goes, AsksFor}
 use Rattle.dice_model.proofs.Alike.{goes_alike}
 use Rattle.task_share.specs.Asked.{Promised, Tasked, Asked, Leads, stays, asks_on, HasNoCycle}
 use Rattle.journal.specs.declared.event.Told.{Told}
@@ -28,7 +27,6 @@ module _ {K V : Type 0} (eq : K → K → Bool) (m : Meaning K V) (C : List (Lis
   goes_first k before (a ∷ A) b later g =
       let r = goes_first k (before ++ a ∷ []) A b later g.2 in
       ((g.0, g.1, r.0), subst (λ B. m.next k B v ≡ Asks b.keys) (append_assoc before (a ∷ []) A) r.1)
-
 
 module _ {K V : Type 0} (eq : K → K → Bool) (equality : IsEquality eq) (m : Meaning K V) (law : IsLawful m) (R : List (Told K V)) (v : ℕ) where
   -- each key of the next batch, of a run or of a check, is one that the task's key asks
