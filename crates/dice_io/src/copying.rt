@@ -1,5 +1,5 @@
 //! Reads a whole input, and writes a whole output.
-ghost use Rattle.std.specs.Prelude.{◌≤◌, length, IfOk, OnOk, OnErr, IsErrOf, IsErr};
+ghost use Rattle.std.specs.Prelude.{◌≡◌, ◌≤◌, length, IfOk, OnOk, OnErr, IsErrOf, IsErr};
 ghost use Rattle.dice_io.specs.Streams.{ReadTo, ReadPart, Gained, GainedPart, Rose};
 
 use crate::edge::{Failed, ReadFail, Sink, Source};
@@ -17,6 +17,7 @@ pub fn read_all<S: Source>(alloc: Global, source: &mut S, limit: usize) -> Resul
     ensures few { IfOk result (λ bytes. length bytes.items ≤ limit) }
     ensures part { OnErr result (ReadPart (S.left source.old) (S.left source.new) limit) }
     ensures counted { S.faults source.old ≤ S.faults source.new }
+    ensures steady { OnOk result (S.faults source.new ≡ S.faults source.old) }
     ensures failed { IsErrOf result ReadFail.Failed → Rose (S.faults source.old) (S.faults source.new) }
 {
     let mut bytes = Vec::new(alloc);
@@ -36,6 +37,7 @@ pub fn write_all<K: Sink>(sink: &mut K, bytes: &[u8]) -> Result<(), Failed>
     ensures whole { OnOk result (Gained (K.taken sink.old) (K.taken sink.new) bytes.now) }
     ensures part { OnErr result (GainedPart (K.taken sink.old) (K.taken sink.new) bytes.now) }
     ensures counted { K.faults sink.old ≤ K.faults sink.new }
+    ensures steady { OnOk result (K.faults sink.new ≡ K.faults sink.old) }
     ensures failed { IsErr result → Rose (K.faults sink.old) (K.faults sink.new) }
 {
     let mut rest = bytes;

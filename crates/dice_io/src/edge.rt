@@ -1,5 +1,5 @@
 //! What a source and a sink promise.
-ghost use Rattle.std.specs.Prelude.{◌≡◌, ◌≤◌, ◌<◌, ℕ, List, length, Option, IfOk, OnErr, IsErrOf, IsErr};
+ghost use Rattle.std.specs.Prelude.{◌≡◌, ◌≤◌, ◌<◌, ℕ, List, length, Option, IfOk, OnOk, OnErr, IsErrOf, IsErr};
 ghost use Rattle.dice_io.specs.Streams.{Reads, Unread, Takes, Unchanged, Rose};
 
 use std::alloc::AllocError;
@@ -61,6 +61,7 @@ pub trait Source {
         ensures kept { OnErr result (into.new.items ≡ into.old.items) }
         ensures unread { OnErr result (Unread (left self.old) (left self.new)) }
         ensures counted { faults self.old ≤ faults self.new }
+        ensures steady { OnOk result (faults self.new ≡ faults self.old) }
         ensures failed { IsErrOf result ReadFail.Failed → Rose (faults self.old) (faults self.new) };
 }
 
@@ -82,5 +83,6 @@ pub trait Sink {
         ensures some { IfOk result (λ n. 0 < length bytes.now → 0 < n) }
         ensures kept { OnErr result (Unchanged (taken self.old) (taken self.new)) }
         ensures counted { faults self.old ≤ faults self.new }
+        ensures steady { OnOk result (faults self.new ≡ faults self.old) }
         ensures failed { IsErr result → Rose (faults self.old) (faults self.new) };
 }

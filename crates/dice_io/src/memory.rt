@@ -1,5 +1,5 @@
 //! A source and a sink in memory that move a few bytes a call and fail at chosen calls, for tests of what stands on them.
-ghost use Rattle.std.specs.Prelude.{◌≡◌, ◌≤◌, ◌<◌, ◌++◌, ◌-◌, ◌==◌, ◌&&◌, ◌||◌, ℕ, List, [], length, Option, Some, min, take, drop, true, IfOk, OnErr, IsErrOf, IsErr, is_err, nat_lt};
+ghost use Rattle.std.specs.Prelude.{◌≡◌, ◌≤◌, ◌<◌, ◌++◌, ◌-◌, ◌==◌, ◌&&◌, ◌||◌, ℕ, List, [], length, Option, Some, min, take, drop, true, IfOk, OnOk, OnErr, IsErrOf, IsErr, is_err, nat_lt, if◌then◌else◌};
 ghost use Rattle.dice_io.specs.Streams.{Reads, Unread, Takes, Unchanged, Rose};
 ghost use Rattle.dice_io.specs.Held.{Feed, Fill, is_among, one_more};
 
@@ -64,12 +64,14 @@ impl Source for MemorySource {
         ensures kept { OnErr result (into.new.items ≡ into.old.items) }
         ensures unread { OnErr result (Unread (Some self.old.left) (Some self.new.left)) }
         ensures counted { self.old.faults ≤ self.new.faults }
+        ensures steady { OnOk result (self.new.faults ≡ self.old.faults) }
         ensures failed { IsErrOf result ReadFail.Failed → Rose self.old.faults self.new.faults }
         // It fails exactly at the calls that it was given, and moves as much as it may.
         ensures chosen { is_among self.old.calls self.old.fails ≡ true → IsErrOf result ReadFail.Failed }
         ensures only { IsErrOf result ReadFail.Failed → is_among self.old.calls self.old.fails ≡ true }
         ensures most { IfOk result (λ n. n ≡ min (min most self.old.piece) (length self.old.left)) }
         ensures next { self.new.calls ≡ one_more self.old.calls }
+        ensures counts { self.new.faults ≡ (if is_among self.old.calls self.old.fails then one_more self.old.faults else self.old.faults) }
         ensures same { (self.new.piece ≡ self.old.piece) × (self.new.fails ≡ self.old.fails) }
     {
         let call = self.calls;
@@ -153,11 +155,13 @@ impl Sink for MemorySink {
         ensures some { IfOk result (λ n. 0 < length bytes.now → 0 < n) }
         ensures kept { OnErr result (Unchanged (Some self.old.taken) (Some self.new.taken)) }
         ensures counted { self.old.faults ≤ self.new.faults }
+        ensures steady { OnOk result (self.new.faults ≡ self.old.faults) }
         ensures failed { IsErr result → Rose self.old.faults self.new.faults }
         // It fails exactly at the calls that it was given and where no room is left, and moves as much as it may.
         ensures chosen { is_err result ≡ (is_among self.old.calls self.old.fails || (nat_lt 0 (length bytes.now) && (length self.old.taken == self.old.room))) }
         ensures most { IfOk result (λ n. n ≡ min (min (length bytes.now) self.old.piece) (self.old.room - length self.old.taken)) }
         ensures next { self.new.calls ≡ one_more self.old.calls }
+        ensures counts { IsErr result → self.new.faults ≡ one_more self.old.faults }
         ensures same { (self.new.room ≡ self.old.room) × (self.new.piece ≡ self.old.piece) × (self.new.fails ≡ self.old.fails) }
     {
         let call = self.calls;

@@ -1,5 +1,5 @@
 //! A source and a sink in memory that never fail.
-ghost use Rattle.std.specs.Prelude.{◌≡◌, ◌≤◌, ◌<◌, ◌++◌, ◌+◌, ℕ, List, [], length, Option, Some, min, take, drop, true, false, IfOk, OnErr, IsErrOf, IsErr, IsOk, if◌then◌else◌};
+ghost use Rattle.std.specs.Prelude.{◌≡◌, ◌≤◌, ◌<◌, ◌++◌, ◌+◌, ℕ, List, [], length, Option, Some, min, take, drop, true, false, IfOk, OnOk, OnErr, IsErrOf, IsErr, IsOk, if◌then◌else◌};
 ghost use Rattle.std.specs.Option.{option_copied};
 ghost use Rattle.dice_io.specs.Streams.{Reads, Unread, Takes, Unchanged, Rose};
 ghost use Rattle.dice_io.specs.Held.{Sure, told};
@@ -45,6 +45,7 @@ impl Source for SureSource {
         ensures kept { OnErr result (into.new.items ≡ into.old.items) }
         ensures unread { OnErr result (Unread (Some self.old) (Some self.new)) }
         ensures counted { 0 ≤ 0 }
+        ensures steady { OnOk result (◌≡◌ {A = ℕ} 0 0) }
         ensures failed { IsErrOf result ReadFail.Failed → Rose 0 0 }
         ensures most { IfOk result (λ n. n ≡ min most (length self.old)) }
     {
@@ -110,6 +111,7 @@ impl Sink for SureSink {
         ensures some { IfOk result (λ n. 0 < length bytes.now → 0 < n) }
         ensures kept { OnErr result (Unchanged (told self.old) (told self.new)) }
         ensures counted { 0 ≤ 0 }
+        ensures steady { OnOk result (◌≡◌ {A = ℕ} 0 0) }
         ensures failed { IsErr result → Rose 0 0 }
         ensures ok { IsOk result }
         ensures fits { self.old.is_whole ≡ true → length self.old.bytes + length bytes.now ≤ self.old.room → self.new ≡ record self.old { bytes = self.old.bytes ++ bytes.now } }

@@ -33,7 +33,7 @@ module _ {X Y : Type 0} (f : X → Y) where
   distinct_turned (x ∷ xs) d =
       subst AreDistinct (sym (ap (map f) (reverse_more x xs) ∙ map_last (reverse xs) x))
       (distinct_end (map f (reverse xs)) (f x) (distinct_turned xs d.1)
-      (λ h. (let r = has_mapped (reverse xs) (f x) h in d.0 (subst (λ y. Has (map f xs) y) r.2 (has_map xs r.0 (has_reverse xs r.0 r.1))))))
+      (λ h. (let r = has_mapped f (reverse xs) (f x) h in d.0 (subst (λ y. Has (map f xs) y) r.2 (has_map f xs r.0 (has_reverse xs r.0 r.1))))))
 
 -- of two lists place by place
 module _ {A B : Type 0} (P : A → B → Type 0) where

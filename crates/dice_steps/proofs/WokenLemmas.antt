@@ -6,6 +6,7 @@ use Rattle.std.specs.List.{list_any, AllByRecursion, AllZip}
 use Rattle.std.specs.Option.{option_map}
 use Rattle.dice_key.specs.Lawful.{IsEquality}
 use Rattle.dice_key.specs.Meaning.{Meaning}
+use Rattle.dice_key.proofs.KeySets.{any_has, has_any}
 use Rattle.dice_model.specs.Eval.{HasValue}
 use Rattle.dice_model.proofs.Inputs.{injected_value}
 use Rattle.dice_model.proofs.Traces.{zip_map}
@@ -69,29 +70,12 @@ module _ {K : Type 0} (eq : K → K → Bool) (equality : IsEquality eq) where
       by_test again true i f = subst (λ z. eq k z ≡ true) (sym (equality.same q w i ∙ a.0)) (equality.itself k)
       by_test again false i f = again f
 
-  pub any_has : (ws : List K) (q : K) → Has ws q → list_any (eq q) ws ≡ true
-  any_has [] q h = absurd h
-  any_has (w ∷ ws) q (inl e) = ap (λ b. b || list_any (eq q) ws) (subst (λ z. eq q z ≡ true) (sym e) (equality.itself q))
-  any_has (w ∷ ws) q (inr h) = or_true (eq q w) (list_any (eq q) ws) (any_has ws q h)
-    where
-      or_true : (a b : Bool) → b ≡ true → (a || b) ≡ true
-      or_true true b e = refl
-      or_true false b e = e
-
-  has_any : (ws : List K) (q : K) → list_any (eq q) ws ≡ true → Has ws q
-  has_any [] q e = let c : false ≡ true = e in cc
-  has_any (w ∷ ws) q e = by_test (has_any ws q) (eq q w) refl e
-    where
-      by_test : (list_any (eq q) ws ≡ true → Has ws q) → (b : Bool) → eq q w ≡ b → (b || list_any (eq q) ws) ≡ true → Has (w ∷ ws) q
-      by_test again true i f = inl (sym (equality.same q w i))
-      by_test again false i f = inr (again f)
-
 module _ {K V : Type 0} (eq : K → K → Bool) (equality : IsEquality eq) (k : K) (ps : List (K × Share K (Held K V))) where
   pub alone_of : (j : K) (ws : List K) → ((q : K) → asks eq ps q (Tasked j) ≡ list_any (eq q) ws) → AllByRecursion (λ x. x ≡ k) ws → AsksAlone eq k ps j
   alone_of j ws mirrored all q on = only_this eq equality k ws all q (sym (mirrored q) ∙ on)
 
   pub more_of : (j q : K) (ws : List K) → ((q : K) → asks eq ps q (Tasked j) ≡ list_any (eq q) ws) → Has ws q → eq q k ≡ false → AsksMore eq k ps j
-  more_of j q ws mirrored h n = (q, other_way eq equality q k n, mirrored q ∙ any_has eq equality ws q h)
+  more_of j q ws mirrored h n = (q, other_way eq equality q k n, mirrored q ∙ has_any eq equality ws q h)
 
 -- each of the first is k, with one more
 pub all_same_more : {X K : Type 0} (f : X → K) (k : K) (xs : List X) (i : ℕ) (x : X) → i < length xs → x ≡ get_or xs i x → AllByRecursion (λ z. z ≡ k) (map f (take i xs)) → f x ≡ k → AllByRecursion (λ z. z ≡ k) (map f (take (i + 1) xs))
@@ -160,11 +144,11 @@ module _ {K V : Type 0} (eq : K → K → Bool) (m : Meaning K V) (cells : Seen 
   pub all_woken : IsEquality eq → (askers : List K) (ys : List (Wakes K V)) → ((j : K) → list_any (eq j) askers ≡ asks eq ps k (Tasked j)) → SoFar askers ys → AreWoken eq m cells v k x ps ys
   all_woken equality askers ys are so = record {
     version = so.version;
-    asking = λ y h. sym (are y.place.1) ∙ any_has eq equality askers y.place.1 (so.within y h);
+    asking = λ y h. sym (are y.place.1) ∙ has_any eq equality askers y.place.1 (so.within y h);
     only = so.only;
     answered = so.answered;
     distinct = so.distinct;
-    others = λ j on. so.others j (has_any eq equality askers j (are j ∙ on));
+    others = λ j on. so.others j (any_has eq equality askers j (are j ∙ on));
   }
 
 -- ---- each that waits for one key alone has answers to its batch

@@ -6,7 +6,7 @@ abbrev pub invariant-loop-bytes : goal.invariant-loop-bytes
 invariant-loop-bytes g l = record {
   told : (all : List ℕ) → g.S.Source.left l.fn.source ≡ Some all → (rest : List ℕ) × (g.S.Source.left l.source ≡ Some rest) × (all ≡ l.bytes.items ++ rest);
   few : length l.bytes.items ≤ l.limit;
-  counted : g.S.Source.faults l.fn.source ≤ g.S.Source.faults l.source;
+  steady : g.S.Source.faults l.source ≡ g.S.Source.faults l.fn.source;
 }
 
 abbrev pub decreases-loop-bytes : goal.decreases-loop-bytes
