@@ -47,15 +47,21 @@ fi
 awk '
     $1 == "gate" && $2 == "whole" { whole = $3 }
     $1 == "gate" && NF == 6 { spent[$3 " " $4 " " $5] = $6; crates[$4] = 1 }
-    /^\| must-fail / { split($3, it, "/"); tried[it[1]]++ }
+    /^\| (rt: )?must-fail [a-z0-9_]+\// { name = $0; sub(/^.*must-fail /, "", name); sub(/\/.*/, "", name); tried[name]++; tries++ }
     END {
-        for (it in spent) { split(it, word, " "); sum[word[2] " " word[3]] += spent[it]; all[word[2]] += spent[it]; kind[word[3]] += spent[it]; total += spent[it] }
+        for (process in spent) {
+            split(process, word, " ")
+            sum[word[2] " " word[3]] += spent[process]
+            all[word[2]] += spent[process]
+            kind[word[3]] += spent[process]
+            total += spent[process]
+        }
         print "| Crate | proof | tests | seed | edits | all |"
         print "|---|---|---|---|---|---|"
         order = "sort -t\"|\" -k7,7nr"
-        for (c in crates)
-            printf "| `%s` | %d | %d | %d | %d (%d) | %d |\n", c, sum[c " proof"], sum[c " tests"], sum[c " seed"], sum[c " edits"], tried[c], all[c] | order
+        for (name in crates)
+            printf "| `%s` | %d | %d | %d | %d (%d) | %d |\n", name, sum[name " proof"], sum[name " tests"], sum[name " seed"], sum[name " edits"], tried[name], all[name] | order
         close(order)
-        printf "| all | %d | %d | %d | %d | %d |\n", kind["proof"], kind["tests"], kind["seed"], kind["edits"], total
+        printf "| all | %d | %d | %d | %d (%d) | %d |\n", kind["proof"], kind["tests"], kind["seed"], kind["edits"], tries, total
         printf "\nProcessor minutes: %d. Minutes by the clock: %d.\n", total / 60, whole / 60
     }' "$1"

@@ -1,6 +1,6 @@
 #!/bin/sh
-# Times the program on scripts of its own making, by several numbers of workers. With hyperfine each time is hyperfine's mean; else
-# the least of five runs. Times are wall clock, in milliseconds, of the whole process.
+# Times the program on scripts of its own making, by several numbers of workers. With hyperfine each time is hyperfine's mean, and
+# otherwise the least of five runs. Times are wall clock, in milliseconds, of the whole process.
 here=$(cd "$(dirname "$0")/.." && pwd) || exit 1
 work=$(mktemp -d) || exit 1
 trap 'rm -rf "$work"' EXIT

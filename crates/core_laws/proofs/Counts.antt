@@ -16,7 +16,7 @@ module _ {X : Type 0} where
   -- one thing more passes the test
   pub all_more : (f g : X → Bool) (y : X) → f y ≡ false → g y ≡ true → ((x : X) → (y ≡ x → ⊥) → g x ≡ f x) → ((x : X) → (y ≡ x) ⊎ (y ≡ x → ⊥)) → (xs : List X) → AreAll f xs → AreAll g (xs ++ y ∷ [])
   all_more f g y off on e test xs a = record {
-    passes = λ x h. elim (has_end xs y x h) as (λ _. g x ≡ true) [
+    passes = λ x h. elim (has_last xs y x h) as (λ _. g x ≡ true) [
       | inl i ↦ elim (test x) as (λ _. g x ≡ true) [ inl q ↦ subst (λ z. g z ≡ true) q on | inr q ↦ e x q ∙ a.passes x i ]
       | inr q ↦ subst (λ z. g z ≡ true) q on
     ];

@@ -16,6 +16,8 @@ use Rattle.core_laws.specs.Stands.{VersionStands, IsAtRest}
 use Rattle.core_laws.specs.Promises.{nobody}
 use Rattle.lists.proofs.Distinct.{few}
 use Rattle.lists.specs.Lists.{AreDistinct, Has}
+use Rattle.core_laws.proofs.Held.{going_where_waiting}
+use Rattle.core_laws.proofs.Shapes.{idle_computes}
 
 module _ {K : Type 0} (eq : K → K → Bool) (equality : IsEquality eq) (s : Asked K) (all : List K) (finite : (q : K) → s.live q ≡ true → Has all q) (free : HasNoCycle s)
     (asked : (q : K) → s.live q ≡ true → (j : K) × (s.asks q (Tasked j) ≡ true) × (s.live j ≡ true)) where
@@ -59,24 +61,6 @@ module _ {K V : Type 0} (eq : K → K → Bool) (m : Meaning K V) (R : List (Tol
     closed = λ z k. refl;
   }
 
-module _ {K V : Type 0} where
-  -- what waits has not ended, and what runs has not
-  waits_goes : (o : Option (Task K V)) (ks : List K) → batch_of o ≡ Some ks → is_going o ≡ true
-  waits_goes None ks e = absurd (none-some ks e)
-  waits_goes (Some t) ks e = by_standing t.standing e
-    where
-      by_standing : (x : Standing K V) → waits_for x ≡ Some ks → goes_on x ≡ true
-      by_standing (Works w p A) q = refl
-      by_standing (Ended r) q = absurd (none-some ks q)
-
-  stopped : (o : Option (Task K V)) → is_going o ≡ false → is_computing o ≡ false
-  stopped None e = refl
-  stopped (Some t) e = by_standing t.standing e
-    where
-      by_standing : (x : Standing K V) → goes_on x ≡ false → computes x ≡ false
-      by_standing (Works w p A) q = absurd (both_ways true q refl)
-      by_standing (Ended r) q = refl
-
 module _ {K V : Type 0} (eq : K → K → Bool) (equality : IsEquality eq) (m : Meaning K V) (R : List (Told K V)) (lawful : IsLawfulBack eq m R) (v : ℕ) (empty : open_count R v ≡ 0) (s : Asked K) (ts : K → Option (Task K V)) where
   module _ (h : VersionStands eq m R v [] s ts) (done : IsDone s) (all : List K) (finite : (q : K) → s.live q ≡ true → Has all q) where
     -- no promise is left, so each asker is a task, and waits
@@ -85,7 +69,7 @@ module _ {K V : Type 0} (eq : K → K → Bool) (equality : IsEquality eq) (m : 
       where
         by_asker : (a : By K) → s.asks q a ≡ true → (j : K) × (s.asks q (Tasked j) ≡ true) × (s.live j ≡ true)
         by_asker (Promised i) e = let p = h.promised q i e in absurd (both_ways (opened_at R v p.0.opened) (none_open v R (closes_open eq m R lawful) empty p.0.opened) p.2)
-        by_asker (Tasked j) e = let w = h.waiting q j e in (j, e, h.live j ∙ waits_goes (ts j) w.0 w.1)
+        by_asker (Tasked j) e = let w = h.waiting q j e in (j, e, h.live j ∙ going_where_waiting (ts j) w.0 w.1)
 
     -- no task is at work
     pub idle : (q : K) → s.live q ≡ false
@@ -94,7 +78,7 @@ module _ {K V : Type 0} (eq : K → K → Bool) (equality : IsEquality eq) (m : 
 module _ {K V : Type 0} (eq : K → K → Bool) (equality : IsEquality eq) (m : Meaning K V) (law : IsLawful m) (R : List (Told K V)) (v : ℕ) where
   -- where each task at work has an asker, the version is at rest with no task and no ask
   pub emptied : (s : Asked K) (ts : K → Option (Task K V)) → VersionStands eq m R v [] s ts → IsLawfulBack eq m R → open_count R v ≡ 0 → IsDone s → (all : List K) → ((q : K) → s.live q ≡ true → Has all q) → IsAtRest eq m R v nobody (λ q. None)
-  emptied s ts h lawful empty done all finite = nobody_rests eq m R v (λ i a e. none_open v R (closes_open eq m R lawful) empty a.opened) (λ k. h.running k ∙ stopped (ts k) (sym (h.live k) ∙ idle eq equality m R lawful v empty s ts h done all finite k)) (λ n k. absurd (omega arith))
+  emptied s ts h lawful empty done all finite = nobody_rests eq m R v (λ i a e. none_open v R (closes_open eq m R lawful) empty a.opened) (λ k. h.running k ∙ idle_computes (ts k) (sym (h.live k) ∙ idle eq equality m R lawful v empty s ts h done all finite k)) (λ n k. absurd (omega arith))
 
 -- before all events each version is at rest, with no task and no ask
 pub first_rests : {K V : Type 0} (eq : K → K → Bool) (m : Meaning K V) (v : ℕ) → IsAtRest eq m [] v nobody (λ q. None)

@@ -29,7 +29,6 @@ module _ {K V : Type 0} (eq : K → K → Bool) (m : Meaning K V) (C : List (Lis
       let r = goes_first k (before ++ a ∷ []) A b later g.2 in
       ((g.0, g.1, r.0), subst (λ B. m.next k B v ≡ Asks b.keys) (append_assoc before (a ∷ []) A) r.1)
 
-
 module _ {K V : Type 0} (eq : K → K → Bool) (equality : IsEquality eq) (m : Meaning K V) (law : IsLawful m) (R : List (Told K V)) (v : ℕ) where
   -- each key of the next batch, of a run or of a check, is one that the task's key asks
   pub asks_of_next : (k : K) (w : Work K V) (A : List (Answered K V)) (ks : List K) → WorkStands eq m R v k w A → AsksNext eq m v k w A (IsWaiting ks) → m.kind k ≢ Injected → (d : K) → Has ks d → AsksFor eq m (commits_of R) v k d

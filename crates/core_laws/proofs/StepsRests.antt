@@ -44,7 +44,7 @@ module _ {K V : Type 0} where
       of_standing (Works w p A) f = let h : true ≡ false = f in cc
       of_standing (Ended o) f = refl
 
-  idle_out : (o : Option (Task K V)) → is_going o ≡ false → is_out o ≡ false
+  pub idle_out : (o : Option (Task K V)) → is_going o ≡ false → is_out o ≡ false
   idle_out None e = refl
   idle_out (Some t) e = of_standing t.standing e
     where

@@ -4,4 +4,4 @@
 #[cfg(test)]
 mod buck;
 #[cfg(test)]
-mod tests;
+mod tiny;

@@ -19,7 +19,7 @@ use Rattle.core_laws.specs.Desk.{World, Rests, AreAll, with_version, is_out, out
 use Rattle.core_laws.proofs.Counts.{all_alike}
 use Rattle.core_laws.proofs.Empties.{idle}
 use Rattle.core_laws.proofs.StepsAsks.{closed_stand}
-use Rattle.core_laws.proofs.StepsRests.{live_stand, rests_emptied}
+use Rattle.core_laws.proofs.StepsRests.{idle_out, live_stand, rests_emptied}
 use Rattle.core_laws.proofs.Turns.{stands_here}
 use Rattle.dice_core.specs.Askings.{DropsAfter}
 use Rattle.dice_steps.specs.AtHand.{AtHand}
@@ -211,15 +211,6 @@ module _ {K V : Type 0} (eq : K → K → Bool) (equality : IsEquality eq) (m : 
 pub hand_of_left : {K V : Type 0} (eq : K → K → Bool) (m : Meaning K V) (v : ℕ) (w : World K V) (owes : ℕ) (ps : List (K × Share K (Held K V))) (d : DeskSeen K V) (es : List (K × Stored K V)) (s : Seen K V) → LeftHand eq m v w owes ps d es s → 0 < open_count (reverse d.events) v → AtHand eq m v w owes ps d es s
 hand_of_left eq m v w owes ps d es s h is_open = record { working = h.working; told = h.told; tasked = h.tasked; done = h.done; opened = is_open; entries = h.entries; cells = h.cells }
 
--- what has ended is not out
-still_home : {K V : Type 0} (o : Option (Task K V)) → is_going o ≡ false → is_out o ≡ false
-still_home {K} {V} None e = refl
-still_home {K} {V} (Some t) e = of_standing t.standing e
-  where
-    of_standing : (p : Standing K V) → goes_on p ≡ false → out_in p ≡ false
-    of_standing (Works w p A) f = let h : true ≡ false = f in cc
-    of_standing (Ended o) f = refl
-
 module _ {K V : Type 0} (ts us : List (ℕ × List (K × Share K (Held K V)))) (v : ℕ) (gone : (u : ℕ) → lookup (nat_eq u) us ≡ cond (nat_eq v u) None (lookup (nat_eq u) ts)) where
   -- the table of v is thrown away
   table_gone : (n : ℕ) → table_at us n ≡ cond (eqb n v) [] (table_at ts n)
@@ -291,7 +282,7 @@ module _ {K V : Type 0} (eq : K → K → Bool) (equality : IsEquality eq) (m : 
       home p = by_number (eqb p.0 v)
         where
           by_number : (b : Bool) → is_out (cond b (λ q. None) ((world_of eq c.tables).tasks p.0) p.1) ≡ is_out (cond b (tasks_of eq qs) ((world_of eq c.tables).tasks p.0) p.1)
-          by_number true = sym (still_home (tasks_of eq qs p.1) (sym (here.live p.1) ∙ idle eq equality m (reverse e.events) hand.working.stand.lawful v none (asked_of eq qs) (tasks_of eq qs) here hand.done finite.0 finite.1 p.1))
+          by_number true = sym (idle_out (tasks_of eq qs p.1) (sym (here.live p.1) ∙ idle eq equality m (reverse e.events) hand.working.stand.lawful v none (asked_of eq qs) (tasks_of eq qs) here hand.done finite.0 finite.1 p.1))
           by_number false = refl
 
       other : (u : ℕ) → 0 < open_count (reverse e.events) u → nat_eq v u ≡ false

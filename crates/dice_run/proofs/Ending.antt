@@ -105,11 +105,11 @@ asked_or_before ends (Wait n ∷ ls) p r h = asked_or_before ends ls (planned en
 asked_or_before ends (Cancel n ∷ ls) p r h = asked_or_before ends ls (planned ends p (Cancel n)) r h
 asked_or_before ends (Close t ∷ ls) p r h = asked_or_before ends ls (planned ends p (Close t)) r h
 asked_or_before ends (Ask q ∷ ls) p r h = elim (asked_or_before ends ls (planned ends p (Ask q)) r h) as (λ _. Has p.requests r ⊎ AskedIn (Ask q ∷ ls) r.name) [
-  | inl a ↦ elim (has_end p.requests _ r a) as (λ _. Has p.requests r ⊎ AskedIn (Ask q ∷ ls) r.name) [ inl b ↦ inl b | inr e ↦ inr (inl (ap (λ (s : Planned). s.name) e)) ]
+  | inl a ↦ elim (has_last p.requests _ r a) as (λ _. Has p.requests r ⊎ AskedIn (Ask q ∷ ls) r.name) [ inl b ↦ inl b | inr e ↦ inr (inl (ap (λ (s : Planned). s.name) e)) ]
   | inr b ↦ inr (inr b)
 ]
 asked_or_before ends (Action q ∷ ls) p r h = elim (asked_or_before ends ls (planned ends p (Action q)) r h) as (λ _. Has p.requests r ⊎ AskedIn (Action q ∷ ls) r.name) [
-  | inl a ↦ elim (has_end p.requests _ r a) as (λ _. Has p.requests r ⊎ AskedIn (Action q ∷ ls) r.name) [ inl b ↦ inl b | inr e ↦ inr (inl (ap (λ (s : Planned). s.name) e)) ]
+  | inl a ↦ elim (has_last p.requests _ r a) as (λ _. Has p.requests r ⊎ AskedIn (Action q ∷ ls) r.name) [ inl b ↦ inl b | inr e ↦ inr (inl (ap (λ (s : Planned). s.name) e)) ]
   | inr b ↦ inr (inr b)
 ]
 
@@ -131,7 +131,7 @@ abbrev pub AllSay : Ends → List Planned → Type 0
 AllSay ends rs = (r : Planned) → Has rs r → r.cancelled ≡ ends r.name
 
 say_end : (ends : Ends) (rs : List Planned) (s : Planned) → AllSay ends rs → s.cancelled ≡ ends s.name → AllSay ends (rs ++ s ∷ [])
-say_end ends rs s a e r h = elim (has_end rs s r h) as (λ _. r.cancelled ≡ ends r.name) [ inl b ↦ a r b | inr i ↦ subst (λ (t : Planned). t.cancelled ≡ ends t.name) i e ]
+say_end ends rs s a e r h = elim (has_last rs s r h) as (λ _. r.cancelled ≡ ends r.name) [ inl b ↦ a r b | inr i ↦ subst (λ (t : Planned). t.cancelled ≡ ends t.name) i e ]
 
 pub all_say : (ends : Ends) (ls : List Line) (p : Plan) → AllSay ends p.requests → AllSay ends (plan_from ends p ls).requests
 all_say ends [] p a = a

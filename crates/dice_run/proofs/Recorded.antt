@@ -42,7 +42,7 @@ use Rattle.dice_run.specs.declared.driver.Driver.{Driver}
 use Rattle.dice_run.proofs.Changing.{differing_same}
 use Rattle.dice_run.proofs.Seating.{stands_below}
 use Rattle.dice_run.proofs.Steps.{own_name, at_name, past_name, by_name, other_request, live_there}
-use Rattle.lists.proofs.Members.{has_left}
+use Rattle.lists.proofs.Members.{has_end, has_last, has_left}
 use Rattle.lists.specs.Lists.{Has}
 use Rattle.bulk_script.proofs.Blocks.{differ}
 use Rattle.lists.proofs.Options.{none_some, some_same}
@@ -213,12 +213,6 @@ module _ (id : TableId) (d e : Driver) (p : Plan) (past : Past) (r : Request) (w
       no : Some fate.Pending ≡ Some fate.Answered → ⊥
       no e = cc
 
-  has_end : (xs : List Planned) (y z : Planned) → Has (xs ++ y ∷ []) z → Has xs z ⊎ (y ≡ z)
-  has_end [] y z (inl h) = inr h
-  has_end [] y z (inr h) = absurd h
-  has_end (u ∷ us) y z (inl h) = inl (inl h)
-  has_end (u ∷ us) y z (inr h) = elim (has_end us y z h) as (λ _. Has (u ∷ us) z ⊎ (y ≡ z)) [ inl a ↦ inl (inr a) | inr b ↦ inr b ]
-
   knows_asked : (ends : Ends) (n : Indices) → KnowsIndices d p past n → KnowsIndices e (planned ends p (line.Ask r)) (after past (line.Ask r)) (ask_indices n) × KnowsIndices e (planned ends p (line.Action r)) (after past (line.Action r)) (ask_indices n)
   knows_asked ends n i = (both (Digest r.label), both (Text r.label))
     where
@@ -247,7 +241,7 @@ module _ (id : TableId) (d e : Driver) (p : Plan) (past : Past) (r : Request) (w
             ∙ ap Some (ap (λ (z : Pledge). z.ask) (some_same (sym (at_name r.name (Some x.pledge) (pledge_of d)) ∙ (sym (x.promises r.name) ∙ (ap (pledge_of e) s ∙ h))))))
             (λ f. ap (λ b. cond b (Some x.pledge.ask) (n.asked q)) f ∙ i.asked q y (sym (past_name r.name q (Some x.pledge) (pledge_of d) f) ∙ (sym (x.promises q) ∙ h)));
         closed = λ t h. (let c = i.closed t h in (c.0, c.1, subst (λ (xs : Events). Has xs (told.Close 0 c.0)) (sym x.asks.goes.mine) (has_left d.seat.mine ask_own _ c.2)));
-        requests = λ s h. elim (has_end p.requests (wanted ends p r wish) s h) as (λ _. IsRecorded e.seat.seen (ask_indices n) (after past (line.Ask r)) s) [
+        requests = λ s h. elim (has_last p.requests (wanted ends p r wish) s h) as (λ _. IsRecorded e.seat.seen (ask_indices n) (after past (line.Ask r)) s) [
           | inl a ↦ old_recorded s a
           | inr b ↦ subst (IsRecorded e.seat.seen (ask_indices n) (after past (line.Ask r))) b (new_recorded wish)
         ];
@@ -464,10 +458,6 @@ module _ (id : TableId) (d e : Driver) (p : Plan) (past : Past) (t : List ℕ) (
       by_asked None z = z
       by_asked (Some a) z = by_fate (bytes_eq t a.transaction) a.fate z
 
-  has_last : (xs : Events) (y : Told Key Value) → Has (xs ++ y ∷ []) y
-  has_last [] y = inl refl
-  has_last (z ∷ zs) y = inr (has_last zs y)
-
   pub knows_closed : (n : Indices) → KnowsIndices d p past n → KnowsIndices e p closes n
   knows_closed n i = record {
     opened = λ u y h. by_name t u _
@@ -475,7 +465,7 @@ module _ (id : TableId) (d e : Driver) (p : Plan) (past : Past) (t : List ℕ) (
         (λ f. i.opened u y (sym (past_name t u None (transaction_of d) f) ∙ (sym (x.transactions u) ∙ h)));
     asked = λ u y h. i.asked u y (ap (λ v. get (pointwise nat_eq) v u) (sym x.promises) ∙ h);
     closed = λ u h. by_name t u _
-        (λ s. (x.transaction.opened, ap n.opened (sym s) ∙ i.opened t x.transaction x.held, subst (λ (xs : Events). Has xs (told.Close 0 x.transaction.opened)) (sym x.goes.mine) (has_last d.seat.mine (told.Close 0 x.transaction.opened))))
+        (λ s. (x.transaction.opened, ap n.opened (sym s) ∙ i.opened t x.transaction x.held, subst (λ (xs : Events). Has xs (told.Close 0 x.transaction.opened)) (sym x.goes.mine) (has_end d.seat.mine (told.Close 0 x.transaction.opened))))
         (λ f. (let c = i.closed u (sym (ap (λ b. cond b (Some false) (past.opened u)) f) ∙ h) in (c.0, c.1, subst (λ (xs : Events). Has xs (told.Close 0 c.0)) (sym x.goes.mine) (has_left d.seat.mine close_own _ c.2))));
     requests = λ r h. recorded_on d.seat.seen e.seat.seen n n past closes r x.goes.later.begins refl (known r.transaction) (closes_fate r.name) (i.requests r h);
   }

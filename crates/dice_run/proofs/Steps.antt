@@ -42,7 +42,7 @@ use Rattle.dice_run.specs.declared.driver.Driver.{Driver}
 use Rattle.dice_run.proofs.Changing.{differing_same}
 use Rattle.dice_run.proofs.Seating.{Onward, onward, onward_same, still_open, still_asks, seen_longer, log_open, log_close, log_ask, log_leave, log_none, log_commit, commit_closes_none, commit_leaves_none, open_below, ask_below}
 use Rattle.lists.proofs.Distinct.{distinct_end}
-use Rattle.lists.proofs.Members.{has_last}
+use Rattle.lists.proofs.Members.{has_end, has_last}
 use Rattle.lists.specs.Lists.{AreDistinct, Has}
 use Rattle.bulk_script.proofs.Blocks.{differ}
 use Rattle.lists.proofs.Options.{none_some, some_same}
@@ -379,10 +379,6 @@ module _ (id : TableId) (ends : Ends) (d e : Driver) (p : Plan) (past : Past) (r
     | inr i ↦ subst (IsMade e (after past (line.Ask r))) i new_made
   ]
 
-  has_last : {X : Type 0} (xs : List X) (y : X) → Has (xs ++ y ∷ []) y
-  has_last [] y = inl refl
-  has_last (z ∷ zs) y = inr (has_last zs y)
-
   has_first : {X : Type 0} (xs : List X) (y z : X) → Has xs z → Has (xs ++ y ∷ []) z
   has_first (u ∷ us) y z (inl i) = inl i
   has_first (u ∷ us) y z (inr h) = inr (has_first us y z h)
@@ -390,7 +386,7 @@ module _ (id : TableId) (ends : Ends) (d e : Driver) (p : Plan) (past : Past) (r
 
   asks_found : (q : List ℕ) (a : Asked) → (after past (line.Ask r)).asked q ≡ Some a → (s : Planned) × Has (p.requests ++ asked_now ∷ []) s × (s.name ≡ q)
   asks_found q a h = by_name r.name q _
-      (λ s. (asked_now, has_last p.requests asked_now, s))
+      (λ s. (asked_now, has_end p.requests asked_now, s))
       (λ f. (let y = m.found q a (sym (ap (λ b. cond b (Some (made_in r.transaction)) (past.asked q)) f) ∙ h) in (y.0, has_first p.requests asked_now y.0 y.1, y.2)))
 
   asks_was : (q : List ℕ) (y : Pledge) → pledge_of e q ≡ Some y → (r.name ≡ q) × (x.pledge ≡ y) ⊎ (pledge_of d q ≡ Some y)

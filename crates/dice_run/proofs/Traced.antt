@@ -5,13 +5,8 @@ use Rattle.dice_engine.specs.Lines.{AreLines}
 use Rattle.action_digest.specs.Buck.{buck}
 use Rattle.dice_run.specs.Output.{line}
 use Rattle.dice_run.specs.Events.{Events}
+use Rattle.lists.proofs.Each.{zip_length}
 use Rattle.dice_run.specs.Tracing.{IsTraceOf, trace_text}
 
-zip_length : {A B : Type 0} (P : A → B → Type 0) (xs : List A) (ys : List B) → AllZip P xs ys → length xs ≡ length ys
-zip_length P [] [] h = refl
-zip_length P [] (y ∷ ys) h = absurd h
-zip_length P (x ∷ xs) [] h = absurd h
-zip_length P (x ∷ xs) (y ∷ ys) h = ap suc (zip_length P xs ys h.1)
-
 pub trace_of : (J : Events) (ls : List (List ℕ)) → AreLines buck J ls → IsTraceOf J (trace_text ls)
-trace_of J ls a = record { lines = ls; events = a; is = ap (λ n. line (codes "trace " ++ decimal n) ++ flat_map line ls) (sym (zip_length _ J ls a)) }
+trace_of J ls a = record { lines = ls; events = a; is = ap (λ n. line (codes "trace " ++ decimal n) ++ flat_map line ls) (zip_length _ J ls a) }

@@ -47,7 +47,7 @@ use Rattle.dice_steps.proofs.PartLemmas.{there_waits, wait_there, zip_on}
 use Rattle.dice_steps.proofs.QuietLemmas.{commits_after, cells_after, open_after}
 use Rattle.dice_tasks.proofs.WaitLemmas.{waits_there, waits_only, key_there, wait_of}
 use Rattle.lists.proofs.Members.{has_mapped, has_right}
-use Rattle.lists.specs.Lists.{Has}
+use Rattle.lists.specs.Lists.{AreDistinct, Has}
 use Rattle.task_share.proofs.Leads.{leads_fewer}
 
 -- ---- what is true of the keys of the batch

@@ -101,7 +101,7 @@ module _ {U K V R : Type 0} (eq : K → K → Bool) (equality : IsEquality eq) (
       distinct = (not_made, h.distinct);
       of_part = λ q i. elim i as (λ _. (x : Part U K V R) × Has (rest ++ p ∷ []) x × (key_in x ≡ q)) [ inl j ↦ (p, has_end rest p, j) | inr j ↦ (let r = h.of_part q j in (r.0, has_more rest p r.0 r.1, r.2)) ];
       free = λ q i. elim i as (λ _. IsFree (task_at eq ps q)) [ inl j ↦ subst (λ z. IsFree (task_at eq ps z)) j free | inr j ↦ subst IsFree (alone.tasks q (later q j)) (h.free q j) ];
-      all = λ x i g. elim (has_end rest p x i) as (λ _. Has (k ∷ h.made) (key_in x)) [ inl o ↦ inr (h.all x o (subst IsFree (sym (alone.tasks (key_in x) (other_key x o))) g)) | inr s ↦ inl (ap key_in s) ];
+      all = λ x i g. elim (has_last rest p x i) as (λ _. Has (k ∷ h.made) (key_in x)) [ inl o ↦ inr (h.all x o (subst IsFree (sym (alone.tasks (key_in x) (other_key x o))) g)) | inr s ↦ inl (ap key_in s) ];
       these = record {
         tasks = λ q i. elim i as (λ _. task_at eq rs q ≡ Some (task_by v q born (says eq m v es q))) [
           | inl j ↦ subst (λ z. task_at eq rs z ≡ Some (task_by v z born (says eq m v es z))) j (h.others k not_made ∙ ((put k ∙ ap (λ b. cond b (Some t) (task_at eq ps k)) (equality.itself k)) ∙ ap Some is))
@@ -125,7 +125,7 @@ module _ {U K V R : Type 0} (eq : K → K → Bool) (equality : IsEquality eq) (
       distinct = w.distinct;
       of_part = λ q i. (let r = w.of_part q i in (r.0, has_more rest p r.0 r.1, r.2));
       free = w.free;
-      all = λ x i g. elim (has_end rest p x i) as (λ _. Has w.made (key_in x)) [ inl o ↦ w.all x o g | inr s ↦ absurd (has_free (task_at eq ps k) has (subst (λ (z : Part U K V R). IsFree (task_at eq ps (key_in z))) (sym s) g)) ];
+      all = λ x i g. elim (has_last rest p x i) as (λ _. Has w.made (key_in x)) [ inl o ↦ w.all x o g | inr s ↦ absurd (has_free (task_at eq ps k) has (subst (λ (z : Part U K V R). IsFree (task_at eq ps (key_in z))) (sym s) g)) ];
       these = w.these;
       others = w.others;
     }

@@ -283,11 +283,11 @@ module _ {U K V R : Type 0} (eq : K → K → Bool) (equality : IsEquality eq) (
         asks = λ q a. h.asks q a ∙ asks_made eq equality m law v p ps qs d e es fs born part made alone W w owed work q a;
         others = λ q n. h.others q (front q n) ∙ alone.tasks q (n p (has_end rest p));
         lives = λ q n. h.lives q (front q n) ∙ alone.lives q (n p (has_end rest p));
-        awaited = λ x i. elim (has_end rest p x i) as (λ _. is_live eq rs (key_in x) ≡ x.awaited) [
+        awaited = λ x i. elim (has_last rest p x i) as (λ _. is_live eq rs (key_in x) ≡ x.awaited) [
           | inl o ↦ h.awaited x o
           | inr s ↦ subst (λ (z : Part U K V R). is_live eq rs (key_in z) ≡ z.awaited) s (h.lives (key_in p) last_apart ∙ live_made eq equality m law v p ps qs d e es fs born part made alone)
         ];
-        valued = λ x i off. elim (has_end rest p x i) as (λ _. (y : V) × (value_of (tasks_of eq rs (key_in x)) ≡ Some y)) [
+        valued = λ x i off. elim (has_last rest p x i) as (λ _. (y : V) × (value_of (tasks_of eq rs (key_in x)) ≡ Some y)) [
           | inl o ↦ h.valued x o off
           | inr s ↦ subst (λ (z : Part U K V R). (y : V) × (value_of (tasks_of eq rs (key_in z)) ≡ Some y)) s
               (let r = value_made eq equality m law v p ps qs d e es fs born part made alone W w owed work (ap (λ (z : Part U K V R). z.awaited) s ∙ off) in
@@ -296,7 +296,7 @@ module _ {U K V R : Type 0} (eq : K → K → Bool) (equality : IsEquality eq) (
         stays = λ q g t. (let r = stays_made eq equality m law v p ps qs d e es fs born part made alone q g t in h.stays q r.0 r.1);
         out = λ q a t. h.out q a (out_made eq equality m law v p ps qs d e es fs born part made alone q a t);
         only = λ q a t. only_made eq equality m law v p ps qs d e es fs born part made alone q a (h.only q a t);
-        askers = λ x i on. elim (has_end rest p x i) as (λ _. asker_room eq ps (key_in x) ≤ asker_room eq rs (key_in x)) [
+        askers = λ x i on. elim (has_last rest p x i) as (λ _. asker_room eq ps (key_in x) ≤ asker_room eq rs (key_in x)) [
           | inl o ↦ (let a = alone.room.askers (key_in x) (others_apart x o) in let b = h.askers x o on in omega arith)
           | inr s ↦ subst (λ (z : Part U K V R). asker_room eq ps (key_in z) ≤ asker_room eq rs (key_in z)) s
               (let a = askers_made eq equality m law v p ps qs d e es fs born part made alone (ap (λ (z : Part U K V R). z.awaited) s ∙ on) in let b = h.other_askers (key_in p) last_apart in omega arith)

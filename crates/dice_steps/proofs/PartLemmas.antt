@@ -33,7 +33,7 @@ module _ {X Y : Type 0} (f : X → Y) where
   distinct_turned (x ∷ xs) d =
       subst AreDistinct (sym (ap (map f) (reverse_more x xs) ∙ map_last (reverse xs) x))
       (distinct_end (map f (reverse xs)) (f x) (distinct_turned xs d.1)
-      (λ h. (let r = has_mapped (reverse xs) (f x) h in d.0 (subst (λ y. Has (map f xs) y) r.2 (has_map xs r.0 (has_reverse xs r.0 r.1))))))
+      (λ h. (let r = has_mapped f (reverse xs) (f x) h in d.0 (subst (λ y. Has (map f xs) y) r.2 (has_map f xs r.0 (has_reverse xs r.0 r.1))))))
 
 -- of two lists place by place
 module _ {A B : Type 0} (P : A → B → Type 0) where
@@ -58,7 +58,7 @@ module _ {U K V R : Type 0} (eq : K → K → Bool) (m : Meaning K V) (v born : 
     among = λ p i. has_more ks q (key_in p) (h.among p i);
     apart = h.apart;
     distinct = h.distinct;
-    all = λ j i. elim (has_end ks q j i) as (λ _. (m.kind j ≡ Injected) ⊎ ((p : Part U K V R) × Has xs p × (key_in p ≡ j))) [
+    all = λ j i. elim (has_last ks q j i) as (λ _. (m.kind j ≡ Injected) ⊎ ((p : Part U K V R) × Has xs p × (key_in p ≡ j))) [
       | inl o ↦ h.all j o
       | inr e ↦ subst (λ z. (m.kind z ≡ Injected) ⊎ ((p : Part U K V R) × Has xs p × (key_in p ≡ z))) e (elim known as (λ _. (m.kind q ≡ Injected) ⊎ ((p : Part U K V R) × Has xs p × (key_in p ≡ q))) [ inl n ↦ inl n | inr n ↦ inr (has_mapped key_in xs q n) ])
     ];
@@ -67,14 +67,14 @@ module _ {U K V R : Type 0} (eq : K → K → Bool) (m : Meaning K V) (v born : 
   -- one more part
   pub parts_more : (ks : List K) (xs : List (Part U K V R)) (p : Part U K V R) → AreParts eq m v born ps es k ks xs → IsPart eq m v born ps es p → (Leads (asked_of eq ps) (key_in p) k → ⊥) → (Has (map key_in xs) (key_in p) → ⊥) → AreParts eq m v born ps es k (ks ++ key_in p ∷ []) (xs ++ p ∷ [])
   parts_more ks xs p h part apart new = record {
-    each = λ x i. elim (has_end xs p x i) as (λ _. IsPart eq m v born ps es x) [ inl o ↦ h.each x o | inr e ↦ subst (λ (z : Part U K V R). IsPart eq m v born ps es z) e part ];
-    among = λ x i. elim (has_end xs p x i) as (λ _. Has (ks ++ key_in p ∷ []) (key_in x)) [
+    each = λ x i. elim (has_last xs p x i) as (λ _. IsPart eq m v born ps es x) [ inl o ↦ h.each x o | inr e ↦ subst (λ (z : Part U K V R). IsPart eq m v born ps es z) e part ];
+    among = λ x i. elim (has_last xs p x i) as (λ _. Has (ks ++ key_in p ∷ []) (key_in x)) [
       | inl o ↦ has_more ks (key_in p) (key_in x) (h.among x o)
       | inr e ↦ subst (λ (z : Part U K V R). Has (ks ++ key_in p ∷ []) (key_in z)) e (has_end ks (key_in p))
     ];
-    apart = λ x i. elim (has_end xs p x i) as (λ _. Leads (asked_of eq ps) (key_in x) k → ⊥) [ inl o ↦ h.apart x o | inr e ↦ subst (λ (z : Part U K V R). Leads (asked_of eq ps) (key_in z) k → ⊥) e apart ];
+    apart = λ x i. elim (has_last xs p x i) as (λ _. Leads (asked_of eq ps) (key_in x) k → ⊥) [ inl o ↦ h.apart x o | inr e ↦ subst (λ (z : Part U K V R). Leads (asked_of eq ps) (key_in z) k → ⊥) e apart ];
     distinct = subst AreDistinct (sym (map_last key_in xs p)) (distinct_end (map key_in xs) (key_in p) h.distinct new);
-    all = λ j i. elim (has_end ks (key_in p) j i) as (λ _. (m.kind j ≡ Injected) ⊎ ((x : Part U K V R) × Has (xs ++ p ∷ []) x × (key_in x ≡ j))) [
+    all = λ j i. elim (has_last ks (key_in p) j i) as (λ _. (m.kind j ≡ Injected) ⊎ ((x : Part U K V R) × Has (xs ++ p ∷ []) x × (key_in x ≡ j))) [
       | inl o ↦ elim (h.all j o) as (λ _. (m.kind j ≡ Injected) ⊎ ((x : Part U K V R) × Has (xs ++ p ∷ []) x × (key_in x ≡ j))) [ inl n ↦ inl n | inr r ↦ inr (r.0, has_more xs p r.0 r.1, r.2) ]
       | inr e ↦ inr (p, has_end xs p, e)
     ];

@@ -6,6 +6,7 @@ use Rattle.std.specs.List.{list_any, AllByRecursion, AllZip}
 use Rattle.std.specs.Option.{option_map}
 use Rattle.dice_key.specs.Lawful.{IsEquality}
 use Rattle.dice_key.specs.Meaning.{Meaning}
+use Rattle.dice_key.proofs.KeySets.{any_has, has_any}
 use Rattle.dice_model.specs.Eval.{HasValue}
 use Rattle.dice_model.proofs.Inputs.{injected_value}
 use Rattle.dice_model.proofs.Traces.{zip_map}
@@ -69,29 +70,12 @@ module _ {K : Type 0} (eq : K → K → Bool) (equality : IsEquality eq) where
       by_test again true i f = subst (λ z. eq k z ≡ true) (sym (equality.same q w i ∙ a.0)) (equality.itself k)
       by_test again false i f = again f
 
-  pub any_has : (ws : List K) (q : K) → Has ws q → list_any (eq q) ws ≡ true
-  any_has [] q h = absurd h
-  any_has (w ∷ ws) q (inl e) = ap (λ b. b || list_any (eq q) ws) (subst (λ z. eq q z ≡ true) (sym e) (equality.itself q))
-  any_has (w ∷ ws) q (inr h) = or_true (eq q w) (list_any (eq q) ws) (any_has ws q h)
-    where
-      or_true : (a b : Bool) → b ≡ true → (a || b) ≡ true
-      or_true true b e = refl
-      or_true false b e = e
-
-  has_any : (ws : List K) (q : K) → list_any (eq q) ws ≡ true → Has ws q
-  has_any [] q e = let c : false ≡ true = e in cc
-  has_any (w ∷ ws) q e = by_test (has_any ws q) (eq q w) refl e
-    where
-      by_test : (list_any (eq q) ws ≡ true → Has ws q) → (b : Bool) → eq q w ≡ b → (b || list_any (eq q) ws) ≡ true → Has (w ∷ ws) q
-      by_test again true i f = inl (sym (equality.same q w i))
-      by_test again false i f = inr (again f)
-
 module _ {K V : Type 0} (eq : K → K → Bool) (equality : IsEquality eq) (k : K) (ps : List (K × Share K (Held K V))) where
   pub alone_of : (j : K) (ws : List K) → ((q : K) → asks eq ps q (Tasked j) ≡ list_any (eq q) ws) → AllByRecursion (λ x. x ≡ k) ws → AsksAlone eq k ps j
   alone_of j ws mirrored all q on = only_this eq equality k ws all q (sym (mirrored q) ∙ on)
 
   pub more_of : (j q : K) (ws : List K) → ((q : K) → asks eq ps q (Tasked j) ≡ list_any (eq q) ws) → Has ws q → eq q k ≡ false → AsksMore eq k ps j
-  more_of j q ws mirrored h n = (q, other_way eq equality q k n, mirrored q ∙ any_has eq equality ws q h)
+  more_of j q ws mirrored h n = (q, other_way eq equality q k n, mirrored q ∙ has_any eq equality ws q h)
 
 -- each of the first is k, with one more
 pub all_same_more : {X K : Type 0} (f : X → K) (k : K) (xs : List X) (i : ℕ) (x : X) → i < length xs → x ≡ get_or xs i x → AllByRecursion (λ z. z ≡ k) (map f (take i xs)) → f x ≡ k → AllByRecursion (λ z. z ≡ k) (map f (take (i + 1) xs))
@@ -128,7 +112,7 @@ module _ {K V : Type 0} (eq : K → K → Bool) (m : Meaning K V) (cells : Seen 
       answered = so.answered;
       within = λ y h. has_more done j y.place.1 (so.within y h);
       distinct = so.distinct;
-      others = λ i h. elim (has_end done j i h) as (λ _. ((y : Wakes K V) × Has ys y × (y.place.1 ≡ i)) ⊎ AsksMore eq k ps i) [
+      others = λ i h. elim (has_last done j i h) as (λ _. ((y : Wakes K V) × Has ys y × (y.place.1 ≡ i)) ⊎ AsksMore eq k ps i) [
         | inl o ↦ so.others i o
         | inr q ↦ inr (subst (AsksMore eq k ps) q more)
       ];
@@ -137,12 +121,12 @@ module _ {K V : Type 0} (eq : K → K → Bool) (m : Meaning K V) (cells : Seen 
     -- one that is woken
     pub woken_more : (j : K) (all : List K) (y : Wakes K V) (zs : List (Wakes K V)) → all ≡ done ++ j ∷ [] → zs ≡ ys ++ y ∷ [] → (Has done j → ⊥) → y.place ≡ (v, j) → AsksAlone eq k ps j → IsAnswered eq m cells v k x ps j y.ahead → SoFar all zs
     woken_more j all y zs d e new is alone answered = subst (λ z. SoFar z zs) (sym d) (subst (SoFar (done ++ j ∷ [])) (sym e) (record {
-      version = λ z h. elim (has_end ys y z h) as (λ _. z.place.0 ≡ v) [ inl o ↦ so.version z o | inr q ↦ subst (λ (a : Wakes K V). a.place.0 ≡ v) q (ap (λ (p : ℕ × K). p.0) is) ];
-      only = λ z h. elim (has_end ys y z h) as (λ _. AsksAlone eq k ps z.place.1) [ inl o ↦ so.only z o | inr q ↦ subst (λ (a : Wakes K V). AsksAlone eq k ps a.place.1) q (subst (AsksAlone eq k ps) (sym key) alone) ];
-      answered = λ z h. elim (has_end ys y z h) as (λ _. IsAnswered eq m cells v k x ps z.place.1 z.ahead) [ inl o ↦ so.answered z o | inr q ↦ subst (λ (a : Wakes K V). IsAnswered eq m cells v k x ps a.place.1 a.ahead) q (subst (λ a. IsAnswered eq m cells v k x ps a y.ahead) (sym key) answered) ];
-      within = λ z h. elim (has_end ys y z h) as (λ _. Has (done ++ j ∷ []) z.place.1) [ inl o ↦ has_more done j z.place.1 (so.within z o) | inr q ↦ subst (λ (a : Wakes K V). Has (done ++ j ∷ []) a.place.1) q (subst (Has (done ++ j ∷ [])) (sym key) (has_end done j)) ];
+      version = λ z h. elim (has_last ys y z h) as (λ _. z.place.0 ≡ v) [ inl o ↦ so.version z o | inr q ↦ subst (λ (a : Wakes K V). a.place.0 ≡ v) q (ap (λ (p : ℕ × K). p.0) is) ];
+      only = λ z h. elim (has_last ys y z h) as (λ _. AsksAlone eq k ps z.place.1) [ inl o ↦ so.only z o | inr q ↦ subst (λ (a : Wakes K V). AsksAlone eq k ps a.place.1) q (subst (AsksAlone eq k ps) (sym key) alone) ];
+      answered = λ z h. elim (has_last ys y z h) as (λ _. IsAnswered eq m cells v k x ps z.place.1 z.ahead) [ inl o ↦ so.answered z o | inr q ↦ subst (λ (a : Wakes K V). IsAnswered eq m cells v k x ps a.place.1 a.ahead) q (subst (λ a. IsAnswered eq m cells v k x ps a y.ahead) (sym key) answered) ];
+      within = λ z h. elim (has_last ys y z h) as (λ _. Has (done ++ j ∷ []) z.place.1) [ inl o ↦ has_more done j z.place.1 (so.within z o) | inr q ↦ subst (λ (a : Wakes K V). Has (done ++ j ∷ []) a.place.1) q (subst (Has (done ++ j ∷ [])) (sym key) (has_end done j)) ];
       distinct = subst AreDistinct (sym (map-append (λ (z : Wakes K V). z.place.1) ys (y ∷ []))) (distinct_end (map (λ (z : Wakes K V). z.place.1) ys) y.place.1 so.distinct (λ h. new (subst (Has done) key (there ys so.within y.place.1 h))));
-      others = λ i h. elim (has_end done j i h) as (λ _. ((z : Wakes K V) × Has (ys ++ y ∷ []) z × (z.place.1 ≡ i)) ⊎ AsksMore eq k ps i) [
+      others = λ i h. elim (has_last done j i h) as (λ _. ((z : Wakes K V) × Has (ys ++ y ∷ []) z × (z.place.1 ≡ i)) ⊎ AsksMore eq k ps i) [
         | inl o ↦ elim (so.others i o) as (λ _. ((z : Wakes K V) × Has (ys ++ y ∷ []) z × (z.place.1 ≡ i)) ⊎ AsksMore eq k ps i) [ inl r ↦ inl (r.0, has_more ys y r.0 r.1, r.2) | inr r ↦ inr r ]
         | inr q ↦ inl (y, has_end ys y, key ∙ q)
       ];
@@ -160,11 +144,11 @@ module _ {K V : Type 0} (eq : K → K → Bool) (m : Meaning K V) (cells : Seen 
   pub all_woken : IsEquality eq → (askers : List K) (ys : List (Wakes K V)) → ((j : K) → list_any (eq j) askers ≡ asks eq ps k (Tasked j)) → SoFar askers ys → AreWoken eq m cells v k x ps ys
   all_woken equality askers ys are so = record {
     version = so.version;
-    asking = λ y h. sym (are y.place.1) ∙ any_has eq equality askers y.place.1 (so.within y h);
+    asking = λ y h. sym (are y.place.1) ∙ has_any eq equality askers y.place.1 (so.within y h);
     only = so.only;
     answered = so.answered;
     distinct = so.distinct;
-    others = λ j on. so.others j (has_any eq equality askers j (are j ∙ on));
+    others = λ j on. so.others j (any_has eq equality askers j (are j ∙ on));
   }
 
 -- ---- each that waits for one key alone has answers to its batch

@@ -107,12 +107,12 @@ module _ {K V : Type 0} (eq : K → K → Bool) (equality : IsEquality eq) (v : 
       all_more a there = record {
         events = lists_events a.asker a.held a.came (told_end v a.asker a.came) qs rs e f a.ends ∙ (ap (λ xs. xs ++ told_end v a.asker a.came ∷ []) all.events ∙ (append_assoc d.events (map tell es) (told_end v a.asker a.came ∷ []) ∙ ap (λ xs. d.events ++ xs) (sym (map-append tell es ((a.asker, a.came) ∷ [])))));
         first = (all.first.0, has_more es (a.asker, a.came) (k, all.first.0) all.first.1);
-        comes = λ p i. elim (has_end es (a.asker, a.came) p i) as (λ _. ComesOf path p.1) [ inl j ↦ all.comes p j | inr j ↦ subst (λ (z : K × Outcome K V). ComesOf path z.1) j a.comes ];
-        asked = λ p i. elim (has_end es (a.asker, a.came) p i) as (λ _. (p.0 ≡ k) ⊎ ((q : K × Outcome K V) × Has (es ++ (a.asker, a.came) ∷ []) q × (asks eq ps q.0 (Tasked p.0) ≡ true))) [
+        comes = λ p i. elim (has_last es (a.asker, a.came) p i) as (λ _. ComesOf path p.1) [ inl j ↦ all.comes p j | inr j ↦ subst (λ (z : K × Outcome K V). ComesOf path z.1) j a.comes ];
+        asked = λ p i. elim (has_last es (a.asker, a.came) p i) as (λ _. (p.0 ≡ k) ⊎ ((q : K × Outcome K V) × Has (es ++ (a.asker, a.came) ∷ []) q × (asks eq ps q.0 (Tasked p.0) ≡ true))) [
           | inl j ↦ elim (all.asked p j) as (λ _. (p.0 ≡ k) ⊎ ((q : K × Outcome K V) × Has (es ++ (a.asker, a.came) ∷ []) q × (asks eq ps q.0 (Tasked p.0) ≡ true))) [ inl s ↦ inl s | inr w ↦ inr (w.0, has_more es (a.asker, a.came) w.0 w.1, w.2) ]
           | inr j ↦ inr ((a.key, there.0), has_more es (a.asker, a.came) (a.key, there.0) there.1, subst (λ (z : K × Outcome K V). asks eq ps a.key (Tasked z.0) ≡ true) j (all.fewer a.key (Tasked a.asker) a.asks))
         ];
-        ended = λ p i. elim (has_end es (a.asker, a.came) p i) as (λ _. (g : Held K V) × (task_at eq ps p.0 ≡ Some g) × (goes_on g.standing ≡ true) × (task_at eq rs p.0 ≡ Some (held_ended g.name p.1))) [
+        ended = λ p i. elim (has_last es (a.asker, a.came) p i) as (λ _. (g : Held K V) × (task_at eq ps p.0 ≡ Some g) × (goes_on g.standing ≡ true) × (task_at eq rs p.0 ≡ Some (held_ended g.name p.1))) [
           | inl j ↦ (let w = all.ended p j in (w.0, w.1, w.2, ends_there a.asker a.held a.came qs rs e a.ends.tells.mid a.ends.tells.ends p.0 (λ s. new p j (sym s)) ∙ w.3))
           | inr j ↦ subst (λ (z : K × Outcome K V). (g : Held K V) × (task_at eq ps z.0 ≡ Some g) × (goes_on g.standing ≡ true) × (task_at eq rs z.0 ≡ Some (held_ended g.name z.1))) j
               (a.held, sym (all.others a.asker new) ∙ a.ends.tells.ends.was, a.ends.tells.ends.going, ends_here a.asker a.held a.came qs rs e a.ends.tells.mid a.ends.tells.ends)
@@ -126,7 +126,7 @@ module _ {K V : Type 0} (eq : K → K → Bool) (equality : IsEquality eq) (v : 
         ];
         distinct = subst AreDistinct (sym (map-append (λ (p : K × Outcome K V). p.0) es ((a.asker, a.came) ∷ [])))
             (distinct_end (map (λ (p : K × Outcome K V). p.0) es) a.asker all.distinct (λ h. (let r = key_ended es a.asker h in new r.0 r.1 r.2)));
-        idle = λ p i. elim (has_end es (a.asker, a.came) p i) as (λ _. is_live eq rs p.0 ≡ false) [
+        idle = λ p i. elim (has_last es (a.asker, a.came) p i) as (λ _. is_live eq rs p.0 ≡ false) [
           | inl j ↦ ends_off a.asker a.held a.came qs rs e a.ends.tells.mid a.ends.tells.ends p.0 (all.idle p j)
           | inr j ↦ subst (λ (z : K × Outcome K V). is_live eq rs z.0 ≡ false) j (ends_idle a.asker a.held a.came qs rs e a.ends.tells.mid a.ends.tells.ends)
         ];
@@ -166,7 +166,7 @@ module _ {K V : Type 0} (eq : K → K → Bool) (equality : IsEquality eq) (v : 
 
       -- what is on the list then is among these
       pub listed_more : (a : EndsAsker eq v path qs rs e f) → ((q : K) → Has e.ended q → (o : Outcome K V) × Has es (q, o)) → (q : K) → Has f.ended q → (o : Outcome K V) × Has (es ++ (a.asker, a.came) ∷ []) (q, o)
-      listed_more a among q i = elim (has_end e.ended a.asker q (subst (λ xs. Has xs q) ended i)) as (λ _. (o : Outcome K V) × Has (es ++ (a.asker, a.came) ∷ []) (q, o)) [
+      listed_more a among q i = elim (has_last e.ended a.asker q (subst (λ xs. Has xs q) ended i)) as (λ _. (o : Outcome K V) × Has (es ++ (a.asker, a.came) ∷ []) (q, o)) [
         | inl j ↦ (let w = among q j in (w.0, has_more es (a.asker, a.came) (q, w.0) w.1))
         | inr j ↦ (a.came, subst (λ z. Has (es ++ (a.asker, a.came) ∷ []) (z, a.came)) j (has_end es (a.asker, a.came)))
       ]
@@ -182,7 +182,7 @@ module _ {K V : Type 0} (eq : K → K → Bool) (equality : IsEquality eq) (v : 
       AreTold xs ts g = (q : K) (o : Outcome K V) → Has xs (q, o) → Has g.ended q ⊎ ((j : K) → asks eq ts q (Tasked j) ≡ false)
 
       pub untold_more : (a : EndsAsker eq v path qs rs e f) → AreTold es qs e → AreTold (es ++ (a.asker, a.came) ∷ []) rs f
-      untold_more a told q o i = elim (has_end es (a.asker, a.came) (q, o) i) as (λ _. Has f.ended q ⊎ ((j : K) → asks eq rs q (Tasked j) ≡ false)) [
+      untold_more a told q o i = elim (has_last es (a.asker, a.came) (q, o) i) as (λ _. Has f.ended q ⊎ ((j : K) → asks eq rs q (Tasked j) ≡ false)) [
         | inl h ↦ elim (told q o h) as (λ _. Has f.ended q ⊎ ((j : K) → asks eq rs q (Tasked j) ≡ false)) [
           | inl l ↦ inl (subst (λ xs. Has xs q) (sym ended) (has_more e.ended a.asker q l))
           | inr n ↦ inr (λ j. a.ends.tells.ends.asks q (Tasked j) ∙ ap (λ b. b && not (eq a.asker j)) (n j))
@@ -195,7 +195,7 @@ module _ {K V : Type 0} (eq : K → K → Bool) (equality : IsEquality eq) (v : 
 
       pub untold_told : (t : HasTold eq qs rs e f) → AreTold es qs e → AreTold es rs f
       untold_told t told q o i = elim (told q o i) as (λ _. Has f.ended q ⊎ ((j : K) → asks eq rs q (Tasked j) ≡ false)) [
-        | inl l ↦ elim (has_end f.ended t.key q (subst (λ xs. Has xs q) (ap (λ (y : DeskSeen K V). y.ended) t.desk) l)) as (λ _. Has f.ended q ⊎ ((j : K) → asks eq rs q (Tasked j) ≡ false)) [
+        | inl l ↦ elim (has_last f.ended t.key q (subst (λ xs. Has xs q) (ap (λ (y : DeskSeen K V). y.ended) t.desk) l)) as (λ _. Has f.ended q ⊎ ((j : K) → asks eq rs q (Tasked j) ≡ false)) [
           | inl h ↦ inl h
           | inr h ↦ inr (λ j. t.asks q (Tasked j) ∙ subst (λ z. asks eq qs z (Tasked j) ≡ false) h (t.none j))
         ]
@@ -214,7 +214,7 @@ module _ {K V : Type 0} (eq : K → K → Bool) (equality : IsEquality eq) (v : 
 
     -- the first on the list
     pub listed_first : (k : K) (h : Held K V) (o : Outcome K V) (ps qs : List (K × Share K (Held K V))) (d e : DeskSeen K V) → ListsEnd eq v k h o (told_end v k o) ps qs d e → d.ended ≡ [] → (q : K) → Has e.ended q → (r : Outcome K V) × Has {X = K × Outcome K V} ((k, o) ∷ []) (q, r)
-    listed_first k h o ps qs d e l none q i = elim (has_end [] k q (subst (λ xs. Has xs q) ended i)) as (λ _. (r : Outcome K V) × Has {X = K × Outcome K V} ((k, o) ∷ []) (q, r)) [
+    listed_first k h o ps qs d e l none q i = elim (has_last [] k q (subst (λ xs. Has xs q) ended i)) as (λ _. (r : Outcome K V) × Has {X = K × Outcome K V} ((k, o) ∷ []) (q, r)) [
       | inl j ↦ absurd j
       | inr j ↦ (o, inl (λ z. (j z, o)))
     ]

@@ -1,10 +1,11 @@
 //! A promise on the universe of Buck targets: one seat's calls, one after another.
-ghost use Rattle.std.specs.Prelude.{◌≡◌, IfOk};
-ghost use Rattle.turnstile.specs.Seats.{first_seat, IsSeatOf, IsWriter};
+ghost use Rattle.std.specs.Prelude.{◌≡◌};
+ghost use Rattle.turnstile.specs.Seats.{IsSeatOf, IsWriter};
 
+use crate::way::{Came, answered, settled, start, way_of};
 use action_digest::{Buck, Key, Value};
 use buck_label::{Label, Path, Text};
-use dice_engine::{Answer, Engine, Open, Seat, Settled, Updater, Worked};
+use dice_engine::{Engine, Seat, Updater, Worked};
 use dice_key::NoMemory;
 use std::alloc::Global;
 use std::sync::{Arc, Wait};
@@ -39,29 +40,13 @@ fn seen_in(alloc: Global, value: &Value) -> Result<Seen, NoMemory> {
     }
 }
 
-fn answered(alloc: Global, answer: &Answer<Buck>) -> Result<Seen, NoMemory> {
-    match answer {
-        Answer::Pending => Ok(Seen::Pending),
-        Answer::Value(value) => seen_in(alloc, value),
-        Answer::Cycle(_) => Ok(Seen::Other),
-        Answer::Gone => Ok(Seen::Gone),
+fn seen_of(alloc: Global, came: &Came<Buck>) -> Result<Seen, NoMemory> {
+    match came {
+        Came::Pending => Ok(Seen::Pending),
+        Came::Value(value) => seen_in(alloc, value),
+        Came::Cycle(_) => Ok(Seen::Other),
+        Came::Gone => Ok(Seen::Gone),
     }
-}
-
-fn settled(alloc: Global, settled: &Settled<Buck>) -> Result<Seen, NoMemory> {
-    match settled {
-        Settled::Value(value) => seen_in(alloc, value),
-        Settled::Cycle(_) => Ok(Seen::Other),
-        Settled::Gone => Ok(Seen::Gone),
-    }
-}
-
-/// An engine for one writer, and its first seat.
-fn start<R: Wait>(rt: &R, alloc: Global) -> Result<(Engine<Buck>, Seat<Buck>), NoMemory>
-    ensures { IfOk result (λ t. t.1 ≡ first_seat t.0 1) }
-{
-    let universe = Arc::new(alloc, Buck::new(alloc)?)?;
-    Engine::new(rt, alloc, universe, 1)
 }
 
 /// Commits the target file of the package `a`, and answers the version, if the commit is not refused.
@@ -91,22 +76,15 @@ fn digest_key(alloc: Global) -> Result<Arc<Key>, NoMemory> {
 #[test]
 fn a_promise_is_pending_then_settled_and_at_last_gone(rt: HostRuntime) -> Result<(), Fail> {
     let alloc = rt.alloc();
-    let (engine, mut seat) = start(&rt, alloc)?;
+    let (engine, mut seat) = start(&rt, alloc, Buck::new(alloc)?, 1)?;
     let made = commit(&rt, alloc, &engine, &mut seat)?;
     assert_eq!(rt; made, Some(1));
-    let transaction = engine.open(&rt, &mut seat)?;
-    assert_eq!(rt; transaction.version, 1);
     let key = digest_key(alloc)?;
-    let promise = engine.ask(&rt, &mut seat, &transaction, key)?;
-    let first = engine.poll(&rt, &mut seat, &promise)?;
-    let worked = engine.work(&rt, &mut seat, &Open, 0);
-    let last = engine.wait(&rt, &mut seat, &promise, &Open, 0)?;
-    let idle = engine.work(&rt, &mut seat, &Open, 0);
-    engine.close(&rt, &mut seat, transaction);
-    let gone = engine.poll(&rt, &mut seat, &promise)?;
-    assert_eq!(rt; answered(alloc, &first)?, Seen::Pending);
-    assert_eq!(rt; (worked, idle), (Worked::Did, Worked::Idle));
-    assert_eq!(rt; settled(alloc, &last)?, Seen::Digest);
-    assert_eq!(rt; answered(alloc, &gone)?, Seen::Gone);
+    let way = way_of(&rt, alloc, &engine, &mut seat, key)?;
+    assert_eq!(rt; way.version, 1);
+    assert_eq!(rt; (way.worked, way.idle), (Worked::Did, Worked::Idle));
+    assert_eq!(rt; seen_of(alloc, &answered(way.first))?, Seen::Pending);
+    assert_eq!(rt; seen_of(alloc, &settled(way.last))?, Seen::Digest);
+    assert_eq!(rt; seen_of(alloc, &answered(way.gone))?, Seen::Gone);
     Ok(())
 }

@@ -8,3 +8,5 @@ mod buck;
 mod tiny;
 #[cfg(test)]
 mod turns;
+#[cfg(test)]
+mod way;

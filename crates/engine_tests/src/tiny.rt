@@ -1,8 +1,9 @@
 //! An engine on the example universe: calls one after another, by one seat and by two.
-ghost use Rattle.std.specs.Prelude.{◌≡◌, IfOk};
-ghost use Rattle.turnstile.specs.Seats.{first_seat, IsSeatOf, IsWriter};
+ghost use Rattle.std.specs.Prelude.{◌≡◌};
+ghost use Rattle.turnstile.specs.Seats.{IsSeatOf, IsWriter};
 
-use dice_engine::{Answer, CommitRefusal, Engine, Open, Seat, Settled, Updater, Worked};
+use crate::way::{Came, answered, settled, start, way_of};
+use dice_engine::{CommitRefusal, Engine, Open, Seat, Updater, Worked};
 use dice_key::{Line, NoMemory};
 use std::alloc::Global;
 use std::sync::{Arc, Wait};
@@ -19,40 +20,16 @@ enum Seen {
     Gone,
 }
 
-fn number_of(value: &Value) -> Seen {
-    match value {
-        Value::Number(number) => Seen::Number(*number),
-        Value::Reading(version) => Seen::Reading(*version),
+fn seen_of(came: &Came<Tiny>) -> Seen {
+    match came {
+        Came::Pending => Seen::Pending,
+        Came::Value(value) => match **value {
+            Value::Number(number) => Seen::Number(number),
+            Value::Reading(version) => Seen::Reading(version),
+        },
+        Came::Cycle(length) => Seen::Cycle(*length),
+        Came::Gone => Seen::Gone,
     }
-}
-
-fn answered(answer: &Answer<Tiny>) -> Seen {
-    match answer {
-        Answer::Pending => Seen::Pending,
-        Answer::Value(value) => number_of(value),
-        Answer::Cycle(path) => Seen::Cycle(path.keys().len()),
-        Answer::Gone => Seen::Gone,
-    }
-}
-
-fn settled(settled: &Settled<Tiny>) -> Seen {
-    match settled {
-        Settled::Value(value) => number_of(value),
-        Settled::Cycle(path) => Seen::Cycle(path.keys().len()),
-        Settled::Gone => Seen::Gone,
-    }
-}
-
-/// An engine for so many writers, and its first seat.
-fn start<R: Wait>(
-    rt: &R,
-    alloc: Global,
-    writers: u64,
-) -> Result<(Engine<Tiny>, Seat<Tiny>), NoMemory>
-    ensures { IfOk result (λ t. t.1 ≡ first_seat t.0 writers) }
-{
-    let universe = Arc::new(alloc, Tiny::new(alloc)?)?;
-    Engine::new(rt, alloc, universe, writers)
 }
 
 /// What a commit came to: its version, or a key that it may not set.
@@ -125,7 +102,7 @@ fn all_as_wanted<R: Wait>(
 #[test]
 fn only_values_that_differ_make_a_version(rt: HostRuntime) -> Result<(), Fail> {
     let alloc = rt.alloc();
-    let (engine, mut seat) = start(&rt, alloc, 1)?;
+    let (engine, mut seat) = start(&rt, alloc, Tiny::new(alloc)?, 1)?;
     let all = all_as_wanted(&rt, alloc, &engine, &mut seat)?;
     assert!(rt; all);
     Ok(())
@@ -134,31 +111,24 @@ fn only_values_that_differ_make_a_version(rt: HostRuntime) -> Result<(), Fail> {
 #[test]
 fn a_promise_is_pending_then_settled_and_at_last_gone(rt: HostRuntime) -> Result<(), Fail> {
     let alloc = rt.alloc();
-    let (engine, mut seat) = start(&rt, alloc, 1)?;
+    let (engine, mut seat) = start(&rt, alloc, Tiny::new(alloc)?, 1)?;
     let made = commit(&rt, alloc, &engine, &mut seat, &CELLS)?;
     assert_eq!(rt; made, Made::Version(1));
-    let transaction = engine.open(&rt, &mut seat)?;
-    assert_eq!(rt; transaction.version, 1);
     let key = Arc::new(alloc, Place::Sum(1, 2))?;
-    let promise = engine.ask(&rt, &mut seat, &transaction, key)?;
-    let first = engine.poll(&rt, &mut seat, &promise)?;
-    let worked = engine.work(&rt, &mut seat, &Open, 0);
-    let last = engine.wait(&rt, &mut seat, &promise, &Open, 0)?;
-    let idle = engine.work(&rt, &mut seat, &Open, 0);
+    let way = way_of(&rt, alloc, &engine, &mut seat, key)?;
     assert!(rt; !engine.is_taken());
-    engine.close(&rt, &mut seat, transaction);
-    let gone = engine.poll(&rt, &mut seat, &promise)?;
-    assert_eq!(rt; answered(&first), Seen::Pending);
-    assert_eq!(rt; (worked, idle), (Worked::Did, Worked::Idle));
-    assert_eq!(rt; settled(&last), Seen::Number(5));
-    assert_eq!(rt; answered(&gone), Seen::Gone);
+    assert_eq!(rt; way.version, 1);
+    assert_eq!(rt; (way.worked, way.idle), (Worked::Did, Worked::Idle));
+    assert_eq!(rt; seen_of(&answered(way.first)), Seen::Pending);
+    assert_eq!(rt; seen_of(&settled(way.last)), Seen::Number(5));
+    assert_eq!(rt; seen_of(&answered(way.gone)), Seen::Gone);
     Ok(())
 }
 
 #[test]
 fn a_seat_waits_for_what_another_seat_may_work_on(rt: HostRuntime) -> Result<(), Fail> {
     let alloc = rt.alloc();
-    let (engine, mut zero) = start(&rt, alloc, 1)?;
+    let (engine, mut zero) = start(&rt, alloc, Tiny::new(alloc)?, 1)?;
     let mut one = engine.split(&mut zero)?;
     let transaction = engine.open(&rt, &mut zero)?;
     let ring = Arc::new(alloc, Place::Ring(true))?;
@@ -167,7 +137,7 @@ fn a_seat_waits_for_what_another_seat_may_work_on(rt: HostRuntime) -> Result<(),
     let last = engine.wait(&rt, &mut zero, &promise, &Open, 0)?;
     engine.leave(&rt, &mut zero, promise);
     assert_eq!(rt; worked, Worked::Did);
-    assert_eq!(rt; settled(&last), Seen::Cycle(2));
+    assert_eq!(rt; seen_of(&settled(last)), Seen::Cycle(2));
     assert_eq!(rt; engine.join(&mut zero, one), 1);
     assert_eq!(rt; engine.work(&rt, &mut zero, &Open, 0), Worked::Idle);
     Ok(())
@@ -189,17 +159,13 @@ fn are_these(lines: &[Line], texts: &[&str]) -> bool {
 #[test]
 fn the_log_has_a_line_for_each_event(rt: HostRuntime) -> Result<(), Fail> {
     let alloc = rt.alloc();
-    let (engine, mut seat) = start(&rt, alloc, 1)?;
+    let (engine, mut seat) = start(&rt, alloc, Tiny::new(alloc)?, 1)?;
     let none = engine.log(&rt, alloc, &mut seat)?;
     assert!(rt; none.is_empty());
     let made = commit(&rt, alloc, &engine, &mut seat, &CELLS)?;
     assert_eq!(rt; made, Made::Version(1));
-    let transaction = engine.open(&rt, &mut seat)?;
     let key = Arc::new(alloc, Place::Sum(1, 2))?;
-    let promise = engine.ask(&rt, &mut seat, &transaction, key)?;
-    let last = engine.wait(&rt, &mut seat, &promise, &Open, 0)?;
-    assert_eq!(rt; settled(&last), Seen::Number(5));
-    let lines = engine.log(&rt, alloc, &mut seat)?;
+    let way = way_of(&rt, alloc, &engine, &mut seat, key)?;
     let texts = [
         "commit 0 1 2",
         "open 0 1",
@@ -207,6 +173,6 @@ fn the_log_has_a_line_for_each_event(rt: HostRuntime) -> Result<(), Fail> {
         "start 1 sum 1 2 new",
         "end 1 sum 1 2",
     ];
-    assert!(rt; are_these(&lines, &texts));
+    assert!(rt; are_these(&way.lines, &texts));
     Ok(())
 }

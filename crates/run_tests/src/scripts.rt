@@ -35,16 +35,41 @@ pub(crate) const FIRST: &[u8] =
 pub(crate) const FIRST_OUT: &[u8] =
     b"commit 1\nopen t 1\nr 1 action 82\nwrite_file\nw.txt\nba7816bf8f01cfea414140de5dae2223b00361a396177a9cb410ff61f20015ad\n";
 
+/// A script, the status of its run, and its output.
+pub(crate) type Row = (&'static [u8], u8, &'static [u8]);
+
+/// Runs scripts with these words, each with the same bytes before it; the number of the first row whose run says otherwise.
+pub(crate) fn first_other<R: Threads + Wait + Sync>(
+    rt: &R,
+    alloc: Global,
+    words: &[&str],
+    before: &[u8],
+    rows: &[Row],
+) -> Result<Option<usize>, NoMemory> {
+    for i in 0..rows.len() {
+        let (rest, status, wanted) = rows[i];
+        let mut script = Vec::from_slice(alloc, before)?;
+        script.extend_from_slice(rest)?;
+        let found = outcome(rt, alloc, words, &script, &[], &[])?;
+        if found.0 != status || found.1.as_slice() != wanted {
+            return Ok(Some(i));
+        }
+    }
+    Ok(None)
+}
+
+pub(crate) const RUN: &[&str] = &["dice", "run"];
+
 #[test]
 fn a_program_with_memory_answers_it(rt: HostRuntime) -> Result<(), Fail> {
-    let (status, out) = outcome(&rt, rt.alloc(), &["dice", "run"], FIRST, &[], &[])?;
-    assert!(rt; status == 0 && out.as_slice() == FIRST_OUT);
+    let rows: [Row; 1] = [(FIRST, 0, FIRST_OUT)];
+    assert_eq!(rt; first_other(&rt, rt.alloc(), RUN, b"", &rows)?, None);
     Ok(())
 }
 
 #[test]
 fn scripts_and_their_outputs(rt: HostRuntime) -> Result<(), Fail> {
-    let rows: [(&[u8], u8, &[u8]); 10] = [
+    let rows: [Row; 10] = [
         (b"", 0, b""),
         (
             b"put a/BUCK 52\nwrite_file(name = \"w\", out = \"w.txt\", content = \"\")\n\ncommit\nopen t\naction t r //a:w\n",
@@ -84,32 +109,13 @@ fn scripts_and_their_outputs(rt: HostRuntime) -> Result<(), Fail> {
         (b"put a/x 5\nabc", 5, b"line 1: count\n"),
         (b"open t\nwait r\n", 5, b"line 2: unknown\n"),
     ];
-    for row in &rows {
-        let (status, out) = outcome(&rt, rt.alloc(), &["dice", "run"], row.0, &[], &[])?;
-        assert!(rt; status == row.1 && out.as_slice() == row.2);
-    }
+    assert_eq!(rt; first_other(&rt, rt.alloc(), RUN, b"", &rows)?, None);
     Ok(())
-}
-
-/// Runs these scripts, and counts those whose status and output are as told.
-fn as_told<R: Threads + Wait + Sync>(
-    rt: &R,
-    alloc: Global,
-    rows: &[(&[u8], u8, &[u8])],
-) -> Result<usize, NoMemory> {
-    let mut number = 0usize;
-    for row in rows {
-        let (status, out) = outcome(rt, alloc, &["dice", "run"], row.0, &[], &[])?;
-        if status == row.1 && out.as_slice() == row.2 {
-            number = number.saturating_add(1);
-        }
-    }
-    Ok(number)
 }
 
 #[test]
 fn files_that_come_back_stamps_and_cutoff(rt: HostRuntime) -> Result<(), Fail> {
-    let rows: [(&[u8], u8, &[u8]); 4] = [
+    let rows: [Row; 4] = [
         (
             b"put a/BUCK 24\nexport_file(name = \"f\")\n\nput a/f 1\na\ncommit\nopen t\nput a/f 1\nb\ncommit\nopen s\naction t r //a:f\naction s q //a:f\n",
             0,
@@ -131,13 +137,13 @@ fn files_that_come_back_stamps_and_cutoff(rt: HostRuntime) -> Result<(), Fail> {
             b"commit 1\nopen t 1\nr 1 58476ad4253eb4b4c1579cfe419c338454a374dfc141a2a21e68651e157b7de9\ncommit 2\ncommit 3\nopen u 3\nq 3 20900ba8f1c1e4695e6a29575e3a2bfe278f394ffd22086c9e78ee26a843e1c8\n",
         ),
     ];
-    assert_eq!(rt; as_told(&rt, rt.alloc(), &rows)?, 4);
+    assert_eq!(rt; first_other(&rt, rt.alloc(), RUN, b"", &rows)?, None);
     Ok(())
 }
 
 #[test]
 fn targets_of_targets_and_cycles(rt: HostRuntime) -> Result<(), Fail> {
-    let rows: [(&[u8], u8, &[u8]); 7] = [
+    let rows: [Row; 7] = [
         (
             b"put a/BUCK 75\nfilegroup(name = \"x\", srcs = [\":y\"])\nwrite_file(name = \"y\", content = \"a\")\n\ncommit\nopen t\nask t r //a:x\nwait r\nput a/BUCK 75\nwrite_file(name = \"x\", content = \"b\")\nfilegroup(name = \"y\", srcs = [\":x\"])\n\ncommit\nopen s\nask s q //a:x\nask s p //a:y\n",
             0,
@@ -174,13 +180,13 @@ fn targets_of_targets_and_cycles(rt: HostRuntime) -> Result<(), Fail> {
             b"commit 1\nopen t 1\nr 1 cycle //a:x\n",
         ),
     ];
-    assert_eq!(rt; as_told(&rt, rt.alloc(), &rows)?, 7);
+    assert_eq!(rt; first_other(&rt, rt.alloc(), RUN, b"", &rows)?, None);
     Ok(())
 }
 
 #[test]
 fn hostile_target_files(rt: HostRuntime) -> Result<(), Fail> {
-    let rows: [(&[u8], u8, &[u8]); 10] = [
+    let rows: [Row; 10] = [
         (
             b"put a/BUCK 34\nfilegroup(name = \"x\", srcs = [,])\n\ncommit\nopen t\nask t r //a:x\n",
             0,
@@ -232,23 +238,17 @@ fn hostile_target_files(rt: HostRuntime) -> Result<(), Fail> {
             b"commit 1\nopen t 1\nr 1 fault bad-file a/BUCK 1\n",
         ),
     ];
-    assert_eq!(rt; as_told(&rt, rt.alloc(), &rows)?, 10);
+    assert_eq!(rt; first_other(&rt, rt.alloc(), RUN, b"", &rows)?, None);
     Ok(())
 }
 
-/// One target file is put and committed, `open t`, and then these lines.
-fn in_one_version(alloc: Global, lines: &[u8]) -> Result<Vec<u8>, NoMemory> {
-    let mut script = Vec::from_slice(
-        alloc,
-        b"put a/BUCK 55\nwrite_file(name = \"w\", out = \"w.txt\", content = \"abc\")\n\ncommit\n",
-    )?;
-    script.extend_from_slice(lines)?;
-    Ok(script)
-}
+/// One target file is put and committed.
+const COMMITTED: &[u8] =
+    b"put a/BUCK 55\nwrite_file(name = \"w\", out = \"w.txt\", content = \"abc\")\n\ncommit\n";
 
 #[test]
 fn requests_that_are_given_up_and_paths_that_are_dropped(rt: HostRuntime) -> Result<(), Fail> {
-    let rows: [(&[u8], u8, &[u8]); 7] = [
+    let rows: [Row; 7] = [
         (
             b"open t\nask t r //a:w\nask t q //a:w\ncancel r\n",
             0,
@@ -281,47 +281,35 @@ fn requests_that_are_given_up_and_paths_that_are_dropped(rt: HostRuntime) -> Res
         ),
         (b"drop a/x\ncommit\n", 0, b"commit 1\ncommit 1\n"),
     ];
-    for row in &rows {
-        let script = in_one_version(rt.alloc(), row.0)?;
-        let (status, out) = outcome(&rt, rt.alloc(), &["dice", "run"], &script, &[], &[])?;
-        assert!(rt; status == row.1 && out.as_slice() == row.2);
-    }
-    let (status, out) = outcome(
-        &rt,
-        rt.alloc(),
-        &["dice", "run"],
-        b"drop a/x\ncommit\n",
-        &[],
-        &[],
-    )?;
-    assert!(rt; status == 0 && out.as_slice() == b"commit 0\n".as_slice());
+    assert_eq!(rt; first_other(&rt, rt.alloc(), RUN, COMMITTED, &rows)?, None);
+    let rows: [Row; 1] = [(b"drop a/x\ncommit\n", 0, b"commit 0\n")];
+    assert_eq!(rt; first_other(&rt, rt.alloc(), RUN, b"", &rows)?, None);
     Ok(())
 }
 
 #[test]
 fn hostile_scripts(rt: HostRuntime) -> Result<(), Fail> {
-    let rows: [(&[u8], &[u8]); 10] = [
-        (b"put a/x 4194305\n", b"line 1: number\n"),
-        (b"put a/x 01\n", b"line 1: number\n"),
-        (b"put a//x 1\n", b"line 1: path\n"),
-        (b"put a/x 1\nab\n", b"line 1: count\n"),
-        (b"commit \n", b"line 1: word\n"),
-        (b"open t\nclose t\nopen t\n", b"line 3: taken\n"),
-        (b"open t\nclose t\nclose t\n", b"line 3: open\n"),
-        (b"wait r\n", b"line 1: unknown\n"),
+    let rows: [Row; 10] = [
+        (b"put a/x 4194305\n", 5, b"line 1: number\n"),
+        (b"put a/x 01\n", 5, b"line 1: number\n"),
+        (b"put a//x 1\n", 5, b"line 1: path\n"),
+        (b"put a/x 1\nab\n", 5, b"line 1: count\n"),
+        (b"commit \n", 5, b"line 1: word\n"),
+        (b"open t\nclose t\nopen t\n", 5, b"line 3: taken\n"),
+        (b"open t\nclose t\nclose t\n", 5, b"line 3: open\n"),
+        (b"wait r\n", 5, b"line 1: unknown\n"),
         (
             b"open t\nask t r //a:w\nclose t\nwait r\n",
+            5,
             b"line 4: cancelled\n",
         ),
         (
             b"open abcdefghijklmnopqrstuvwxyzabcdefg\n",
+            5,
             b"line 1: name\n",
         ),
     ];
-    for row in &rows {
-        let (status, out) = outcome(&rt, rt.alloc(), &["dice", "run"], row.0, &[], &[])?;
-        assert!(rt; status == 5 && out.as_slice() == row.1);
-    }
+    assert_eq!(rt; first_other(&rt, rt.alloc(), RUN, b"", &rows)?, None);
     Ok(())
 }
 
@@ -334,23 +322,21 @@ fn words_that_name_no_command_and_scripts_that_are_too_long(rt: HostRuntime) -> 
         &["dice", "bulk", "0"],
         &["dice", "bulk", "10001"],
     ];
+    let rows: [Row; 1] = [(FIRST, 2, b"")];
     for words in refused {
-        let (status, out) = outcome(&rt, alloc, words, FIRST, &[], &[])?;
-        assert!(rt; status == 2 && out.is_empty());
+        assert_eq!(rt; first_other(&rt, alloc, words, b"", &rows)?, None);
     }
-    let long = vec![in alloc; b'\n'; 4_194_305]?;
-    let (status, out) = outcome(&rt, alloc, &["dice", "run"], &long, &[], &[])?;
-    assert!(rt; status == 5 && out.as_slice() == b"script too long\n".as_slice());
-    let (status, out) = outcome(&rt, alloc, &["dice", "run"], &long[1..], &[], &[])?;
-    assert!(rt; status == 0 && out.is_empty());
+    let long = vec![in alloc; b'\n'; 4_194_304]?;
+    let rows: [Row; 2] = [(b"", 0, b""), (b"\n", 5, b"script too long\n")];
+    assert_eq!(rt; first_other(&rt, alloc, RUN, &long, &rows)?, None);
     Ok(())
 }
 
 #[test]
 fn failing_reads_and_writes(rt: HostRuntime) -> Result<(), Fail> {
-    let (status, out) = outcome(&rt, rt.alloc(), &["dice", "run"], FIRST, &[1], &[])?;
+    let (status, out) = outcome(&rt, rt.alloc(), RUN, FIRST, &[1], &[])?;
     assert!(rt; status == 3 && out.is_empty());
-    let (status, out) = outcome(&rt, rt.alloc(), &["dice", "run"], FIRST, &[], &[1])?;
+    let (status, out) = outcome(&rt, rt.alloc(), RUN, FIRST, &[], &[1])?;
     assert!(rt; status == 4 && out.as_slice() == b"commit 1\no".as_slice());
     Ok(())
 }

@@ -1,5 +1,5 @@
 //! Runs by several workers, with traces, and of the bulk script.
-use crate::scripts::{FIRST, FIRST_OUT, outcome};
+use crate::scripts::{FIRST, FIRST_OUT, Row, first_other};
 use action_digest::Buck;
 use dice_engine::Engine;
 use dice_io::NoMemory;
@@ -10,63 +10,55 @@ use std::sync::{Arc, Wait};
 use std::test::Fail;
 use std::thread::{self, Threads};
 
-/// The words, the script, and the output that belongs to them; the status is 0.
-type Row = (&'static [&'static str], &'static [u8], &'static [u8]);
-
-/// The number of the first row whose run says otherwise.
-fn first_other<R: Threads + Wait + Sync>(
-    rt: &R,
-    alloc: Global,
-    rows: &[Row],
-) -> Result<Option<usize>, NoMemory> {
-    for i in 0..rows.len() {
-        let (words, script, wanted) = rows[i];
-        let (status, out) = outcome(rt, alloc, words, script, &[], &[])?;
-        if status != 0 || out.as_slice() != wanted {
-            return Ok(Some(i));
-        }
-    }
-    Ok(None)
-}
-
 #[test]
 fn workers_change_nothing(rt: HostRuntime) -> Result<(), Fail> {
     let numbers = ["0", "1", "2", "4", "16", "64"];
     for number in numbers {
         let words: [&'static str; 4] = ["dice", "run", "--workers", number];
-        for (script, wanted) in &SCRIPTS {
-            let (status, out) = outcome(&rt, rt.alloc(), &words, script, &[], &[])?;
-            assert!(rt; status == 0 && out.as_slice() == *wanted);
-        }
+        assert_eq!(rt; first_other(&rt, rt.alloc(), &words, b"", &SCRIPTS)?, None);
     }
     Ok(())
 }
 
 #[test]
 fn traces_and_summaries(rt: HostRuntime) -> Result<(), Fail> {
-    let rows: [Row; 4] = [
+    let rows: [(&[&str], Row); 4] = [
         (
             &["dice", "run", "--workers", "0", "--trace"],
-            b"put a/BUCK 76\nwrite_file(name = \"u\", content = \"a\")\nwrite_file(name = \"w\", content = \"b\")\n\ncommit\nopen t\nask t r //a:w\nwait r\nput a/BUCK 76\nwrite_file(name = \"u\", content = \"c\")\nwrite_file(name = \"w\", content = \"b\")\n\ncommit\nopen s\nask s q //a:w\n",
-            b"commit 1\nopen t 1\nr 1 03da25344a55dde4115d94d454d37d56e1b44ab7eadead40c654e96380bb66f1\ncommit 2\nopen s 2\nq 2 03da25344a55dde4115d94d454d37d56e1b44ab7eadead40c654e96380bb66f1\ntrace 22\ncommit 0 a/BUCK\nopen 0 1\nask 0 1 digest //a:w\nstart 1 digest //a:w new\nstart 1 action //a:w new\nstart 1 rule //a:w new\nstart 1 package //a new\nend 1 package //a\nend 1 rule //a:w\nend 1 action //a:w\nend 1 digest //a:w\ncommit 0 a/BUCK\nopen 0 2\nask 0 12 digest //a:w\nstart 2 package //a differs 1 source a/BUCK\nend 2 package //a\nstart 2 rule //a:w differs 1 package //a\nend 2 rule //a:w\nkeep 2 action //a:w 1\nkeep 2 digest //a:w 1\nclose 0 1\nclose 0 12\n",
+            (
+                b"put a/BUCK 76\nwrite_file(name = \"u\", content = \"a\")\nwrite_file(name = \"w\", content = \"b\")\n\ncommit\nopen t\nask t r //a:w\nwait r\nput a/BUCK 76\nwrite_file(name = \"u\", content = \"c\")\nwrite_file(name = \"w\", content = \"b\")\n\ncommit\nopen s\nask s q //a:w\n",
+                0,
+                b"commit 1\nopen t 1\nr 1 03da25344a55dde4115d94d454d37d56e1b44ab7eadead40c654e96380bb66f1\ncommit 2\nopen s 2\nq 2 03da25344a55dde4115d94d454d37d56e1b44ab7eadead40c654e96380bb66f1\ntrace 22\ncommit 0 a/BUCK\nopen 0 1\nask 0 1 digest //a:w\nstart 1 digest //a:w new\nstart 1 action //a:w new\nstart 1 rule //a:w new\nstart 1 package //a new\nend 1 package //a\nend 1 rule //a:w\nend 1 action //a:w\nend 1 digest //a:w\ncommit 0 a/BUCK\nopen 0 2\nask 0 12 digest //a:w\nstart 2 package //a differs 1 source a/BUCK\nend 2 package //a\nstart 2 rule //a:w differs 1 package //a\nend 2 rule //a:w\nkeep 2 action //a:w 1\nkeep 2 digest //a:w 1\nclose 0 1\nclose 0 12\n",
+            ),
         ),
         (
             &["dice", "run", "--workers", "0", "--trace"],
-            b"put a/BUCK 76\nwrite_file(name = \"u\", content = \"a\")\nwrite_file(name = \"w\", content = \"b\")\n\ncommit\nopen t\nask t r //a:w\nwait r\nput z/f 1\na\ncommit\nopen s\nask s q //a:w\n",
-            b"commit 1\nopen t 1\nr 1 03da25344a55dde4115d94d454d37d56e1b44ab7eadead40c654e96380bb66f1\ncommit 2\nopen s 2\nq 2 03da25344a55dde4115d94d454d37d56e1b44ab7eadead40c654e96380bb66f1\ntrace 17\ncommit 0 a/BUCK\nopen 0 1\nask 0 1 digest //a:w\nstart 1 digest //a:w new\nstart 1 action //a:w new\nstart 1 rule //a:w new\nstart 1 package //a new\nend 1 package //a\nend 1 rule //a:w\nend 1 action //a:w\nend 1 digest //a:w\ncommit 0 z/f\nopen 0 2\nask 0 12 digest //a:w\nkeep 2 digest //a:w 1\nclose 0 1\nclose 0 12\n",
+            (
+                b"put a/BUCK 76\nwrite_file(name = \"u\", content = \"a\")\nwrite_file(name = \"w\", content = \"b\")\n\ncommit\nopen t\nask t r //a:w\nwait r\nput z/f 1\na\ncommit\nopen s\nask s q //a:w\n",
+                0,
+                b"commit 1\nopen t 1\nr 1 03da25344a55dde4115d94d454d37d56e1b44ab7eadead40c654e96380bb66f1\ncommit 2\nopen s 2\nq 2 03da25344a55dde4115d94d454d37d56e1b44ab7eadead40c654e96380bb66f1\ntrace 17\ncommit 0 a/BUCK\nopen 0 1\nask 0 1 digest //a:w\nstart 1 digest //a:w new\nstart 1 action //a:w new\nstart 1 rule //a:w new\nstart 1 package //a new\nend 1 package //a\nend 1 rule //a:w\nend 1 action //a:w\nend 1 digest //a:w\ncommit 0 z/f\nopen 0 2\nask 0 12 digest //a:w\nkeep 2 digest //a:w 1\nclose 0 1\nclose 0 12\n",
+            ),
         ),
         (
             &["dice", "run", "--trace", "--workers", "0"],
-            b"put a/BUCK 55\nwrite_file(name = \"w\", out = \"w.txt\", content = \"abc\")\n\ncommit\nopen t\nask t r //a:w\ncancel r\n",
-            b"commit 1\nopen t 1\nr 1 cancelled\ntrace 7\ncommit 0 a/BUCK\nopen 0 1\nask 0 1 digest //a:w\nstart 1 digest //a:w new\nleave 0 2\ndrop 1 digest //a:w\nclose 0 1\n",
+            (
+                b"put a/BUCK 55\nwrite_file(name = \"w\", out = \"w.txt\", content = \"abc\")\n\ncommit\nopen t\nask t r //a:w\ncancel r\n",
+                0,
+                b"commit 1\nopen t 1\nr 1 cancelled\ntrace 7\ncommit 0 a/BUCK\nopen 0 1\nask 0 1 digest //a:w\nstart 1 digest //a:w new\nleave 0 2\ndrop 1 digest //a:w\nclose 0 1\n",
+            ),
         ),
         (
             &["dice", "bulk", "1"],
-            b"",
-            b"bulk 1 requests 2 output 176 digest af9559c96c79e1dfd0e572b25c7c4c26a4f37a13d3e3579c835e156a4917a1c7\n",
+            (
+                b"",
+                0,
+                b"bulk 1 requests 2 output 176 digest af9559c96c79e1dfd0e572b25c7c4c26a4f37a13d3e3579c835e156a4917a1c7\n",
+            ),
         ),
     ];
-    assert_eq!(rt; first_other(&rt, rt.alloc(), &rows)?, None);
+    for (words, row) in rows {
+        assert_eq!(rt; first_other(&rt, rt.alloc(), words, b"", &[row])?, None);
+    }
     Ok(())
 }
 
@@ -165,11 +157,11 @@ const LEFT_OUT: &[u8] =
     b"commit 1\nopen t 1\nr 1 cancelled\nq 1 72801cd249fb51131b7bbb93151ac0d3277ce1ef6febdf4fdc9f980dbb59266d\n";
 
 /// Scripts of one target, of two packages, of two versions, and with a request that is given up; each with its output.
-const SCRIPTS: [(&[u8], &[u8]); 4] = [
-    (FIRST, FIRST_OUT),
-    (PACKAGES, PACKAGES_OUT),
-    (VERSIONS, VERSIONS_OUT),
-    (LEFT, LEFT_OUT),
+const SCRIPTS: [Row; 4] = [
+    (FIRST, 0, FIRST_OUT),
+    (PACKAGES, 0, PACKAGES_OUT),
+    (VERSIONS, 0, VERSIONS_OUT),
+    (LEFT, 0, LEFT_OUT),
 ];
 
 #[test]

@@ -33,7 +33,8 @@ impl Progress {
     ghost use Rattle.std.specs.Prelude.{◌≡◌, ◌↔◌, true, false, ℕ, List, [], IfOk, length, map};
     ghost use Rattle.target_file.specs.Tokens.{Word, Text, Mark};
     ghost use Rattle.target_file.specs.Calls.{One};
-    ghost use Rattle.target_file.specs.Files.{Has, IsFine, names};
+    ghost use Rattle.target_file.specs.Files.{IsFine, names};
+    ghost use Rattle.lists.specs.Lists.{Has};
     ghost use Rattle.target_file.specs.Machine.{IsFresh, set_place, first};
     ghost use Rattle.std.specs.List.{AllByRecursion};
     ghost use Rattle.target_file.specs.Targets.{located};

@@ -1,5 +1,4 @@
 pub mod Asked
-pub mod Lists
 pub mod Seen
 pub mod Listed
 pub mod Askers

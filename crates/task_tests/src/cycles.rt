@@ -38,10 +38,7 @@ fn a_wait_closes_a_cycle_where_waits_lead_back(rt: HostRuntime) -> Result<(), Fa
     let mut table = Table::new(alloc);
     wait(alloc, &mut table, 1, 2)?;
     wait(alloc, &mut table, 2, 3)?;
-    assert_eq!(rt;
-        cycle(alloc, &table, 3, 1)?,
-        Some(vec![in alloc; 3, 1, 2]?)
-    );
+    assert_eq!(rt; cycle(alloc, &table, 3, 1)?, Some(vec![in alloc; 3, 1, 2]?));
     assert_eq!(rt; cycle(alloc, &table, 1, 3)?, None);
     assert_eq!(rt; cycle(alloc, &table, 2, 2)?, Some(vec![in alloc; 2]?));
     Ok(())
@@ -55,10 +52,7 @@ fn a_second_branch_is_searched(rt: HostRuntime) -> Result<(), Fail> {
     wait(alloc, &mut table, 1, 2)?;
     wait(alloc, &mut table, 2, 4)?;
     wait(alloc, &mut table, 2, 3)?;
-    assert_eq!(rt;
-        cycle(alloc, &table, 3, 1)?,
-        Some(vec![in alloc; 3, 1, 2]?)
-    );
+    assert_eq!(rt; cycle(alloc, &table, 3, 1)?, Some(vec![in alloc; 3, 1, 2]?));
     assert_eq!(rt; cycle(alloc, &table, 5, 1)?, None);
     Ok(())
 }

@@ -27,7 +27,7 @@ fn labels_as_written(rt: HostRuntime) {
         (b"//a.b-c/D9_+=,@~:...", b"//a.b-c/D9_+=,@~:..."),
     ];
     for row in &rows {
-        assert!(rt; matches!(prints(alloc, row.0, row.1), Ok(true)));
+        assert!(rt; prints(alloc, row.0, row.1) == Ok(true));
     }
     let bad: [&[u8]; 11] = [
         b"",
@@ -61,13 +61,17 @@ fn local(alloc: Global, package: &[u8], text: &[u8], printed: &[u8]) -> Result<b
 
 #[test]
 fn labels_in_a_package(rt: HostRuntime) {
-    let alloc = rt.alloc();
-    assert!(rt; matches!(local(alloc, b"", b":w", b"//:w"), Ok(true)));
-    assert!(rt; matches!(local(alloc, b"a/b", b":w", b"//a/b:w"), Ok(true)));
-    assert!(rt; matches!(local(alloc, b"w", b"//w", b"//w:w"), Ok(true)));
-    assert!(rt; matches!(local(alloc, b"w", b":", b""), Err(Refused::Bad)));
-    assert!(rt; matches!(local(alloc, b"w", b"w", b""), Err(Refused::Bad)));
-    assert!(rt; matches!(local(alloc, b"a/", b":w", b""), Err(Refused::Bad)));
+    let rows: [(&[u8], &[u8], &[u8], Result<bool, Refused>); 6] = [
+        (b"", b":w", b"//:w", Ok(true)),
+        (b"a/b", b":w", b"//a/b:w", Ok(true)),
+        (b"w", b"//w", b"//w:w", Ok(true)),
+        (b"w", b":", b"", Err(Refused::Bad)),
+        (b"w", b"w", b"", Err(Refused::Bad)),
+        (b"a/", b":w", b"", Err(Refused::Bad)),
+    ];
+    for (package, text, printed, wanted) in rows {
+        assert_eq!(rt; local(rt.alloc(), package, text, printed), wanted);
+    }
 }
 
 fn files(alloc: Global) -> Result<bool, Refused> {
@@ -93,7 +97,7 @@ fn files(alloc: Global) -> Result<bool, Refused> {
 #[test]
 fn files_of_a_package(rt: HostRuntime) {
     let alloc = rt.alloc();
-    assert!(rt; matches!(files(alloc), Ok(true)));
+    assert_eq!(rt; files(alloc), Ok(true));
 }
 
 fn counted(alloc: Global) -> Result<bool, Refused> {
@@ -110,7 +114,7 @@ fn counted(alloc: Global) -> Result<bool, Refused> {
 #[test]
 fn paths_as_keys(rt: HostRuntime) {
     let alloc = rt.alloc();
-    assert!(rt; matches!(counted(alloc), Ok(true)));
+    assert_eq!(rt; counted(alloc), Ok(true));
     assert!(rt; is_path(&[b'a'; 255]) && !is_path(&[b'a'; 256]));
     assert!(rt; matches!(Path::read(alloc, b"a/./b"), Err(Refused::Bad)));
 }

@@ -228,3 +228,9 @@ returns-in-Waits-clause-done g c w owed s hand plan =
     let may = own_may eq law.keys m law.lawful v k a c.requires.own.0 c.args.parked.keys xs w owed _ _ _ s hand c.requires.out c.requires.next p.roomy made.new.tasks c.park.new.tasks made.new.desk c.park.new.desk made.new.graph made.ensures.made kept ws p c.args.parked refl refl in
     subst (λ z. IsPlanDone eq m v owed a c.args.parked.keys c.args.tasks.now c.args.desk.now c.args.graph.now s z c.park.new.tasks c.park.new.desk made.new.graph) (sym c.in-Waits.is)
     (waits_done eq law.keys m law.lawful v k a c.requires.own.0 c.args.parked.keys xs w owed _ _ _ s hand c.requires.out p.roomy made.new.tasks c.park.new.tasks made.new.desk c.park.new.desk made.new.graph made.ensures.made made.ensures.looked ws p c.args.parked refl refl c.park.ensures.parks (c.park.ensures.kept w [] owed kept.0 may))
+
+pub go_on-requires-clause-out : goal.go_on-requires-clause-out
+go_on-requires-clause-out g c l o = c.make_all.ensures.made.out (arc_value c.args.key.now) c.args.parked.job c.requires.out
+
+pub park-requires-clause-out : goal.park-requires-clause-out
+park-requires-clause-out g c l o = c.make_all-in-Waits.ensures.made.out (arc_value c.args.key.now) c.args.parked.job c.requires.out

@@ -2,7 +2,8 @@ use Rattle.std.proofs.Common.{◌∙◌, ◌+◌, refl, sym, ap, subst, map, tak
 use Rattle.std.specs.Arc.{arc_value}
 use Rattle.dice_tasks.specs.Waitings.{Wakes}
 use Rattle.dice_steps.specs.Wokens.{IsAnswered}
-use Rattle.dice_steps.proofs.WokenLemmas.{SoFar, none_so_far, other_more, woken_more, all_woken, first_more, is_new, among, any_has, all_taken}
+use Rattle.dice_steps.proofs.WokenLemmas.{SoFar, none_so_far, other_more, woken_more, all_woken, first_more, is_new, among, all_taken}
+use Rattle.dice_key.proofs.KeySets.{has_any}
 use Rattle.dice_steps.proofs.woken.woken_by.Goals as goal
 use Rattle.dice_steps.proofs.woken.woken_by.Goals.{then-asks_alone+in_ok-next+in_ok-one+in_ok-push, else-asks_alone}
 
@@ -13,7 +14,7 @@ pub next_of-requires-after_bounds : goal.next_of-requires-after_bounds
 next_of-requires-after_bounds g c κs within =
     let eq = g.U.Key.PartialEq.eq in
     let j = arc_value c.asker-item.result in
-    c.requires j (sym (c.askers.ensures.tasks j) ∙ any_has eq c.laws_of.ensures.keys (map arc_value c.askers.result.tasks.now) j (among arc_value c.askers.result.tasks.now c.loop-asker.asker-index c.asker-item.result c.loop-asker-test.true c.asker-item.is)) (c.if-asks_alone.ensures.alone refl)
+    c.requires j (sym (c.askers.ensures.tasks j) ∙ has_any eq c.laws_of.ensures.keys (map arc_value c.askers.result.tasks.now) j (among arc_value c.askers.result.tasks.now c.loop-asker.asker-index c.asker-item.result c.loop-asker-test.true c.asker-item.is)) (c.if-asks_alone.ensures.alone refl)
 
 pub loop-asker-preserved : goal.loop-asker-preserved
 loop-asker-preserved g c =
