@@ -246,7 +246,8 @@ impl<U: Universe> Core<U> {
         leave_ask(&mut self.desk, &mut self.versions, &mut self.sessions, ask);
     }
 
-    /// Takes the job of a ready task, the one that became ready last; `None` exactly where no task is ready. It takes no memory.
+    /// Takes the job of a ready task, which is out then; `None` exactly where no task is ready. No clause says which of the ready
+    /// tasks it is. It takes no memory.
     pub fn take_job(&mut self) -> Option<Job<U>>
         ensures none { IfNone result ((self.old.desk.ready ≡ []) × (self.new ≡ self.old)) }
         ensures some { IfSome result (λ j. TakesOut U.Key.eq j self.old self.new) }
