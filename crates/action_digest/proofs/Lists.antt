@@ -1,5 +1,5 @@
 -- What is an element of a list that is made of others.
-use Rattle.std.proofs.Common.{◌≡◌, ◌⊎◌, inl, inr, List, [], ◌∷◌, ◌++◌, map, refl, ap, subst}
+use Rattle.std.proofs.Common.{◌≡◌, inl, inr, List, [], ◌∷◌, ◌++◌, map, refl, subst}
 use Rattle.lists.proofs.Members.{has_either, has_left, has_map, has_mapped, has_right}
 use Rattle.lists.specs.Lists.{Has}
 

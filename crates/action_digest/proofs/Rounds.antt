@@ -14,8 +14,8 @@ use Rattle.action_digest.specs.Same.{key_equal}
 use Rattle.action_digest.specs.Cycles.{keys_of, labels_of, ReachesFirst}
 use Rattle.action_digest.proofs.Asking.{May, asks_may}
 use Rattle.lists.proofs.Distinct.{distinct_end}
-use Rattle.lists.proofs.Members.{has_either, has_mapped}
-use Rattle.lists.specs.Lists.{AreDistinct, Has}
+use Rattle.lists.proofs.Members.{has_mapped}
+use Rattle.lists.specs.Lists.{Has}
 
 module _ (C : List (List (Key × Value))) (v : ℕ) where
   abbrev Asks : Key → Key → Type 0

@@ -1,5 +1,5 @@
 -- Tasks that end with a cycle.
-use Rattle.std.proofs.Common.{◌≡◌, inl, inr, ℕ, Bool, true, false, cond, not, ◌&&◌, List, [], ◌∷◌, Option, Some, refl, ap}
+use Rattle.std.proofs.Common.{◌≡◌, ℕ, Bool, true, false, cond, not, ◌&&◌, List, [], ◌∷◌, Option, Some, refl, ap}
 use Rattle.dice_key.specs.Meaning.{Meaning}
 use Rattle.dice_key.specs.Lawful.{IsEquality}
 use Rattle.dice_model.specs.Asks.{AsksFor, Reaches, here, through, GoesRound}
@@ -13,7 +13,7 @@ use Rattle.core_laws.specs.Stands.{CycleStands, VersionStands}
 use Rattle.core_laws.specs.Changes.{Puts, Lives, Withdraws}
 use Rattle.core_laws.proofs.OfKey.{named, cyclic_leaves}
 use Rattle.core_laws.proofs.Ends.{undecided_at_work, task_ends}
-use Rattle.lists.specs.Lists.{AreDistinct, Has}
+use Rattle.lists.specs.Lists.{AreDistinct}
 
 module _ {K V : Type 0} (eq : K → K → Bool) (m : Meaning K V) (C : List (List (K × V))) (v : ℕ) where
   -- what asks a key that reaches a cycle reaches it too

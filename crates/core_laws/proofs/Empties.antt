@@ -11,7 +11,7 @@ use Rattle.journal.specs.Events.{Asking, opened_at, open_count, live_at, decided
 use Rattle.journal.specs.Law.{IsLawfulBack}
 use Rattle.journal.proofs.Lawful.{closes_open}
 use Rattle.journal.proofs.Counts.{none_open}
-use Rattle.core_laws.specs.Tasks.{Task, Standing, Works, Ended, goes_on, computes, waits_for, is_going, is_computing, batch_of}
+use Rattle.core_laws.specs.Tasks.{Task}
 use Rattle.core_laws.specs.Stands.{VersionStands, IsAtRest}
 use Rattle.core_laws.specs.Promises.{nobody}
 use Rattle.lists.proofs.Distinct.{few}

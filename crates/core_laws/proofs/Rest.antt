@@ -5,7 +5,7 @@ use Rattle.dice_key.specs.Meaning.{Meaning, Answered}
 use Rattle.dice_key.specs.Lawful.{IsEquality}
 use Rattle.dice_key.specs.declared.universe.Kind.TheVariants.{Injected}
 use Rattle.dice_key.proofs.KeySets.{has_or_not}
-use Rattle.task_share.specs.Asked.{By, Promised, Tasked, is_by, Asked, Leads, stays, asks_on, HasNoCycle, IsDone, Takes}
+use Rattle.task_share.specs.Asked.{By, Promised, Tasked, is_by, Asked, Leads, stays, HasNoCycle, IsDone, Takes}
 use Rattle.journal.specs.declared.event.Told.{Told}
 use Rattle.journal.specs.Events.{Asking, live_at, opened_at, open_count}
 use Rattle.core_laws.specs.Tasks.{Outcome, IsReady, IsOut, IsWaiting, Standing, Works, Ended, Task, goes_on, waits_for, is_going, batch_of}

@@ -4,14 +4,13 @@ use Rattle.std.proofs.lemmas.Option.{same_Some, none-some}
 use Rattle.dice_key.specs.Meaning.{Meaning}
 use Rattle.dice_key.specs.Lawful.{IsEquality}
 use Rattle.dice_key.specs.declared.universe.Kind.TheVariants.{Injected}
-use Rattle.task_share.specs.Asked.{By, Tasked, Asked, Leads, stays, asks_on, HasNoCycle}
+use Rattle.task_share.specs.Asked.{By, Tasked, Asked, HasNoCycle}
 use Rattle.journal.specs.declared.event.Told.{Told}
 use Rattle.core_laws.specs.Tasks.{Standing, Works, Ended, Task, goes_on, computes, waits_for, value_in, is_going, is_computing, batch_of, value_of}
 use Rattle.core_laws.specs.Stands.{VersionStands}
 use Rattle.core_laws.specs.Changes.{Puts, Lives}
 use Rattle.lists.specs.Lists.{Has}
-use Rattle.std.proofs.lemmas.Bool.{and_parts}
-use Rattle.task_share.proofs.Leads.{leads_after, leads_fewer}
+use Rattle.task_share.proofs.Leads.{leads_fewer}
 
 pub and_none : (a : Bool) → (a && false) ≡ false
 and_none true = refl

@@ -16,7 +16,6 @@ use Rattle.core_laws.specs.Changes.{Puts, SameAsks, SameLives, Lives}
 use Rattle.core_laws.proofs.Shapes.{shape_of, asks_nothing, eased, same_or_other, put_each, put_fact, put_none}
 use Rattle.dice_jobs.specs.Jobs.{Checks, Computes, Work}
 use Rattle.dice_jobs.specs.Truths.{Follows}
-use Rattle.dice_model.specs.Asks.{AllTrue}
 
 module _ {K V : Type 0} where
   -- the next batch of a trace, answered, goes along with it

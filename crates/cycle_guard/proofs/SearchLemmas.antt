@@ -1,16 +1,15 @@
 -- Each step of the search, what it finds, and why it ends.
-use Rattle.std.proofs.Common.{◌≡◌, ◌≤◌, ◌+◌, ◌⊎◌, inl, inr, ℕ, Bool, true, false, cond, ◌||◌, List, [], ◌∷◌, ◌++◌, length, drop, reverse, Some, refl, sym, ap, ◌∙◌, subst, arith, append_assoc, append-nil}
+use Rattle.std.proofs.Common.{◌≡◌, ◌≤◌, ◌+◌, ◌⊎◌, inl, inr, ℕ, Bool, true, false, cond, List, [], ◌∷◌, ◌++◌, length, drop, reverse, Some, refl, sym, ap, ◌∙◌, subst, arith, append_assoc, append-nil}
 use Rattle.std.specs.Map.{lookup}
-use Rattle.std.specs.List.{list_any}
-use Rattle.std.proofs.lemmas.List.{reverse-append, reverse-reverse}
+use Rattle.std.proofs.lemmas.List.{reverse-reverse}
 use Rattle.dice_key.specs.Lawful.{IsEquality}
 use Rattle.task_share.specs.Asked.{Tasked, Leads, stays, asks_on}
 use Rattle.task_share.specs.Seen.{Share, asks, waits_at, asked_of, list_for, IsMirrored}
 use Rattle.cycle_guard.specs.WaitCycle.{WouldWait, IsRound, IsSecond, IsWaitCycle}
 use Rattle.cycle_guard.specs.Search.{Stacked, Pending, IsSearch, unmet}
 use Rattle.dice_key.proofs.KeySets.{any_has, has_any, unequal}
-use Rattle.lists.proofs.Distinct.{distinct_end, distinct_reverse}
-use Rattle.lists.proofs.Members.{has_either, has_left, has_reverse, has_right, reverse_more}
+use Rattle.lists.proofs.Distinct.{distinct_reverse}
+use Rattle.lists.proofs.Members.{reverse_more}
 use Rattle.lists.specs.Lists.{AreDistinct, Has}
 use Rattle.std.proofs.lemmas.Bool.{cases_Bool}
 

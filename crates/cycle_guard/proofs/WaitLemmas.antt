@@ -1,16 +1,11 @@
 -- Steps of the walk along waits.
-use Rattle.std.proofs.Common.{◌≡◌, ◌⊎◌, ◌||◌, inl, inr, suc, Bool, true, false, not, cond, List, [], ◌∷◌, ◌++◌, length, refl, sym, ap, ◌∙◌, subst, arith}
-use Rattle.std.specs.Arc.{arc_value, arc_with_value}
-use Rattle.std.specs.declared.sync.Arc.{Arc}
-use Rattle.std.specs.List.{list_any}
+use Rattle.std.proofs.Common.{◌≡◌, ◌⊎◌, inl, inr, Bool, true, false, cond, List, [], ◌∷◌, ◌++◌, refl, sym, ap, ◌∙◌, subst}
 use Rattle.dice_key.specs.Lawful.{IsEquality}
-use Rattle.task_share.specs.Asked.{Asked, Tasked, Leads, stays, asks_on}
+use Rattle.task_share.specs.Asked.{Leads, stays, asks_on}
 use Rattle.task_share.specs.Seen.{Share, waits_at, asked_of, IsMirrored}
-use Rattle.dice_key.proofs.KeySets.{any_has, has_any, noted}
+use Rattle.dice_key.proofs.KeySets.{any_has, has_any}
 use Rattle.lists.proofs.Members.{has_either, has_left, has_right}
-use Rattle.lists.proofs.Options.{was_new, was_seen}
 use Rattle.lists.specs.Lists.{Has}
-use Rattle.std.proofs.lemmas.List.{nil_from_length}
 use Rattle.task_share.proofs.Leads.{leads_more}
 
 module _ {K T : Type 0} (eq : K → K → Bool) (ps : List (K × Share K T)) (start : K) where

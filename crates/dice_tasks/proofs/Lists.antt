@@ -1,8 +1,8 @@
 -- Parts of lists whose elements stand once.
-use Rattle.std.proofs.Common.{◌⊎◌, inl, inr, List, [], ◌∷◌, ◌++◌, refl, sym, subst}
+use Rattle.std.proofs.Common.{inl, inr, List, [], ◌∷◌, ◌++◌, refl, sym, subst}
 use Rattle.core_laws.specs.Desk.{Loses}
 use Rattle.dice_tasks.specs.Hands.{Gains, Stays}
-use Rattle.lists.proofs.Distinct.{apart, distinct_both, distinct_end, distinct_left, distinct_right}
+use Rattle.lists.proofs.Distinct.{apart, distinct_left, distinct_right}
 use Rattle.lists.proofs.Members.{has_either, has_left, has_right}
 use Rattle.lists.specs.Lists.{AreDistinct, Has}
 

@@ -1,5 +1,5 @@
 -- Waits are added, in room made ahead.
-use Rattle.std.proofs.Common.{◌≡◌, ◌≤◌, ◌<◌, ◌⊎◌, inl, inr, ◌+◌, ℕ, suc, Bool, true, false, cond, ◌&&◌, ◌||◌, List, [], ◌∷◌, ◌++◌, length, refl, sym, ap, ◌∙◌, subst, arith, length-append}
+use Rattle.std.proofs.Common.{◌≡◌, ◌≤◌, ◌<◌, ◌⊎◌, inl, inr, ◌+◌, ℕ, Bool, true, false, cond, ◌&&◌, ◌||◌, List, [], ◌∷◌, ◌++◌, length, refl, sym, ap, ◌∙◌, subst, arith, length-append}
 use Rattle.std.proofs.lemmas.List.Folds.{list_any-append}
 use Rattle.dice_key.specs.Lawful.{IsEquality}
 use Rattle.dice_jobs.specs.Jobs.{Waits}
@@ -9,7 +9,7 @@ use Rattle.core_laws.specs.Tasks.{IsOut, IsWaiting}
 use Rattle.dice_tasks.specs.Helds.{Held, held_of}
 use Rattle.dice_tasks.specs.Hands.{DeskSeen, Leaves}
 use Rattle.dice_tasks.specs.Waitings.{IsTurned, HasRoomFor, waits_so, ParksJob}
-use Rattle.lists.proofs.Members.{has_left, has_right, none_left}
+use Rattle.lists.proofs.Members.{has_left, has_right}
 use Rattle.lists.specs.Lists.{Has}
 use Rattle.std.proofs.lemmas.Bool.{or_right}
 

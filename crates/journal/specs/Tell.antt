@@ -1,5 +1,5 @@
 -- What contracts see of an event.
-use Rattle.std.specs.Prelude.{◌≡◌, ◌≤◌, ℕ, ◌+◌, List, [], ◌∷◌, ◌++◌, Option, Some, None}
+use Rattle.std.specs.Prelude.{ℕ, Option, Some, None}
 use Rattle.std.specs.Arc.{arc_value}
 use Rattle.journal.specs.declared.event.Cause.{Cause}
 use Rattle.journal.specs.declared.event.Cause.TheVariants as cause

@@ -1,7 +1,7 @@
 -- Lists in which nothing stands twice.
 use Rattle.std.proofs.Common.{◌≡◌, ◌≤◌, ◌⊎◌, inl, inr, List, [], ◌∷◌, ◌++◌, length, reverse, suc, refl, sym, ap, ◌∙◌, subst, arith}
 use Rattle.lists.specs.Lists.{Has, AreDistinct}
-use Rattle.lists.proofs.Members.{has_left, has_right, has_either, has_last, has_middle, has_reverse, reverse_more}
+use Rattle.lists.proofs.Members.{has_left, has_right, has_either, has_last, has_reverse, reverse_more}
 
 module _ {X : Type 0} where
   -- ---- parts

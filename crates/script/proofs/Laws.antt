@@ -1,5 +1,5 @@
 -- A text has one reading as a script, or one first fault, and not both.
-use Rattle.std.proofs.Common.{◌≡◌, ◌≢◌, ◌∙◌, sym, ap, refl, subst, inl, inr, ℕ, List, [], ◌∷◌, ◌++◌, ◌+◌, take, drop, Option, Some, None, arith}
+use Rattle.std.proofs.Common.{◌≡◌, ◌≢◌, ◌∙◌, sym, ap, refl, subst, inl, inr, ℕ, List, ◌∷◌, ◌+◌, take, drop, Option, Some, None, arith}
 use Rattle.buck_label.specs.Labels.{Name, IsLabel, printed}
 use Rattle.script.specs.Lines.{IsDecimal, words, line_of, behind_line}
 use Rattle.script.specs.Past.{Past, nothing, after, fate_of}

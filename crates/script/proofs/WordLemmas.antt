@@ -1,7 +1,6 @@
 -- The words of a line, and its end.
-use Rattle.std.proofs.Common.{◌≡◌, ◌⊎◌, ◌∙◌, ◌<◌, ◌+◌, ◌-◌, subst, sym, ap, refl, inl, inr, ℕ, Bool, true, false, List, [], ◌∷◌, take, drop, length, suc, arith, nat_eq}
-use Rattle.std.proofs.Math.Seq.{take-length}
-use Rattle.std.proofs.lemmas.List.{length-drop, take_rest}
+use Rattle.std.proofs.Common.{◌≡◌, ◌∙◌, ◌<◌, ◌+◌, ◌-◌, subst, sym, ap, refl, inl, inr, ℕ, Bool, true, false, List, [], ◌∷◌, take, drop, length, suc, arith, nat_eq}
+use Rattle.std.proofs.lemmas.List.{take_rest}
 use Rattle.std.proofs.Common.{None}
 use Rattle.script.specs.Faults.{form_of}
 use Rattle.script.specs.Lines.{before, words, split_byte, front_word}

@@ -1,7 +1,6 @@
 -- Lines, words, names and decimal numbers.
 use Rattle.std.specs.Prelude.{◌≡◌, ◌≢◌, ◌≤◌, ◌+◌, ◌-◌, ◌*◌, ℕ, Bool, true, false, if◌then◌else◌, ◌&&◌, ◌||◌, nat_eq, nat_le, List, [], ◌∷◌, length, take, drop}
 use Rattle.std.specs.List.{AllByRecursion}
-use Rattle.lists.specs.Lines.{line_feeds}
 
 -- the number that digits write behind what stands for n
 abbrev pub value_from : ℕ → List ℕ → ℕ

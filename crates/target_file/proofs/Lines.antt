@@ -1,5 +1,5 @@
 -- The line of a fault, by a live prefix and a dead one with no LF between.
-use Rattle.std.proofs.Common.{◌≡◌, ◌+◌, ◌∙◌, sym, ap, refl, subst, ℕ, List, [], ◌∷◌, ◌++◌, append_assoc, append-nil, if◌then◌else◌, nat_eq, arith}
+use Rattle.std.proofs.Common.{◌≡◌, ◌+◌, ◌∙◌, sym, ap, refl, subst, ℕ, List, [], ◌∷◌, ◌++◌, append_assoc, append-nil, arith}
 use Rattle.target_file.specs.Calls.{Call}
 use Rattle.target_file.specs.Files.{IsWritten, IsDead, IsShortestDead, IsFaultLine}
 use Rattle.target_file.proofs.Faults.{IsLive}

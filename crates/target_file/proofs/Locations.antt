@@ -1,8 +1,7 @@
 -- Labels in commands.
 use Rattle.std.proofs.Common.{◌≡◌, ◌≢◌, ◌↔◌, ◌<◌, ◌≤◌, ◌+◌, ◌-◌, ◌∙◌, sym, ap, refl, subst, ℕ, zero, suc, true, List, [], ◌∷◌, ◌++◌, length, length-append, take, drop, get_or, drop-cons, add-one, min, nat_eq, arith}
 use Rattle.std.specs.List.{AllByRecursion, starts_with}
-use Rattle.std.proofs.lemmas.List.{take-append-drop, length-drop, take_rest}
-use Rattle.std.proofs.Math.Seq.{take-length}
+use Rattle.std.proofs.lemmas.List.{take-append-drop, take_rest}
 use Rattle.buck_label.specs.Labels.{IsSomeLabel}
 use Rattle.target_file.specs.Strings.{IsLocated, IsCommand, opener}
 

@@ -23,7 +23,6 @@ use Rattle.target_file.proofs.Saying.{Says}
 use Rattle.target_file.proofs.Deciding.{same_says}
 use Rattle.lists.specs.Lists.{AreDistinct, Has}
 use Rattle.std.proofs.lemmas.Bool.{cases_Bool}
-use Rattle.std.proofs.lemmas.List.{nil_from_length}
 
 pub or_none : {A : Type 0} (x : Option A) → option_or x None ≡ x
 or_none None = refl

@@ -1,5 +1,5 @@
 -- The grammar of target files, dead prefixes and the line of a fault.
-use Rattle.std.specs.Prelude.{◌≡◌, ◌⊎◌, ◌+◌, ℕ, if◌then◌else◌, nat_eq, List, [], ◌∷◌, ◌++◌, map, Option, Some, None}
+use Rattle.std.specs.Prelude.{◌≡◌, ◌+◌, ℕ, List, [], ◌∷◌, ◌++◌, map, Option, Some, None}
 use Rattle.std.specs.List.{AllByRecursion}
 use Rattle.buck_label.specs.Paths.{IsPath}
 use Rattle.target_file.specs.Tokens.{Token, tokens}

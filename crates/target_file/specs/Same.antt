@@ -1,5 +1,5 @@
 -- Equality of lists of texts and of actions is exact.
-use Rattle.std.specs.Prelude.{◌≡◌, ◌&&◌, Bool, true, false, nat_eq, List, ℕ, refl}
+use Rattle.std.specs.Prelude.{◌≡◌, ◌&&◌, Bool, true, nat_eq, List, ℕ, refl}
 use Rattle.std.specs.Bool.{Decides}
 use Rattle.std.specs.Cmp.Lexicographic.{pointwise, bytes_decides, pointwise_decides}
 use Rattle.std.proofs.Common.{ap, subst, ◌∙◌}

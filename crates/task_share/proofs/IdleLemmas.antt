@@ -1,5 +1,5 @@
 -- Idle tasks: what gives a key back to its place, takes a task out, and withdraws its asks.
-use Rattle.std.proofs.Common.{◌≡◌, ◌≤◌, ◌+◌, inl, inr, ◌⊎◌, ℕ, suc, Bool, true, false, not, cond, ◌&&◌, ◌||◌, List, [], ◌∷◌, ◌++◌, length, map, Option, Some, None, is_some, nat_eq, refl, sym, ap, ◌∙◌, subst, arith, ◌<◌, unwrap_or}
+use Rattle.std.proofs.Common.{◌≡◌, ◌≤◌, ◌+◌, inl, inr, ℕ, suc, Bool, true, false, not, cond, ◌&&◌, ◌||◌, List, [], ◌∷◌, ◌++◌, length, map, Option, Some, None, is_some, nat_eq, refl, sym, ap, ◌∙◌, subst, arith, ◌<◌, unwrap_or}
 use Rattle.std.specs.Prelude.{option_and_then, MatchOption}
 use Rattle.std.specs.Arc.{arc_value}
 use Rattle.std.specs.Map.{lookup, set_value, remove_entry, values_of}
@@ -21,7 +21,6 @@ use Rattle.task_share.specs.declared.place.Place.{Place}
 use Rattle.task_share.proofs.PlaceLemmas.{lookup_shares}
 use Rattle.task_share.proofs.TurnLemmas.{tasks_kept, room_kept, asks_turned, waits_turned, same_cond, tasks_on, room_on, room_itself, kept_on}
 use Rattle.lists.proofs.Members.{has_last}
-use Rattle.lists.proofs.Options.{is_missing}
 use Rattle.lists.specs.Lists.{Has}
 use Rattle.std.proofs.lemmas.Bool.{and_parts, cases_Bool}
 

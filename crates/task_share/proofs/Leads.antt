@@ -1,5 +1,5 @@
 -- Chains of asks.
-use Rattle.std.proofs.Common.{◌≡◌, Bool, true}
+use Rattle.std.proofs.Common.{◌≡◌, true}
 use Rattle.task_share.specs.Asked.{Asked, By, Tasked, Leads, stays, asks_on}
 
 module _ {K : Type 0} where

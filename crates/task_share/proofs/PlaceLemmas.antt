@@ -14,7 +14,7 @@ use Rattle.task_share.specs.Asked.{By, Promised, Tasked, is_by}
 use Rattle.task_share.specs.Seen.{Share, number_for, has_by, has_live, ask_count, one_if}
 use Rattle.task_share.specs.Listed.{share_of, entry_of, shares_of, is_idle, settled, released, kept_name, IsNamed, IsListed, AreIn, IsChanged, KeepsListed}
 use Rattle.task_share.specs.declared.place.Place.{Place}
-use Rattle.lists.proofs.Members.{has_left, has_right, none_left}
+use Rattle.lists.proofs.Members.{has_left, has_right}
 use Rattle.lists.specs.Lists.{Has}
 use Rattle.std.proofs.lemmas.Bool.{and_parts, cases_Bool}
 

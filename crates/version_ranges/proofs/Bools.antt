@@ -1,6 +1,5 @@
 -- Tests joined by "or" and "and".
 use Rattle.std.proofs.Common.{◌≡◌, Bool, true, false, ◌&&◌, ◌||◌, refl}
-use Rattle.std.proofs.Math.Bool.{or_assoc}
 
 pub same_tests : (a b : Bool) → (a ≡ true → b ≡ true) → (b ≡ true → a ≡ true) → a ≡ b
 same_tests true true f g = refl

@@ -1,11 +1,9 @@
 -- Tests.
-use Rattle.std.proofs.Common.{◌≡◌, ◌≤◌, inl, inr, ◌⊎◌, ℕ, zero, suc, Bool, true, false, not, ◌&&◌, ◌||◌, refl, ap, arith, List, [], ◌∷◌, length}
-use Rattle.std.specs.Prelude.{take}
+use Rattle.std.proofs.Common.{◌≡◌, inl, inr, ◌⊎◌, Bool, true, refl, List, [], ◌∷◌}
 use Rattle.dice_key.specs.Meaning.{Answered}
 use Rattle.versioned_graph.specs.Entries.{all_of_batch, all_of}
 use Rattle.lists.specs.Lists.{Has}
-use Rattle.std.proofs.lemmas.Bool.{and_from, and_parts, cases_Bool, not-true, or_cases, or_left, or_right}
-use Rattle.std.proofs.lemmas.List.{take_all}
+use Rattle.std.proofs.lemmas.Bool.{and_from, and_parts}
 
 module _ {K V : Type 0} where
   pub batch_map : (f g : K → V → Bool) (ks : List K) (xs : List V) → ((k : K) (x : V) → Has ks k → f k x ≡ true → g k x ≡ true) → all_of_batch f ks xs ≡ true → all_of_batch g ks xs ≡ true

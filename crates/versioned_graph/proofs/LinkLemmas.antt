@@ -10,7 +10,6 @@ use Rattle.dep_recorder.specs.Recordings.{keys_in}
 use Rattle.versioned_graph.specs.Users.{users_of}
 use Rattle.versioned_graph.specs.Edges.{is_asked}
 use Rattle.lists.specs.Lists.{Has}
-use Rattle.std.proofs.Math.Bool.{or_assoc}
 
 module _ {K : Type 0} (eq : K → K → Bool) (k : K) where
   -- k stands in the list of each key of the set; and all that stood in a list still does

@@ -1,12 +1,10 @@
 -- Sets of pointers to keys, read without them.
-use Rattle.std.proofs.Common.{◌≡◌, ◌||◌, ◌++◌, inl, inr, Bool, true, false, cond, List, [], ◌∷◌, map, refl, sym, ap, ◌∙◌}
-use Rattle.std.specs.Arc.{arc_value, arc_with_value}
+use Rattle.std.proofs.Common.{◌≡◌, ◌||◌, Bool, true, false, cond, List, [], ◌∷◌, map, refl, ap}
+use Rattle.std.specs.Arc.{arc_value}
 use Rattle.std.specs.declared.sync.Arc.{Arc}
 use Rattle.std.specs.List.{list_any}
 use Rattle.dice_key.specs.Lawful.{IsEquality}
 use Rattle.dice_key.proofs.KeySets.{turned}
-use Rattle.lists.specs.Lists.{Has}
-use Rattle.std.proofs.lemmas.Bool.{or_cases}
 
 module _ {K A : Type 0} (eq : K → K → Bool) where
   pub any_map : (j : K) (ks : List (Arc K A)) → list_any (eq j) (map arc_value ks) ≡ list_any (λ a. eq j (arc_value a)) ks

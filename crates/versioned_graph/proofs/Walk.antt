@@ -1,5 +1,5 @@
 -- Steps of the walk along recorded edges.
-use Rattle.std.proofs.Common.{◌≡◌, ◌≤◌, ◌+◌, ◌⊎◌, inl, inr, suc, Bool, true, false, not, cond, List, [], ◌∷◌, ◌++◌, length, filter, Some, refl, sym, ap, ◌∙◌, subst, arith, ℕ}
+use Rattle.std.proofs.Common.{◌≡◌, ◌≤◌, ◌+◌, ◌⊎◌, inl, inr, suc, Bool, true, false, cond, List, [], ◌∷◌, ◌++◌, length, filter, Some, refl, sym, ap, ◌∙◌, subst, arith, ℕ}
 use Rattle.std.specs.Map.{lookup}
 use Rattle.std.specs.List.{list_any}
 use Rattle.dice_key.specs.Lawful.{IsEquality}
@@ -8,9 +8,7 @@ use Rattle.versioned_graph.specs.Edges.{is_edge, CommitReaches, changes, leads}
 use Rattle.versioned_graph.specs.Users.{or_none, users_of, IsIndexed, recorded_of}
 use Rattle.dice_key.proofs.KeySets.{any_end, any_has}
 use Rattle.lists.proofs.Members.{filter_has, has_either, has_filter, has_left, has_right}
-use Rattle.lists.proofs.Options.{was_new, was_seen}
 use Rattle.lists.specs.Lists.{Has}
-use Rattle.std.proofs.lemmas.List.{nil_from_length}
 
 filter_length : {X : Type 0} (f : X → Bool) (xs : List X) → length (filter f xs) ≤ length xs
 filter_length f [] = omega arith

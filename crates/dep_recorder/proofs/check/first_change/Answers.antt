@@ -1,4 +1,4 @@
-use Rattle.std.proofs.Common.{◌≡◌, ◌∙◌, sym, arith, not, Bool, true, false, refl}
+use Rattle.std.proofs.Common.{◌∙◌, sym, arith}
 use Rattle.std.specs.Arc.{arc_value}
 use Rattle.dep_recorder.proofs.Findings.{change_here}
 use Rattle.dep_recorder.proofs.check.first_change.Goals as goal

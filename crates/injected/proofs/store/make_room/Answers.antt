@@ -1,5 +1,5 @@
 -- A key that is not there gets an empty history with room for a set.
-use Rattle.std.proofs.Common.{◌≡◌, ◌∙◌, None, Some, true, false, Option, IsSome, sym, refl, map, is_some}
+use Rattle.std.proofs.Common.{◌≡◌, ◌∙◌, None, Some, true, Option, IsSome, sym, refl, map, is_some}
 use Rattle.std.specs.Arc.{arc_value}
 use Rattle.std.specs.Map.{lookup}
 use Rattle.injected.specs.Seen.{named, sets_in}
