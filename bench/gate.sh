@@ -8,7 +8,7 @@ if [ "$1" = run ]; then
     log=$2
     shift 2
     : >"$log"
-    (rt ci "$@" 2>&1; echo "gate: ended with status $?") | sed "s/^/| /" >>"$log" &
+    (rt ci "$@" 2>&1; echo "gate: ended with status $?") | sed -u "s/^/| /" >>"$log" &
     python3 - "$log" <<'PYTHON'
 import os, re, sys, time
 log, ticks, begun = sys.argv[1], os.sysconf("SC_CLK_TCK"), time.time()
