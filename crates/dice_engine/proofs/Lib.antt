@@ -7,3 +7,4 @@ pub mod Callers
 pub mod Begun
 pub mod Deciding
 pub mod Listing
+pub mod Jobs

@@ -153,6 +153,10 @@ module _ {K V : Type 0} (eq : K → K → Bool) (m : Meaning K V) where
       pub turned_any : (w : ℕ) → Entered old mid J → Ended mid new I → (a : Adds eq m w J I (P J)) → a.own ≡ [] → Turn eq m old new P
       turned_any w e z a none = turned old.number e z refl (of_any old.number w J I (P J) a none)
 
+      pub any_found : (w : ℕ) (e : Entered old mid J) (z : Ended mid new I) (a : Adds eq m w J I (P J)) (none : a.own ≡ []) → (turned_any w e z a none).found ≡ J
+      unfolding turned_any turned
+      any_found w e z a none = refl
+
 module _ {K V : Type 0} (eq : K → K → Bool) (m : Meaning K V) where
   pub turn_so : (old new : SeatView (Told K V)) (P Q : List (Told K V) → List (Told K V) → List (Told K V) → Type 0) → Turn eq m old new P
       → ((found own work : List (Told K V)) → P found own work → Q found own work) → Turn eq m old new Q

@@ -4,3 +4,5 @@ pub mod Conditions
 pub mod Calls
 pub mod Replies
 pub mod Lines
+pub mod Jobs
+pub mod Doings

@@ -9,6 +9,7 @@ ghost use Rattle.dice_engine.specs.Conditions.{HasOpen, HasAsk, SawAsk};
 ghost use Rattle.dice_engine.specs.Calls.{AddsNothing, Opens, Closes, Asks, Leaves, Commits};
 ghost use Rattle.dice_engine.specs.Replies.{reply_of, IsReply};
 ghost use Rattle.dice_engine.specs.Lines.{AreLines};
+ghost use Rattle.dice_engine.specs.Doings.{TellsOfCore};
 
 use crate::engine::{Engine, Seat};
 use crate::promise::{Answer, Promise, Transaction};
@@ -125,6 +126,7 @@ impl<U: Universe> Engine<U> {
         requires ask { SawAsk seat.old promise.now.ask promise.now.opened promise.now.version (arc_value promise.now.key) }
         ensures turn { Turn U.Key.eq U.meaning seat.old seat.new (λ found. AddsNothing) }
         ensures reply { IsReply U.Key.eq U.meaning seat.new.seen promise.now.version (arc_value promise.now.key) promise.now.ask seat.new.left (reply_of result) }
+        ensures exact { TellsOfCore U.Key.eq U.meaning promise.now (reply_of result) seat.old seat.new }
         ensures seat { IsSeatOf self.now seat.new }
         ensures same { (seat.new.number ≡ seat.old.number) × (seat.new.writers ≡ seat.old.writers) }
     {

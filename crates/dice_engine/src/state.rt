@@ -7,12 +7,14 @@ ghost use Rattle.dice_core.specs.Commits.{Fault, fault_of, AreSettable, IsFirstF
 ghost use Rattle.journal.specs.declared.event.Told.{Told};
 ghost use Rattle.journal.specs.declared.event.Told.TheVariants.{Ask};
 ghost use Rattle.journal.specs.Law.{IsLawfulJournal};
-ghost use Rattle.dice_core.specs.Cores.{Absent, came_of, events_of, poll_of};
+ghost use Rattle.dice_core.specs.Cores.{Absent, came_of, events_of, poll_of, IsJobOut, IsNameOut};
 ghost use Rattle.dice_core.specs.Joinings.{IsToldOfMake};
 ghost use Rattle.dice_engine.specs.Turns.{newest_in, log_of, left_of, Adds, WorksOn};
 ghost use Rattle.dice_engine.specs.Calls.{AddsNothing, Opens, Closes, Asks, Leaves, Commits};
 ghost use Rattle.dice_engine.specs.Replies.{reply_of, Tells, IsLiveIn, IsReply};
 ghost use Rattle.dice_engine.specs.Lines.{AreLines};
+ghost use Rattle.dice_engine.specs.Jobs.{GoesOut, GivesUpJob, TakesUpStep, ComesHome};
+ghost use Rattle.dice_engine.specs.Doings.{RestsByJournal};
 
 use crate::lines::lines_of;
 use crate::promise::{Answer, Promise, Transaction};
@@ -67,6 +69,7 @@ fn standing<U: Universe>(core: &Core<U>) -> ((u64, u64, u64), u64)
     ensures left { result.0 ≡ left_of core.now }
     ensures newest { result.1 ≡ newest_in (events_of core.now) }
     ensures lawful { IsLawfulJournal U.Key.eq U.meaning (events_of core.now) }
+    ensures rests { RestsByJournal U.Key.eq U.meaning core.now }
 {
     core.in_order();
     ((core.ready(), core.out(), 0), core.newest())
@@ -186,6 +189,7 @@ impl<U: Universe> State<U> {
         // Where the ask is live, what is answered is what the core has come to.
         ensures exact { IsLiveIn (events_of self.now.core.value) promise.now.ask → Tells (poll_of U.Key.eq U.meaning self.now.core.value promise.now.version (arc_value promise.now.key)) (reply_of result) }
         ensures lawful { IsLawfulJournal U.Key.eq U.meaning (events_of self.now.core.value) }
+        ensures rests { RestsByJournal U.Key.eq U.meaning self.now.core.value }
     {
         let core = &*self.core;
         core.in_order();
@@ -205,10 +209,12 @@ impl<U: Universe> State<U> {
         lines_of(alloc, universe, core.journal())
     }
 
-    /// Takes the job of a task that is ready.
+    /// Takes the job of a task that is ready; it is out then, and nothing else is another. `None` exactly where no task is ready.
     pub(crate) fn take_job(&mut self) -> Option<Job<U>>
         ensures adds { Adds U.Key.eq U.meaning 0 (events_of self.old.core.value) (events_of self.new.core.value) AddsNothing }
+        ensures goes { GoesOut U.Key.eq result self.old.core.value self.new.core.value }
         ensures none { IfNone result (self.new.core.value.desk.ready ≡ []) }
+        ensures rests { RestsByJournal U.Key.eq U.meaning self.new.core.value }
     {
         let core = &mut *self.core;
         let job = core.take_job();
@@ -218,15 +224,14 @@ impl<U: Universe> State<U> {
         job
     }
 
-    /// Takes up what came of a job: a step, or the name of the job, where there was no memory for it.
+    /// Takes up what came of a job: a step, or the name of the job, where there was no memory for it. The job is out no more then.
     pub(crate) fn take_up(&mut self, came: Result<Step<U>, JobName<U>>)
-        ensures { Adds U.Key.eq U.meaning 0 (events_of self.old.core.value) (events_of self.new.core.value) (λ own work. own ≡ []) }
+        ensures adds { Adds U.Key.eq U.meaning 0 (events_of self.old.core.value) (events_of self.new.core.value) (λ own work. own ≡ []) }
+        ensures home { ComesHome U.Key.eq U.meaning U.Value.eq came self.old.core.value self.new.core.value }
+        ensures rests { RestsByJournal U.Key.eq U.meaning self.new.core.value }
     {
         let core = &mut *self.core;
-        match came {
-            Ok(step) => give(core, step),
-            Err(name) => fail(core, &name),
-        }
+        take_in(core, came);
         let (left, newest) = standing(core);
         self.left = left;
         self.newest = newest;
@@ -262,9 +267,22 @@ fn answer_of<U: Universe>(polled: Polled<'_, U>) -> Result<Answer<U>, NoMemory>
     }
 }
 
-/// Gives a step. Where there is no memory for it, its job is given up.
+/// Takes up what came of a job.
+fn take_in<U: Universe>(core: &mut Core<U>, came: Result<Step<U>, JobName<U>>)
+    ensures works { WorksOn (events_of core.old) (events_of core.new) }
+    ensures home { ComesHome U.Key.eq U.meaning U.Value.eq came core.old core.new }
+{
+    match came {
+        Ok(step) => give(core, step),
+        Err(name) => fail(core, &name),
+    }
+}
+
+/// Gives a step: it is taken; or its job is not out, and nothing changes; or there is no memory for it, and its job is given up.
 fn give<U: Universe>(core: &mut Core<U>, step: Step<U>)
-    ensures { WorksOn (events_of core.old) (events_of core.new) }
+    ensures works { WorksOn (events_of core.old) (events_of core.new) }
+    ensures takes { TakesUpStep U.Key.eq U.meaning U.Value.eq step core.old core.new }
+    ensures home { IsJobOut U.Key.eq core.new step.job → ⊥ }
 {
     match core.give(step) {
         Ok(gave) => drop(gave),
@@ -272,9 +290,11 @@ fn give<U: Universe>(core: &mut Core<U>, step: Step<U>)
     }
 }
 
-/// Gives up the job of this name, where it is out.
+/// Gives up the job of this name, where it is out; else nothing changes.
 fn fail<U: Universe>(core: &mut Core<U>, name: &JobName<U>)
-    ensures { WorksOn (events_of core.old) (events_of core.new) }
+    ensures works { WorksOn (events_of core.old) (events_of core.new) }
+    ensures gives_up { GivesUpJob U.Key.eq U.meaning name.now core.old core.new }
+    ensures home { IsNameOut U.Key.eq core.new name.now → ⊥ }
 {
     core.fail(name);
 }

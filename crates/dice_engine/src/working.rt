@@ -7,6 +7,8 @@ ghost use Rattle.dice_engine.specs.Turns.{Turn, Works, Later};
 ghost use Rattle.dice_engine.specs.Conditions.{SawAsk};
 ghost use Rattle.dice_engine.specs.Calls.{AddsNothing};
 ghost use Rattle.dice_engine.specs.Replies.{reply_of, settled_of, IsReply};
+ghost use Rattle.dice_engine.specs.Jobs.{GoesOut};
+ghost use Rattle.dice_engine.specs.Doings.{TurnOver, TakesIn, FindsNothing, DoesJob, WaitsFor};
 
 use crate::engine::{Engine, Seat};
 use crate::gate::Gate;
@@ -31,6 +33,10 @@ impl<U: Universe> Engine<U> {
         ensures later { Later U.Key.eq U.meaning seat.old seat.new × (seat.new.mine ≡ seat.old.mine) }
         ensures idle { result ≡ worked.Idle → seat.new.left.0 ≡ 0 }
         ensures did { result ≡ worked.Did → seat.new.turns ≡ seat.old.turns + 2 }
+
+        // A job went out and what came of it came home; or no task was ready, and nothing changed.
+        ensures job { result ≡ worked.Did → DoesJob U.Key.eq U.meaning U.Value.eq seat.old seat.new }
+        ensures none { result ≡ worked.Idle → FindsNothing U.Key.eq U.meaning seat.old seat.new }
         ensures seat { IsSeatOf self.now seat.new }
         ensures same { (seat.new.number ≡ seat.old.number) × (seat.new.writers ≡ seat.old.writers) }
     {
@@ -48,6 +54,7 @@ impl<U: Universe> Engine<U> {
         requires { IsSeatOf self.now seat.old }
         ensures turn { Turn U.Key.eq U.meaning seat.old seat.new (λ found. AddsNothing) }
         ensures none { IfNone result (seat.new.left.0 ≡ 0) }
+        ensures goes { TurnOver U.Key.eq U.meaning seat.old seat.new (GoesOut U.Key.eq result) }
     {
         let mut turn = self.stile.enter(rt, seat);
         let job = turn.state().take_job();
@@ -58,7 +65,8 @@ impl<U: Universe> Engine<U> {
     // Gives what came of a job, in one turn.
     fn take_up<R: Wait>(&self, rt: &R, seat: &mut Seat<U>, came: Result<Step<U>, JobName<U>>)
         requires { IsSeatOf self.now seat.old }
-        ensures { Turn U.Key.eq U.meaning seat.old seat.new (λ found own work. own ≡ []) }
+        ensures turn { Turn U.Key.eq U.meaning seat.old seat.new (λ found own work. own ≡ []) }
+        ensures home { TakesIn U.Key.eq U.meaning U.Value.eq came seat.old seat.new }
     {
         let mut turn = self.stile.enter(rt, seat);
         turn.state().take_up(came);
@@ -79,6 +87,7 @@ impl<U: Universe> Engine<U> {
         requires ask { SawAsk seat.old promise.now.ask promise.now.opened promise.now.version (arc_value promise.now.key) }
         ensures works { Works U.Key.eq U.meaning seat.old seat.new }
         ensures later { Later U.Key.eq U.meaning seat.old seat.new × (seat.new.mine ≡ seat.old.mine) }
+        ensures waits { WaitsFor U.Key.eq U.meaning U.Value.eq promise.now result seat.old seat.new }
         ensures reply { IsReply U.Key.eq U.meaning seat.new.seen promise.now.version (arc_value promise.now.key) promise.now.ask seat.new.left (settled_of result) }
         ensures seat { IsSeatOf self.now seat.new }
         ensures same { (seat.new.number ≡ seat.old.number) × (seat.new.writers ≡ seat.old.writers) }

@@ -1,12 +1,15 @@
-use Rattle.std.proofs.Common.{rules, refl, ap, subst}
+use Rattle.std.proofs.Common.{rules, ◌≡◌, [], refl, ap, subst}
 use Rattle.dice_core.specs.Cores.{events_of}
 use Rattle.turnstile.specs.InTurn.{seat_in}
 use Rattle.dice_engine.specs.Turns.{Turn}
-use Rattle.dice_engine.proofs.Turned.{entered, may_leave_tasks, turned_any}
+use Rattle.dice_engine.proofs.Turned.{entered, may_leave_tasks, did_so, turned_any}
 use Rattle.std.specs.Arc.{arc_value}
 use Rattle.dice_engine.specs.Calls.{AddsNothing}
 use Rattle.dice_engine.proofs.Kept.{saw}
 use Rattle.dice_engine.proofs.Adding.{nothing}
+use Rattle.dice_engine.proofs.Jobs.{turned_over}
+use Rattle.dice_engine.specs.Replies.{reply_of}
+use Rattle.dice_engine.specs.Doings.{TellsOfCore}
 use Rattle.dice_engine.proofs.engine.Engine.poll.Goals as goal
 
 pub poll-answer-requires-after_bounds : goal.poll-answer-requires-after_bounds
@@ -42,3 +45,18 @@ returns-clause-turn g c =
     let a = nothing eq m J J c.poll-answer.ensures.lawful 0 refl in
     subst (λ s. Turn eq m old s (λ found. AddsNothing)) (search rules)
     (turned_any eq m old mid J J c.leave.new.turn.0 (λ found. AddsNothing) 0 e (record { seen = c.leave.ensures.seen; mine = c.leave.ensures.mine; turns = c.leave.ensures.turns; floor = c.leave.ensures.floor; below = c.leave.ensures.below; noted = c.leave.ensures.noted; same = c.leave.ensures.same }) a a.did.0)
+
+pub returns-clause-exact : goal.returns-clause-exact
+returns-clause-exact g c =
+    let eq = g.U.Key.PartialEq.eq in
+    let m = g.U.Universe.meaning in
+    let old = c.args.seat.now in
+    let mid = seat_in c.enter-turn.result in
+    let core = c.state.result.now.core.value in
+    let J = events_of core in
+    let p = c.args.promise.now in
+    let r = reply_of c.poll-answer.result in
+    let e = entered eq m old mid (events_of c.enter-turn.result.state.core.value) J (ap (λ s. events_of s.core.value) c.state.ensures.value) c.enter-turn.ensures.turn c.enter-turn.ensures.seen c.enter-turn.ensures.mine c.enter-turn.ensures.floor in
+    let a = did_so eq m 0 J J AddsNothing (λ own work. own ≡ []) (nothing eq m J J c.poll-answer.ensures.lawful 0 refl) (λ own work d. d.0) in
+    subst (TellsOfCore eq m p r old) (search rules)
+    (turned_over eq m old mid c.leave.new.turn.0 core core _ 0 e (record { seen = c.leave.ensures.seen; mine = c.leave.ensures.mine; turns = c.leave.ensures.turns; floor = c.leave.ensures.floor; below = c.leave.ensures.below; noted = c.leave.ensures.noted; same = c.leave.ensures.same }) a c.leave.ensures.left c.poll-answer.ensures.rests (refl, c.poll-answer.ensures.exact))

@@ -1,7 +1,6 @@
 use Rattle.std.proofs.Common.{◌≡◌, Some, subst}
 use Rattle.std.specs.Prelude.{reverse}
 use Rattle.journal.specs.Events.{Opened, open_at}
-use Rattle.journal.specs.Law.{IsLawfulJournal}
 use Rattle.dice_core.specs.Cores.{CoreSeen, events_of}
 use Rattle.dice_engine.specs.Turns.{Adds}
 use Rattle.dice_engine.specs.Calls.{Closes}

@@ -1,5 +1,5 @@
 use Rattle.std.proofs.Common.{subst}
-use Rattle.std.specs.Prelude.{OnOk, OnErr}
+use Rattle.std.specs.Prelude.{OnErr}
 use Rattle.dice_core.specs.Cores.{CoreSeen, events_of}
 use Rattle.dice_engine.specs.Turns.{Adds}
 use Rattle.dice_engine.specs.Calls.{AddsNothing, Opens}

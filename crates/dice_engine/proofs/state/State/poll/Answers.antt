@@ -7,6 +7,7 @@ use Rattle.journal.specs.Law.{IsLawfulJournal}
 use Rattle.dice_core.specs.Cores.{CoreSeen, came_of, events_of, held_to, held_in}
 use Rattle.dice_engine.specs.Turns.{left_of}
 use Rattle.dice_engine.specs.Replies.{reply_of, IsReply}
+use Rattle.dice_engine.specs.Doings.{RestsByJournal}
 use Rattle.dice_engine.proofs.Replying.{asking_of, opened_there, some_open, injected_value, told_so}
 use Rattle.dice_engine.proofs.state.State.poll.Goals as goal
 
@@ -45,3 +46,9 @@ returns-clause-reply g c =
     (λ i. (cell_at eq m core.cells p.version k, c.poll.ensures.exact ∙ injected_value (m.kind k) _ (cell_at eq m core.cells p.version k) (held_to (held_in eq core p.version k)) i counted))
     c.poll.ensures.value c.poll.ensures.cycle (λ i. c.poll.ensures.decided some i) c.poll.ensures.lost c.poll.ensures.quiet
     (came_of c.poll.result) refl (reply_of c.answer_of.result) c.answer_of.ensures)
+
+pub returns-then-not-stands-clause-rests : goal.returns-then-not-stands-clause-rests
+returns-then-not-stands-clause-rests g c = subst (λ (s : CoreSeen g.row.U-Key.Denot g.row.U-Value.Denot). RestsByJournal g.U.Key.PartialEq.eq g.U.Universe.meaning s) c.deref-core.ensures c.in_order.ensures.rest
+
+pub returns-clause-rests : goal.returns-clause-rests
+returns-clause-rests g c = subst (λ (s : CoreSeen g.row.U-Key.Denot g.row.U-Value.Denot). RestsByJournal g.U.Key.PartialEq.eq g.U.Universe.meaning s) c.deref-core.ensures c.in_order.ensures.rest

@@ -1,0 +1,83 @@
+-- What turns do to the core. A seat sees of a core its journal and its counts.
+use Rattle.std.specs.Prelude.{◌≡◌, ℕ, Bool, [], Some, None, Result}
+use Rattle.std.specs.Arc.{arc_value}
+use Rattle.dice_key.specs.Meaning.{Meaning}
+use Rattle.dice_key.specs.declared.universe.NoMemory.{NoMemory}
+use Rattle.task_share.specs.Seen.{asked_of}
+use Rattle.journal.specs.declared.event.Told.{Told}
+use Rattle.dice_jobs.specs.Jobs.{Name, Assigned, Stepped}
+use Rattle.core_laws.specs.Stands.{IsAtRest}
+use Rattle.dice_tasks.specs.Hands.{tasks_of}
+use Rattle.dice_core.specs.Cores.{CoreSeen, events_of, past_of, table_at, poll_of, IsJobOut}
+use Rattle.turnstile.specs.Seats.{SeatView}
+use Rattle.dice_engine.specs.Turns.{left_of, Turn}
+use Rattle.dice_engine.specs.Replies.{Reply, settled_of, Tells, IsLiveIn}
+use Rattle.dice_engine.specs.Jobs.{GoesOut, ComesHome, CameOf}
+use Rattle.dice_engine.specs.declared.promise.Promise.{Promise}
+use Rattle.dice_engine.specs.declared.promise.Settled.{Settled}
+
+module _ {K V : Type 0} (eq : K → K → Bool) (m : Meaning K V) where
+  -- at each version the tasks of the core stand where they do by what its journal tells
+  abbrev pub RestsByJournal : CoreSeen K V → Type 0
+  RestsByJournal c = (v : ℕ) → IsAtRest eq m (past_of c) v (asked_of eq (table_at c.tables v))
+      (tasks_of eq (table_at c.tables v))
+
+  -- one turn, which found one core and left another: their journals are what the turn found and
+  -- what the seat sees then, and the seat's counts are those of the core left; R says what became
+  -- of it
+  pub record TurnOver (old new : SeatView (Told K V))
+      (R : CoreSeen K V → CoreSeen K V → Type 0) : Type 0 where
+    pub turn : Turn eq m old new (λ found own work. own ≡ [])
+    pub found : CoreSeen K V
+    pub left : CoreSeen K V
+    pub begins : events_of found ≡ turn.found
+    pub ends : events_of left ≡ new.seen
+    pub counts : left_of left ≡ new.left
+    pub rests : RestsByJournal left
+    pub did : R found left
+
+  -- a turn that changed nothing
+  abbrev pub Looks : SeatView (Told K V) → SeatView (Told K V) → Type 0
+  Looks old new = TurnOver old new (λ c d. d ≡ c)
+
+  -- such a turn, in which no task was ready
+  abbrev pub FindsNothing : SeatView (Told K V) → SeatView (Told K V) → Type 0
+  FindsNothing old new = TurnOver old new (GoesOut eq None)
+
+module _ {U K V R : Type 0} (eq : K → K → Bool) (m : Meaning K V) (p : Promise U K V R) where
+  -- a turn that changed nothing; and where the promise's ask is live, the reply is what its key has
+  -- come to in the core
+  abbrev pub TellsOfCore : Reply K V → SeatView (Told K V) → SeatView (Told K V) → Type 0
+  TellsOfCore r old new = TurnOver eq m old new (λ c d. (d ≡ c)
+      × (IsLiveIn (events_of d) p.ask → Tells (poll_of eq m d p.version (arc_value p.key)) r))
+
+module _ {K V : Type 0} (eq : K → K → Bool) (m : Meaning K V) (veq : V → V → Bool) where
+  -- a turn in which what came of a job comes home
+  abbrev pub TakesIn : Result (Stepped K V) (Name K) → SeatView (Told K V) → SeatView (Told K V)
+      → Type 0
+  TakesIn came old new = TurnOver eq m old new (ComesHome eq m veq came)
+
+  -- a job is done: in one turn it goes out, whose task was ready; in the next one what came of it
+  -- outside comes home; and it is out no more in the core that this one leaves
+  pub record DoesJob (old new : SeatView (Told K V)) : Type 0 where
+    pub mid : SeatView (Told K V)
+    pub job : Assigned K V
+    pub came : Result (Stepped K V) (Name K)
+    pub comes : CameOf eq m veq job came
+    pub out : TurnOver eq m old mid (GoesOut eq (Some job))
+    pub home : TurnOver eq m mid new
+        (λ c d. ComesHome eq m veq came c d × (IsJobOut eq d job → ⊥))
+
+  -- nothing but looks and jobs that are done, one after another
+  pub data WaitsOn (old : SeatView (Told K V)) : SeatView (Told K V) → Type 0 where
+    begins : WaitsOn old old
+    looks : {mid new : SeatView (Told K V)} → WaitsOn old mid → Looks eq m mid new → WaitsOn old new
+    does : {mid new : SeatView (Told K V)} → WaitsOn old mid → DoesJob mid new → WaitsOn old new
+
+module _ {U K V R : Type 0} (eq : K → K → Bool) (m : Meaning K V) (veq : V → V → Bool) where
+  -- and then one look more, in which what the promise settles to is told
+  pub record WaitsFor (p : Promise U K V R) (r : Result (Settled U K V R) NoMemory)
+      (old new : SeatView (Told K V)) : Type 0 where
+    pub mid : SeatView (Told K V)
+    pub waited : WaitsOn eq m veq old mid
+    pub told : TellsOfCore eq m p (settled_of r) mid new

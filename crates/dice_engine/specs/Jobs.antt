@@ -1,0 +1,66 @@
+-- What becomes of a job in the core: it goes out, and what came of it outside is taken up.
+use Rattle.std.specs.Prelude.{◌≡◌, Bool, [], Option, Some, None, Result, Ok, Err}
+use Rattle.dice_key.specs.Meaning.{Meaning}
+use Rattle.dice_jobs.specs.Jobs.{Name, Assigned, Stepped, IsStepOf}
+use Rattle.dice_tasks.specs.Endings.{GivesUpAll}
+use Rattle.dice_core.specs.Cores.{CoreSeen, Turned, IsAsBefore, IsJobOut, IsNameOut, TakesOut, GivesUpOnly}
+use Rattle.dice_core.specs.Givings.{Gives, IsTakenUp}
+
+module _ {K V : Type 0} (eq : K → K → Bool) where
+  -- a job that was ready goes out, and nothing else is another; or none was, and nothing changes
+  abbrev pub GoesOut : Option (Assigned K V) → CoreSeen K V → CoreSeen K V → Type 0
+  GoesOut None c d = (c.desk.ready ≡ []) × (d ≡ c)
+  GoesOut (Some j) c d = TakesOut eq j c d
+
+module _ {K V : Type 0} (eq : K → K → Bool) (m : Meaning K V) where
+  -- the job of this name, which was out, is given up: its task ends as lost, and with it each that
+  -- waits for it; then those go that nobody asks for any more; and no job of the name is out
+  pub record IsGivenUp (n : Name K) (c d : CoreSeen K V) : Type 0 where
+    pub was : IsNameOut eq c n
+    pub ends : Turned eq m n.version c.tables d.tables
+        (λ ps qs. GivesUpAll eq n.version None n.key ps qs c.desk d.desk)
+    pub only : GivesUpOnly eq c d
+    pub rest : (d.entries ≡ c.entries) × (d.cells ≡ c.cells) × (d.sessions ≡ c.sessions)
+    pub home : IsNameOut eq d n → ⊥
+
+  -- there was no memory for the job of this name: it was out, and is given up; or no job of the
+  -- name was out, and nothing changes
+  pub data GivesUpJob (n : Name K) (c d : CoreSeen K V) : Type 0 where
+    gives_up : IsGivenUp n c d → GivesUpJob n c d
+    not_out : (IsNameOut eq c n → ⊥) → d ≡ c → GivesUpJob n c d
+
+module _ {K V : Type 0} (eq : K → K → Bool) (m : Meaning K V) (veq : V → V → Bool) where
+  -- the step's job was out and is out no more; and of its task, of those that wait for it and of
+  -- the entries becomes what the step reports
+  pub record IsStepTaken (s : Stepped K V) (c d : CoreSeen K V) : Type 0 where
+    pub gives : Turned eq m s.job.name.version c.tables d.tables
+        (λ ps qs. Gives eq s.job.name.version s ps qs c.desk d.desk)
+    pub does : Turned eq m s.job.name.version c.tables d.tables
+        (λ ps qs. IsTakenUp eq m veq s.job.name.version s c.cells ps qs c.entries d.entries
+        c.desk d.desk s.outcome)
+    pub rest : (d.cells ≡ c.cells) × (d.sessions ≡ c.sessions)
+
+  -- the step's job was out; memory was refused for the step, which left all as before; and so the
+  -- job was given up
+  pub record IsStepLost (s : Stepped K V) (c d : CoreSeen K V) : Type 0 where
+    pub was : IsJobOut eq c s.job
+    pub refused : CoreSeen K V
+    pub as_before : IsAsBefore eq c refused
+    pub given_up : IsGivenUp eq m s.job.name refused d
+
+  -- what becomes of a step: it is taken; or its job was not out, and nothing changes; or it is lost
+  pub data TakesUpStep (s : Stepped K V) (c d : CoreSeen K V) : Type 0 where
+    taken : IsStepTaken s c d → TakesUpStep s c d
+    stale : (IsJobOut eq c s.job → ⊥) → d ≡ c → TakesUpStep s c d
+    lost : IsStepLost s c d → TakesUpStep s c d
+
+  -- what came of a job comes home: its step is taken up; or its name alone, where there was no
+  -- memory for the work; and the job is out no more
+  abbrev pub ComesHome : Result (Stepped K V) (Name K) → CoreSeen K V → CoreSeen K V → Type 0
+  ComesHome (Ok s) c d = TakesUpStep s c d × (IsJobOut eq d s.job → ⊥)
+  ComesHome (Err n) c d = GivesUpJob eq m n c d × (IsNameOut eq d n → ⊥)
+
+  -- this is what comes of the job outside
+  abbrev pub CameOf : Assigned K V → Result (Stepped K V) (Name K) → Type 0
+  CameOf j (Ok s) = IsStepOf m veq s j
+  CameOf j (Err n) = n ≡ j.name
