@@ -25,7 +25,7 @@ while True:
     above, found = {}, []
     for pid in filter(str.isdigit, os.listdir("/proc")):
         stat, words = read(f"/proc/{pid}/stat"), read(f"/proc/{pid}/cmdline").split("\0")
-        if not stat: continue
+        if not stat or not words[0]: continue
         rest = stat[stat.rindex(")") + 2 :].split()
         above[pid] = rest[1], len(words) > 2 and words[1].endswith("/rt") and words[2] == "ci"
         try: at = os.readlink(f"/proc/{pid}/cwd")
