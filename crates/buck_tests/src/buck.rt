@@ -1,5 +1,5 @@
 //! The universe of Buck targets, call by call, and its values from nothing.
-ghost use Rattle.std.specs.Prelude.{◌≡◌, length, IfOk};
+ghost use Rattle.std.specs.Prelude.{IfOk};
 ghost use Rattle.dice_model.specs.Log.{IsCommit, pairs_of};
 ghost use Rattle.action_digest.specs.Buck.{buck};
 
@@ -41,49 +41,26 @@ fn is_no_package(value: &Value, name: &[u8]) -> bool {
     }
 }
 
-fn package_key(alloc: Global) -> Result<Key, NoMemory> {
-    let package = Package::read(alloc, b"a").map_err(|_| NoMemory)?;
-    Ok(PackageKey { package }.wrap())
-}
-
-/// The answer to a batch of one source that is not there.
-fn no_source(alloc: Global) -> Result<Answers<Value>, NoMemory>
-    ensures { IfOk result (λ a. length a ≡ 1) }
-{
-    let mut answers = Answers::new(alloc);
-    answers.push(Arc::new(alloc, Value::Source(None))?)?;
-    Ok(answers)
-}
-
-/// Whether a move asks one key, which prints as this.
-fn asks(universe: &Buck, step: &Move<Key, Value>, text: &[u8]) -> Result<bool, NoMemory> {
-    match step {
-        Move::Ask(batch) => match batch.keys() {
-            [key] => Ok(universe.print(key, false)?.as_bytes() == text),
-            _ => Ok(false),
-        },
-        Move::Done(_) => Ok(false),
-    }
-}
-
-/// Whether a move has come to the fault that there is no package of this name.
-fn finds_no_package(step: &Move<Key, Value>, name: &[u8]) -> bool {
-    match step {
-        Move::Done(value) => is_no_package(value, name),
-        Move::Ask(_) => false,
-    }
-}
-
 #[test]
 fn a_package_asks_its_target_file(rt: HostRuntime) -> Result<(), Fail> {
     let alloc = rt.alloc();
     let universe = Buck::new(alloc)?;
-    let key = Arc::new(alloc, package_key(alloc)?)?;
+    let package = Package::read(alloc, b"a").map_err(|_| NoMemory)?;
+    let key = Arc::new(alloc, PackageKey { package }.wrap())?;
     assert_eq!(rt; universe.kind(&key), Kind::Computed);
-    let (mut run, first) = universe.begin(&key, 1)?;
-    assert!(rt; asks(&universe, &first, b"source a/BUCK")?);
-    let second = universe.resume(&mut run, &no_source(alloc)?)?;
-    assert!(rt; finds_no_package(&second, b"a"));
+    let (mut run, step) = universe.begin(&key, 1)?;
+    let asked = match step {
+        Move::Ask(batch) => universe.print(&batch.keys()[0], false)?,
+        Move::Done(_) => universe.print(&key, true)?,
+    };
+    assert!(rt; asked.as_bytes() == b"source a/BUCK".as_slice());
+    let mut answers = Answers::new(alloc);
+    answers.push(Arc::new(alloc, Value::Source(None))?)?;
+    let done = match universe.resume(&mut run, &answers)? {
+        Move::Done(value) => is_no_package(&value, b"a"),
+        Move::Ask(_) => false,
+    };
+    assert!(rt; done);
     Ok(())
 }
 
@@ -93,33 +70,25 @@ fn rule_key(alloc: Global) -> Result<Key, NoMemory> {
     Ok(RuleKey { label }.wrap())
 }
 
-fn prints(universe: &Buck, key: &Key, short: bool, text: &[u8]) -> Result<bool, NoMemory> {
-    Ok(universe.print(key, short)?.as_bytes() == text)
-}
-
 #[test]
 fn a_rule_stands_on_its_package(rt: HostRuntime) -> Result<(), Fail> {
     let alloc = rt.alloc();
     let universe = Buck::new(alloc)?;
     let rule = rule_key(alloc)?;
     let base = universe.base(&rule)?;
-    assert!(rt; prints(&universe, &base, false, b"package //a")?);
-    assert!(rt; prints(&universe, &rule, true, b"//a:w")?);
+    assert!(rt; universe.print(&base, false)?.as_bytes() == b"package //a".as_slice());
+    assert!(rt; universe.print(&rule, true)?.as_bytes() == b"//a:w".as_slice());
     assert!(rt; universe.most_batches(&rule) == 1);
     Ok(())
-}
-
-/// The value of a package that is not there.
-fn no_package(alloc: Global) -> Result<Value, NoMemory> {
-    let package = Package::read(alloc, b"a").map_err(|_| NoMemory)?;
-    Ok(Value::Package(Err(Fault::NoPackage(package))))
 }
 
 #[test]
 fn a_rule_of_no_package_has_its_fault(rt: HostRuntime) -> Result<(), Fail> {
     let alloc = rt.alloc();
     let universe = Buck::new(alloc)?;
-    let found = universe.project(&rule_key(alloc)?, &no_package(alloc)?)?;
+    let package = Package::read(alloc, b"a").map_err(|_| NoMemory)?;
+    let none = Value::Package(Err(Fault::NoPackage(package)));
+    let found = universe.project(&rule_key(alloc)?, &none)?;
     assert!(rt; is_no_package_of_rule(&found) && !universe.is_transient(&found));
     Ok(())
 }
@@ -177,7 +146,11 @@ fn fault_text(alloc: Global, fault: &Fault) -> Result<Vec<u8>, NoMemory> {
 
 /// The text of an action or its fault in words; nothing where it has no value.
 fn action_text(alloc: Global, files: Files<'_>, name: &[u8]) -> Result<Vec<u8>, NoMemory> {
-    match value_of(alloc, files, action_key(alloc, name)?)? {
+    let key = ActionKey {
+        label: label(alloc, name)?,
+    }
+    .wrap();
+    match value_of(alloc, files, key)? {
         Some(value) => match ActionKey::read(&value) {
             Some(Ok(action)) => Ok(Vec::from_slice(alloc, action.text.as_bytes())?),
             Some(Err(fault)) => fault_text(alloc, fault),
@@ -189,7 +162,8 @@ fn action_text(alloc: Global, files: Files<'_>, name: &[u8]) -> Result<Vec<u8>, 
 
 /// The value of the package `a`, whose target file has these bytes.
 fn package_of(alloc: Global, bytes: &[u8]) -> Result<Option<Arc<Value>>, NoMemory> {
-    value_of(alloc, &[(b"a/BUCK", bytes)], package_key(alloc)?)
+    let package = Package::read(alloc, b"a").map_err(|_| NoMemory)?;
+    value_of(alloc, &[(b"a/BUCK", bytes)], PackageKey { package }.wrap())
 }
 
 fn has_one_target(value: &Value) -> bool {
@@ -199,30 +173,25 @@ fn has_one_target(value: &Value) -> bool {
     }
 }
 
-/// A target file, and whether its package is that of `WRITE`.
-const PACKAGES: [(&[u8], bool); 4] = [
-    (WRITE, true),
-    (
-        b"write_file(content = 'abc', out = 'w.txt', name = 'w')",
-        true,
-    ),
-    (
-        b"\nwrite_file(name = 'w', out = 'w.txt', content = 'abc')",
-        false,
-    ),
-    (b"write_file(name = 'w', content = 'abc')", false),
-];
-
-fn is_written_package(alloc: Global, bytes: &[u8]) -> Result<bool, NoMemory> {
-    Ok(package_of(alloc, bytes)? == package_of(alloc, WRITE)?)
-}
-
 #[test]
 fn a_package_is_its_targets_whatever_their_text(rt: HostRuntime) -> Result<(), Fail> {
-    for (bytes, same) in PACKAGES {
-        assert!(rt; is_written_package(rt.alloc(), bytes)? == same);
+    let alloc = rt.alloc();
+    let package = package_of(alloc, WRITE)?;
+    let rows: [(&[u8], bool); 4] = [
+        (WRITE, true),
+        (
+            b"write_file(content = 'abc', out = 'w.txt', name = 'w')",
+            true,
+        ),
+        (
+            b"\nwrite_file(name = 'w', out = 'w.txt', content = 'abc')",
+            false,
+        ),
+        (b"write_file(name = 'w', content = 'abc')", false),
+    ];
+    for (bytes, same) in rows {
+        assert!(rt; (package_of(alloc, bytes)? == package) == same);
     }
-    let package = package_of(rt.alloc(), WRITE)?;
     assert!(rt; package.is_some_and(|value| has_one_target(&value)));
     Ok(())
 }
@@ -272,7 +241,8 @@ fn actions_of_the_rules_from_nothing(rt: HostRuntime) -> Result<(), Fail> {
         ),
     ];
     for (files, name, want) in rows {
-        assert!(rt; action_text(alloc, files, name)?.as_slice() == want);
+        let text = action_text(alloc, files, name)?;
+        assert!(rt; text.as_slice() == want);
     }
     Ok(())
 }
@@ -303,7 +273,8 @@ fn faults_come_in_the_order_of_the_sources(rt: HostRuntime) -> Result<(), Fail> 
         (b"filegroup(name = \"x\", srcs = [\"none\", \":x\"])\n", b""),
     ];
     for (file, want) in rows {
-        assert!(rt; action_text(alloc, &[(b"a/BUCK", file)], b"//a:x")?.as_slice() == want);
+        let text = action_text(alloc, &[(b"a/BUCK", file)], b"//a:x")?;
+        assert!(rt; text.as_slice() == want);
     }
     Ok(())
 }
@@ -331,73 +302,51 @@ fn is_write_digest(alloc: Global, value: &Value) -> Result<bool, NoMemory> {
     }
 }
 
-fn action_key(alloc: Global, name: &[u8]) -> Result<Key, NoMemory> {
-    let label = label(alloc, name)?;
-    Ok(ActionKey { label }.wrap())
-}
-
-fn digest_key(alloc: Global, name: &[u8]) -> Result<Key, NoMemory> {
-    let label = label(alloc, name)?;
-    Ok(DigestKey { label }.wrap())
-}
-
-/// Whether the action of `//a:w` has its text; `None` where it has no value this deep.
-fn has_text_within(alloc: Global, depth: u32) -> Result<Option<bool>, NoMemory> {
-    let key = action_key(alloc, b"//a:w")?;
-    match value_within(alloc, &[(b"a/BUCK", WRITE)], key, depth)? {
-        Some(value) => Ok(Some(is_write_text(&value))),
-        None => Ok(None),
-    }
-}
-
-/// Whether the digest of `//a:w` is that of the text; `None` where it has no value this deep.
-fn has_digest_within(alloc: Global, depth: u32) -> Result<Option<bool>, NoMemory> {
-    let key = digest_key(alloc, b"//a:w")?;
-    match value_within(alloc, &[(b"a/BUCK", WRITE)], key, depth)? {
-        Some(value) => Ok(Some(is_write_digest(alloc, &value)?)),
-        None => Ok(None),
-    }
-}
-
-/// Whether the target file is a source that is there.
-fn has_source(alloc: Global) -> Result<bool, NoMemory> {
-    let path = Path::read(alloc, b"a/BUCK").map_err(|_| NoMemory)?;
-    match value_of(alloc, &[(b"a/BUCK", WRITE)], SourceKey { path }.wrap())? {
-        Some(value) => Ok(matches!(SourceKey::read(&value), Some(Some(_)))),
-        None => Ok(false),
-    }
-}
-
-/// Whether the action of a target, in this target file, has a transient value.
-fn is_transient(alloc: Global, file: &[u8], name: &[u8]) -> Result<bool, NoMemory> {
-    let universe = Buck::new(alloc)?;
-    match value_of(alloc, &[(b"a/BUCK", file)], action_key(alloc, name)?)? {
-        Some(value) => Ok(universe.is_transient(&value)),
-        None => Ok(false),
-    }
-}
-
-fn most_batches_of_action(alloc: Global, name: &[u8]) -> Result<u32, NoMemory> {
-    Ok(Buck::new(alloc)?.most_batches(&action_key(alloc, name)?))
-}
-
 #[test]
 fn a_digest_is_that_of_the_text_and_a_stamp_is_transient(rt: HostRuntime) -> Result<(), Fail> {
     let alloc = rt.alloc();
+    let universe = Buck::new(alloc)?;
     // The action stands on its rule, its package and the file; the digest on the action.
     for (depth, text, digest) in [
-        (3, None, None),
-        (4, Some(true), None),
-        (5, Some(true), Some(true)),
-        (DEPTH, Some(true), Some(true)),
+        (3, false, false),
+        (4, true, false),
+        (5, true, true),
+        (DEPTH, true, true),
     ] {
-        assert_eq!(rt; has_text_within(alloc, depth)?, text);
-        assert_eq!(rt; has_digest_within(alloc, depth)?, digest);
+        let action = ActionKey {
+            label: label(alloc, b"//a:w")?,
+        };
+        let found = value_within(alloc, &[(b"a/BUCK", WRITE)], action.wrap(), depth)?;
+        assert_eq!(rt; found.is_some(), text);
+        if let Some(value) = found {
+            assert!(rt; is_write_text(&value));
+        }
+        let key = DigestKey {
+            label: label(alloc, b"//a:w")?,
+        };
+        let found = value_within(alloc, &[(b"a/BUCK", WRITE)], key.wrap(), depth)?;
+        assert_eq!(rt; found.is_some(), digest);
+        if let Some(value) = found {
+            assert!(rt; is_write_digest(alloc, &value)?);
+        }
     }
-    assert!(rt; has_source(alloc)?);
-    assert!(rt; !is_transient(alloc, WRITE, b"//a:w")? && is_transient(alloc, STAMP, b"//a:s")?);
-    for name in [b"//a:w", b"//a:s"] {
-        assert_eq!(rt; most_batches_of_action(alloc, name)?, 2);
+    let path = Path::read(alloc, b"a/BUCK").map_err(|_| NoMemory)?;
+    let read = value_of(alloc, &[(b"a/BUCK", WRITE)], SourceKey { path }.wrap())?;
+    assert!(rt;
+        matches!(
+            read.as_ref().map(|x| SourceKey::read(x)),
+            Some(Some(Some(_)))
+        )
+    );
+    for (file, name, transient) in [(WRITE, b"//a:w", false), (STAMP, b"//a:s", true)] {
+        let action = ActionKey {
+            label: label(alloc, name)?,
+        }
+        .wrap();
+        assert!(rt; universe.most_batches(&action) == 2);
+        let value = value_of(alloc, &[(b"a/BUCK", file)], action)?;
+        let is = value.is_some_and(|x| universe.is_transient(&x));
+        assert!(rt; is == transient);
     }
     Ok(())
 }
@@ -410,22 +359,16 @@ fn cycle(alloc: Global) -> Result<Vec<Arc<Key>>, NoMemory> {
         (b"//b:x", b"//a:x"),
         (b"//a:x", b"//a:y"),
     ] {
-        keys.push(Arc::new(alloc, action_key(alloc, name)?)?)?;
-        keys.push(Arc::new(alloc, digest_key(alloc, next)?)?)?;
+        let action = ActionKey {
+            label: label(alloc, name)?,
+        };
+        let digest = DigestKey {
+            label: label(alloc, next)?,
+        };
+        keys.push(Arc::new(alloc, action.wrap())?)?;
+        keys.push(Arc::new(alloc, digest.wrap())?)?;
     }
     Ok(keys)
-}
-
-fn are(labels: &[Label], texts: &[&[u8]]) -> bool {
-    if labels.len() != texts.len() {
-        return false;
-    }
-    for (label, text) in labels.iter().zip(texts) {
-        if label.as_bytes() != *text {
-            return false;
-        }
-    }
-    true
 }
 
 #[test]
@@ -434,7 +377,10 @@ fn the_labels_of_a_cycle_begin_with_the_least(rt: HostRuntime) -> Result<(), Fai
     let keys = cycle(alloc)?;
     assert!(rt; keys.len() == 6);
     let labels = labels_of_cycle(alloc, &dice_key::Path::from_keys(keys))?;
-    assert!(rt; are(&labels, &[b"//a:x", b"//a:y", b"//b:x"]));
+    assert_eq!(rt; labels.len(), 3);
+    for (label, want) in labels.iter().zip([b"//a:x", b"//a:y", b"//b:x"]) {
+        assert!(rt; label.as_bytes() == want.as_slice());
+    }
     keys_are_settled();
     cycles_are_of_labels();
     Ok(())

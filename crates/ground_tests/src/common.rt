@@ -1,21 +1,10 @@
 //! What several tests ask of a value.
 use version_ranges::Ranges;
 
-/// A range of versions: its first one, and the first one above it, if any.
-pub(crate) type RangeRow = (u64, Option<u64>);
-
 /// Whether the set is this list of ranges.
-pub(crate) fn lists(ranges: &Ranges, want: &[RangeRow]) -> bool {
+pub(crate) fn lists(ranges: &Ranges, want: &[(u64, Option<u64>)]) -> bool {
     let have = ranges.as_slice();
-    if have.len() != want.len() {
-        return false;
-    }
-    for (range, row) in have.iter().zip(want) {
-        if (range.from, range.to) != *row {
-            return false;
-        }
-    }
-    true
+    have.len() == want.len() && have.iter().zip(want).all(|(r, w)| (r.from, r.to) == *w)
 }
 
 /// A value of the type may go to another thread, and be read there.
