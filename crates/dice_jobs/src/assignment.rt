@@ -24,12 +24,23 @@ pub struct Earlier<U: Universe> {
 /// earlier one is checked.
 ///
 /// A task keeps one while its job is out, and compares with it the step that comes back.
-#[derive(Drop)]
 pub struct Assignment<U: Universe> {
     alloc: Global,
     name: JobName<U>,
     answered: Option<Arc<Trace<U>>>,
     earlier: Option<Earlier<U>>,
+}
+
+// (One function for all places that drop one: a derived drop is written out at each.)
+impl<U: Universe> Drop for Assignment<U> {
+    fn drop(self) {
+        let Assignment {
+            alloc: _,
+            name: _name,
+            answered: _answered,
+            earlier: _earlier,
+        } = self;
+    }
 }
 
 impl<U: Universe> Model for Assignment<U> {
@@ -71,7 +82,13 @@ impl<U: Universe> Assignment<U> {
     pub(crate) fn into_name(self) -> JobName<U>
         ensures { result ≡ self.name }
     {
-        self.name
+        let Assignment {
+            alloc: _,
+            name,
+            answered: _answered,
+            earlier: _earlier,
+        } = self;
+        name
     }
 
     /// The earlier value that is checked; `None` where the value is computed.

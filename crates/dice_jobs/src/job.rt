@@ -33,10 +33,19 @@ pub(crate) enum Ready<U: Universe> {
 /// A piece of work for a key at a version that is done outside the core: one step of a run, or of a check of an earlier value.
 ///
 /// It says what it is for; what comes of it is a function of that, and [`Job::advance`] finds it.
-#[derive(Drop)]
 pub struct Job<U: Universe> {
     pub(crate) assignment: Assignment<U>,
     pub(crate) ready: Ready<U>,
+}
+
+// (One function for all places that drop one: a derived drop is written out at each.)
+impl<U: Universe> Drop for Job<U> {
+    fn drop(self) {
+        let Job {
+            assignment: _assignment,
+            ready: _ready,
+        } = self;
+    }
 }
 
 impl<U: Universe> Model for Job<U> {

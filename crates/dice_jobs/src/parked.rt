@@ -16,11 +16,21 @@ pub(crate) enum Course<U: Universe> {
 }
 
 /// A job between two steps: it waits for the answers to a batch.
-#[derive(Drop)]
 pub struct Parked<U: Universe> {
     pub(crate) assignment: Assignment<U>,
     pub(crate) batch: Batch<U::Key>,
     pub(crate) course: Course<U>,
+}
+
+// (One function for all places that drop one: a derived drop is written out at each.)
+impl<U: Universe> Drop for Parked<U> {
+    fn drop(self) {
+        let Parked {
+            assignment: _assignment,
+            batch: _batch,
+            course: _course,
+        } = self;
+    }
 }
 
 impl<U: Universe> Model for Parked<U> {
@@ -65,7 +75,11 @@ impl<U: Universe> Parked<U> {
         requires next { next ≡ answered_more self.job self.keys answers }
         ensures { result ≡ next }
     {
-        let Parked { course, .. } = self;
+        let Parked {
+            assignment: _assignment,
+            batch: _batch,
+            course,
+        } = self;
         let ready = match course {
             Course::Run(run) => Ready::Resume(run, answers),
             Course::Check(check) => Ready::Feed(check, answers),

@@ -249,11 +249,11 @@ fn part_of<U: Universe>(
     ensures part { IfOk result (IsPart U.Key.eq U.meaning version born tasks.now graph.now) }
     ensures key { IfOk result (λ p. key_in p ≡ arc_value key.now) }
 {
+    let own = Arc::try_clone(key)?;
     let making = prepare::<U>(alloc, graph, tasks, version, key, born)?;
     let awaited = is_awaited::<U>(tasks, key, &making);
-    let key = Arc::try_clone(key)?;
     Ok(Part {
-        key,
+        key: own,
         making,
         awaited,
     })

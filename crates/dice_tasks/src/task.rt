@@ -41,11 +41,21 @@ pub(crate) struct Spare<U: Universe> {
 }
 
 /// What a waiting task goes on with when its batch is answered, made ahead: what its job is for then, twice, and the answers.
-#[derive(Drop)]
 pub struct Next<U: Universe> {
     own: Assignment<U>,
     job: Assignment<U>,
     answers: Answers<U::Value>,
+}
+
+// (One function for all places that drop one: a derived drop is written out at each.)
+impl<U: Universe> Drop for Next<U> {
+    fn drop(self) {
+        let Next {
+            own: _own,
+            job: _job,
+            answers: _answers,
+        } = self;
+    }
 }
 
 impl<U: Universe> Model for Next<U> {
@@ -96,12 +106,30 @@ impl<U: Universe> Next<U> {
 }
 
 /// A task: the work for one key at one version.
-#[derive(Drop)]
 pub struct Task<U: Universe> {
     name: JobName<U>,
     state: TaskState<U::Key, U::Value>,
     load: Load<U>,
     spare: Option<Spare<U>>,
+}
+
+// (One function for all places that drop one: a derived drop is written out at each.)
+impl<U: Universe> Drop for Task<U> {
+    fn drop(self) {
+        let Task {
+            name: _name,
+            state: _state,
+            load: _load,
+            spare: _spare,
+        } = self;
+    }
+}
+
+/// Puts a value in place of another, which is dropped: by one call, and not by what an assignment writes out at each place.
+fn put<T: Drop>(place: &mut T, value: T)
+    ensures { place.new ≡ value }
+{
+    *place = value;
 }
 
 impl<U: Universe> Model for Task<U> {
@@ -173,11 +201,11 @@ impl<U: Universe> Task<U> {
         match mem::replace(&mut self.load, Load::Nothing) {
             Load::Job(job, own) => {
                 self.state.taken();
-                self.load = Load::Away(own);
+                put(&mut self.load, Load::Away(own));
                 Some(job)
             }
             other => {
-                self.load = other;
+                put(&mut self.load, other);
                 None
             }
         }
@@ -204,11 +232,11 @@ impl<U: Universe> Task<U> {
         match mem::replace(&mut self.load, Load::Nothing) {
             Load::Away(own) => {
                 self.state.back();
-                self.load = Load::Job(job, own);
+                put(&mut self.load, Load::Job(job, own));
                 None
             }
             other => {
-                self.load = other;
+                put(&mut self.load, other);
                 Some(job)
             }
         }
@@ -227,7 +255,7 @@ impl<U: Universe> Task<U> {
         ensures { self.new ≡ held_of parked.job (IsWaiting parked.keys) }
     {
         self.state.given(false);
-        self.load = Load::Parked(parked);
+        put(&mut self.load, Load::Parked(parked));
     }
 
     /// What a waiting task goes on with when its batch has these answers, a value for each key. It costs the number of keys and
@@ -251,9 +279,9 @@ impl<U: Universe> Task<U> {
             Load::Parked(parked) => {
                 let (job, own) = next.of_parked(parked);
                 self.state.answered();
-                self.load = Load::Job(job, own);
+                put(&mut self.load, Load::Job(job, own));
             }
-            other => self.load = other,
+            other => put(&mut self.load, other),
         }
     }
 
@@ -266,7 +294,7 @@ impl<U: Universe> Task<U> {
     {
         let (job, own) = next.of_parked(parked);
         self.state.given(true);
-        self.load = Load::Job(job, own);
+        put(&mut self.load, Load::Job(job, own));
     }
 
     /// The check that was out found a difference: the key's value is computed. It takes no memory.
@@ -277,7 +305,7 @@ impl<U: Universe> Task<U> {
         ensures { self.new ≡ held_of job IsReady }
     {
         self.state.differs();
-        self.load = Load::Job(job, own);
+        put(&mut self.load, Load::Job(job, own));
     }
 
     /// Ends the task, and hands out the copies of its key. It takes no memory.
@@ -288,7 +316,7 @@ impl<U: Universe> Task<U> {
         ensures some { IfNone result ⊥ }
     {
         self.state.end(outcome);
-        self.load = Load::Nothing;
+        put(&mut self.load, Load::Nothing);
         self.spare.take()
     }
 

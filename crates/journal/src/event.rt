@@ -17,7 +17,6 @@ pub enum Cause<K: Drop> {
 
 /// What happened. Here `by` is the number of the seat that acts, a transaction or an ask is named by the index of the event that
 /// made it, and a base is a version at which the key was decided before and whose value and trace were looked at.
-#[derive(Drop)]
 pub enum Event<K: Drop, V: Drop> {
     /// By a seat these changes were committed.
     Commit(u64, Changes<K, V>),
@@ -41,6 +40,20 @@ pub enum Event<K: Drop, V: Drop> {
     Drop(u64, Arc<K>),
     /// At a version a key was given up for want of memory.
     Lost(u64, Arc<K>),
+}
+
+// (One function for all places that drop one: a derived drop is written out at each.)
+impl<K: Drop, V: Drop> Drop for Event<K, V> {
+    fn drop(self) {
+        match self {
+            Event::Commit(_, _changes) => {}
+            Event::Open(_, _) | Event::Close(_, _) | Event::Leave(_, _) => {}
+            Event::Ask(_, _, _key) | Event::Keep(_, _key, _) => {}
+            Event::Start(_, _key, _cause) => {}
+            Event::End(_, _key) | Event::Cyclic(_, _key) => {}
+            Event::Drop(_, _key) | Event::Lost(_, _key) => {}
+        }
+    }
 }
 
 /// A cause as contracts see it, without pointers. No value of it is made.

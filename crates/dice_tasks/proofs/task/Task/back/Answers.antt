@@ -13,7 +13,7 @@ invariant_of-self g c =
     let t : c.is_away.result ≡ true = first_of (assumption c.if-not-is_away.false, search (from_not, c.if-not-is_away.false, rules)) in
     let o = c.is_away.ensures.0 t ∙ same_out c.assignment.result.now c.args.job c.assignment.ensures in
     let e : c.self.inside.load ≡ Away c.in-Away.own = cc (c.in-Away.is, c.in-Away.ensures.value, c.replace.ensures.value) in
-    back_loaded c.self.inside.name c.self.inside.load c.self.inside.state c.back.new.self c.args.self.now c.in-Away.own c.args.job c.self.inside.spare c.self.invariant c.self.view_is e o c.back.ensures
+    rw c.put.ensures (back_loaded c.self.inside.name c.self.inside.load c.self.inside.state c.back.new.self c.args.self.now c.in-Away.own c.args.job c.self.inside.spare c.self.invariant c.self.view_is e o c.back.ensures)
 
 pub returns-in_default : goal.returns-in_default
 returns-in_default g c =

@@ -11,4 +11,4 @@ given-requires g c =
 pub returns : goal.returns
 returns g c =
     let a = away_is c.self.inside.name c.self.inside.load c.self.inside.state c.args.parked.job c.self.invariant.0 (c.self.view_is ∙ c.requires) in
-    held_is c.args.parked.job c.self.inside.name (IsWaiting c.args.parked.keys) a.0
+    rw c.put.ensures (held_is c.args.parked.job c.self.inside.name (IsWaiting c.args.parked.keys) a.0)
