@@ -26,11 +26,21 @@ pub enum Next<'a, K, V> {
 }
 
 /// A check of a trace: it is fed the answers to one batch after the other, as long as they are as they were.
-#[derive(Drop)]
 pub struct Check<U: Universe> {
     trace: Arc<Trace<U>>,
     agreed: usize,
     change: Option<Change<U::Value>>,
+}
+
+// (One function for all places that drop one: a derived drop is written out at each.)
+impl<U: Universe> Drop for Check<U> {
+    fn drop(self) {
+        let Check {
+            trace: _trace,
+            agreed: _,
+            change: _change,
+        } = self;
+    }
 }
 
 /// The answers to a batch, and the first place at which one of them has changed.

@@ -11,10 +11,19 @@ use std::alloc::Global;
 use std::marker::Model;
 
 /// What a run asked so far, and what was answered.
-#[derive(Drop)]
 pub struct Recorder<U: Universe> {
     trace: Trace<U>,
     asked: Option<Batch<U::Key>>,
+}
+
+// (One function for all places that drop one: a derived drop is written out at each.)
+impl<U: Universe> Drop for Recorder<U> {
+    fn drop(self) {
+        let Recorder {
+            trace: _trace,
+            asked: _asked,
+        } = self;
+    }
 }
 
 impl<U: Universe> Model for Recorder<U> {
@@ -74,6 +83,10 @@ impl<U: Universe> Recorder<U> {
         ensures all { result ≡ self.answered }
         ensures trace { (C : List (List (U.Key × U.Value))) (v : ℕ) (k : U.Key) (x : U.Value) → U.meaning.kind k ≢ Injected → Goes U.Key.eq U.meaning C v k [] self.answered → U.meaning.next k self.answered v ≡ Ends x → IsTrace U.Key.eq U.meaning C v k result x }
     {
-        self.trace
+        let Recorder {
+            trace,
+            asked: _asked,
+        } = self;
+        trace
     }
 }

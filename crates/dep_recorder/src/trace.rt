@@ -11,10 +11,19 @@ use std::sync::Arc;
 /// Batches of keys with an answer to each, in the order in which a run asked them.
 ///
 /// The pairs of all batches lie in one vector.
-#[derive(Drop)]
 pub struct Trace<U: Universe> {
     pub(crate) pairs: Vec<(Arc<U::Key>, Arc<U::Value>)>,
     pub(crate) ends: Vec<usize>,
+}
+
+// (One function for all places that drop one: a derived drop is written out at each.)
+impl<U: Universe> Drop for Trace<U> {
+    fn drop(self) {
+        let Trace {
+            pairs: _pairs,
+            ends: _ends,
+        } = self;
+    }
 }
 
 impl<U: Universe> Model for Trace<U> {

@@ -48,7 +48,6 @@ use versioned_graph::Graph;
 ///
 /// It is one state without threads. Its calls take what there is to take and give what has come; the work on keys is done outside,
 /// by [`dice_jobs::Job::advance`].
-#[derive(Drop)]
 pub struct Core<U: Universe> {
     alloc: Global,
     universe: Arc<U>,
@@ -57,6 +56,21 @@ pub struct Core<U: Universe> {
     graph: Graph<U>,
     cells: Cells<U>,
     sessions: Sessions<U>,
+}
+
+// (One function for all places that drop one: a derived drop is written out at each.)
+impl<U: Universe> Drop for Core<U> {
+    fn drop(self) {
+        let Core {
+            alloc: _,
+            universe: _universe,
+            desk: _desk,
+            versions: _versions,
+            graph: _graph,
+            cells: _cells,
+            sessions: _sessions,
+        } = self;
+    }
 }
 
 impl<U: Universe> Model for Core<U> {

@@ -16,10 +16,19 @@ use turnstile::Turnstile;
 pub type Seat<U> = turnstile::Seat<Told<<U as Universe>::Key, <U as Universe>::Value>>;
 
 /// An engine. It may be shared by threads, each with a seat of its own. Contracts see it as the identity of its turnstile.
-#[derive(Drop)]
 pub struct Engine<U: Universe> {
     pub(crate) stile: Turnstile<State<U>>,
     pub(crate) universe: Arc<U>,
+}
+
+// (One function for all places that drop one: a derived drop is written out at each.)
+impl<U: Universe> Drop for Engine<U> {
+    fn drop(self) {
+        let Engine {
+            stile: _stile,
+            universe: _universe,
+        } = self;
+    }
 }
 
 impl<U: Universe> Model for Engine<U> {

@@ -9,13 +9,25 @@ use std::alloc::Global;
 use std::marker::Model;
 
 /// Bytes in memory, of which each call reads at most a piece, and the calls with chosen numbers fail.
-#[derive(Drop)]
 pub struct MemorySource {
     bytes: SureSource,
     piece: usize,
     fails: Vec<u64>,
     calls: u64,
     faults: u64,
+}
+
+// (One function for all places that drop one: a derived drop is written out at each.)
+impl Drop for MemorySource {
+    fn drop(self) {
+        let MemorySource {
+            bytes: _bytes,
+            piece: _,
+            fails: _fails,
+            calls: _,
+            faults: _,
+        } = self;
+    }
 }
 
 impl Model for MemorySource {
@@ -86,7 +98,6 @@ impl Source for MemorySource {
 
 /// Keeps what it takes, at most a piece a call, in room that is made ahead. The calls with chosen numbers fail, and so does each
 /// call with a byte where no room is left.
-#[derive(Drop)]
 pub struct MemorySink {
     bytes: Vec<u8>,
     room: usize,
@@ -94,6 +105,20 @@ pub struct MemorySink {
     fails: Vec<u64>,
     calls: u64,
     faults: u64,
+}
+
+// (One function for all places that drop one: a derived drop is written out at each.)
+impl Drop for MemorySink {
+    fn drop(self) {
+        let MemorySink {
+            bytes: _bytes,
+            room: _,
+            piece: _,
+            fails: _fails,
+            calls: _,
+            faults: _,
+        } = self;
+    }
 }
 
 impl Model for MemorySink {

@@ -21,12 +21,23 @@ use version_ranges::Ranges;
 ///
 /// Contracts see the sets of each key by `sets_at`, for how many more there is room by `room_at`, and
 /// the greatest version that was set. `cell_at` is the value that the sets make of a version.
-#[derive(Drop)]
 pub struct Cells<U: Universe> {
     alloc: Global,
     universe: Arc<U>,
     histories: HashMap<Arc<U::Key>, History<U::Value>>,
     pub(crate) last: u64,
+}
+
+// (One function for all places that drop one: a derived drop is written out at each.)
+impl<U: Universe> Drop for Cells<U> {
+    fn drop(self) {
+        let Cells {
+            alloc: _,
+            universe: _universe,
+            histories: _histories,
+            last: _,
+        } = self;
+    }
 }
 
 impl<U: Universe> Model for Cells<U> {

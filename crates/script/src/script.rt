@@ -17,10 +17,19 @@ use std::alloc::{AllocError, Global};
 use std::marker::Model;
 
 /// A script that was read: its lines that do something, in order.
-#[derive(Drop)]
 pub struct Script {
     lines: Vec<Line>,
     known: Known,
+}
+
+// (One function for all places that drop one: a derived drop is written out at each.)
+impl Drop for Script {
+    fn drop(self) {
+        let Script {
+            lines: _lines,
+            known: _known,
+        } = self;
+    }
 }
 
 impl Model for Script {

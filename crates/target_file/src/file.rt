@@ -27,10 +27,19 @@ pub struct Located {
 }
 
 /// The targets of a file, in order. A contract sees the list; no two have the same name.
-#[derive(Drop)]
 pub struct File {
     targets: Vec<Located>,
     names: Names,
+}
+
+// (One function for all places that drop one: a derived drop is written out at each.)
+impl Drop for File {
+    fn drop(self) {
+        let File {
+            targets: _targets,
+            names: _names,
+        } = self;
+    }
 }
 
 impl Model for File {

@@ -18,12 +18,23 @@ use std::marker::Model;
 
 /// What a call means, apart from its line: a default that is left out equals the same value written out, and the
 /// order of the attributes does not count.
-#[derive(Drop)]
 pub struct Target {
     name: Path,
     visibility: Vec<Text>,
     labels: Vec<Text>,
     action: Action,
+}
+
+// (One function for all places that drop one: a derived drop is written out at each.)
+impl Drop for Target {
+    fn drop(self) {
+        let Target {
+            name: _name,
+            visibility: _visibility,
+            labels: _labels,
+            action: _action,
+        } = self;
+    }
 }
 
 impl Model for Target {

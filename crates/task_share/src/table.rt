@@ -33,11 +33,21 @@ use std::sync::Arc;
 ///
 /// A call takes constant time, however many tasks and askers there are, but for growth; `ended` and `next_unasked` take it for
 /// each key that the task waited for, and `next_unasked` for each candidate, which an earlier call made.
-#[derive(Drop)]
 pub struct Table<K: Eq + Hash + Drop, T: Drop> {
     places: HashMap<Arc<K>, Place<K, T>>,
     candidates: Vec<Arc<K>>,
     alloc: Global,
+}
+
+// (One function for all places that drop one: a derived drop is written out at each.)
+impl<K: Eq + Hash + Drop, T: Drop> Drop for Table<K, T> {
+    fn drop(self) {
+        let Table {
+            places: _places,
+            candidates: _candidates,
+            alloc: _,
+        } = self;
+    }
 }
 
 impl<K: Eq + Hash + Drop, T: Drop> Model for Table<K, T> {

@@ -33,11 +33,21 @@ use version_ranges::open_has_a_tail;
 /// Ranges without an end say that the value holds at the newest version, and at each later one until a commit cuts them.
 ///
 /// Contracts see the entries as a list, in an order that means nothing; `entry_at` is the entry of a key, `is_edge` tells the edges.
-#[derive(Drop)]
 pub struct Graph<U: Universe> {
     alloc: Global,
     store: Store<U>,
     users: Users<U>,
+}
+
+// (One function for all places that drop one: a derived drop is written out at each.)
+impl<U: Universe> Drop for Graph<U> {
+    fn drop(self) {
+        let Graph {
+            alloc: _,
+            store: _store,
+            users: _users,
+        } = self;
+    }
 }
 
 impl<U: Universe> Model for Graph<U> {
