@@ -257,6 +257,22 @@ change_here eq zero (q ∷ qs) (r ∷ rs) p n h l e f t =
     rw d refl
 change_here eq (suc i) (q ∷ qs) (r ∷ rs) p n h l e f t = change_here eq i qs rs p n (omega arith) (omega arith) e f t
 
+-- a key whose answers are the same is no change
+pub change_past : {K V A B : Type 0} (eq : V → V → Bool) (i : ℕ) (ps : List (Arc K A × Arc V B)) (ns : List (Arc V B)) (p : Arc K A × Arc V B) (n : Arc V B) → i < length ps → i < length ns → p ≡ get_or ps i p → n ≡ get_or ns i n → eq (arc_value p.1) (arc_value n) ≡ true
+    → first_change eq (keys_in (drop i ps)) (values_in (drop i ps)) (map arc_value (drop i ns)) ≡ first_change eq (keys_in (drop (i + 1) ps)) (values_in (drop (i + 1) ps)) (map arc_value (drop (i + 1) ns))
+change_past {K} {V} {A} {B} eq i ps ns p n l m e f t =
+    let s : suc i ≡ i + 1 = omega arith in
+    past i ps ns l m e f ∙ (λ j. first_change eq (keys_in (drop (s j) ps)) (values_in (drop (s j) ps)) (map arc_value (drop (s j) ns)))
+  where
+    past : (i : ℕ) (qs : List (Arc K A × Arc V B)) (rs : List (Arc V B)) → i < length qs → i < length rs → p ≡ get_or qs i p → n ≡ get_or rs i n
+        → first_change eq (keys_in (drop i qs)) (values_in (drop i qs)) (map arc_value (drop i rs)) ≡ first_change eq (keys_in (drop (suc i) qs)) (values_in (drop (suc i) qs)) (map arc_value (drop (suc i) rs))
+    past i [] rs h l e f = absurd (omega arith)
+    past i (q ∷ qs) [] h l e f = absurd (omega arith)
+    past zero (q ∷ qs) (r ∷ rs) h l e f =
+        let d : eq (arc_value q.1) (arc_value r) ≡ true = (λ j. eq (arc_value (sym e j).1) (arc_value (sym f j))) ∙ t in
+        rw d refl
+    past (suc i) (q ∷ qs) (r ∷ rs) h l e f = past i qs rs (omega arith) (omega arith) e f
+
 module _ {K V : Type 0} (eq : V → V → Bool) (law : IsEquality eq) {D : Type 0} (f : D → List V) (T : List (Answered K V)) (n : ℕ) (change : Option D) (s : Checked K V) (view : record { trace = T; fed = fed_so_far T n (option_map f change) } ≡ s) where
   without : change ≡ None → ◌≡◌ {A = Checked K V} (record { trace = T; fed = fed_so_far T n None }) s
   without c = (λ i. record { trace = T; fed = fed_so_far T n (option_map f (sym c i)) }) ∙ view
@@ -320,3 +336,22 @@ module _ {K V : Type 0} (eq : V → V → Bool) (law : IsEquality eq) where
   finds_change T fed d x y c =
       let f : first_change eq c.batch.keys c.batch.values c.answers ≡ Some (d, x, y) = (λ i. first_change eq (c.keys_are i) (c.values_are i) (c.answers_are i)) ∙ change_at c.keys_before c.keys_after c.same c.was_after c.now_after d x y c.counted c.changed in
       (λ i. finding eq (c.trace_is i) (c.fed_is i)) ∙ (finding_front c.before (c.batch ∷ c.after) (c.answers ∷ []) ∙ ap (change_or eq (finding eq c.after [])) f)
+
+-- a check has one finding
+pub changed_wants_not : {K V : Type 0} {d : K} {x y : V} {ks : List K} → ◌≡◌ {A = Finding K V} (HasChanged d x y) (Wants ks) → ⊥
+changed_wants_not p = cc
+
+pub changed_is_not_same : {K V : Type 0} {d : K} {x y : V} → ◌≡◌ {A = Finding K V} (HasChanged d x y) IsSame → ⊥
+changed_is_not_same p = cc
+
+pub wants_is_not_same : {K V : Type 0} {ks : List K} → ◌≡◌ {A = Finding K V} (Wants ks) IsSame → ⊥
+wants_is_not_same p = cc
+
+pub wants_is_no_change : {K V : Type 0} {d : K} {x y : V} {ks : List K} → ◌≡◌ {A = Finding K V} (Wants ks) (HasChanged d x y) → ⊥
+wants_is_no_change p = cc
+
+pub same_wants_not : {K V : Type 0} {ks : List K} → ◌≡◌ {A = Finding K V} IsSame (Wants ks) → ⊥
+same_wants_not p = cc
+
+pub same_is_no_change : {K V : Type 0} {d : K} {x y : V} → ◌≡◌ {A = Finding K V} IsSame (HasChanged d x y) → ⊥
+same_is_no_change p = cc

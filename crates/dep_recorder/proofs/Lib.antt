@@ -1,3 +1,4 @@
 pub mod Parts
 pub mod Findings
 pub mod Sameness
+pub mod Steps

@@ -1,5 +1,6 @@
 -- Rows of keys and values that are parted into batches.
-use Rattle.std.proofs.Common.{◌≡◌, ◌≤◌, ◌<◌, ◌-◌, ◌+◌, ℕ, zero, suc, List, [], ◌∷◌, ◌++◌, length, map, take, drop, get_or, refl, sym, ap, ◌∙◌, subst, arith, length-append}
+use Rattle.std.proofs.Common.{◌≡◌, ◌≤◌, ◌<◌, ◌-◌, ◌+◌, ℕ, zero, suc, List, [], ◌∷◌, ◌++◌, length, map, take, drop, get_or, refl, sym, ap, ◌∙◌, subst, arith, length-append, Result, Ok, Err}
+use Rattle.std.specs.Prelude.{OnErr}
 use Rattle.std.specs.Arc.{arc_value}
 use Rattle.std.specs.declared.sync.Arc.{Arc}
 use Rattle.std.proofs.lemmas.List.{take-append-le, drop-append-le, drop-map, take-map, length-map}
@@ -120,3 +121,11 @@ module _ {K V A B : Type 0} (ps qs : List (Arc K A × Arc V B)) where
       let c' = length-map ps (λ (p : Arc K A × Arc V B). arc_value p.1) in
       let d' = length-map qs (λ (p : Arc K A × Arc V B). arc_value p.1) in
       (λ i. parted (k i) (x i) 0 (f i)) ∙ (parted_more (keys_in ps) more (values_in ps) plus 0 es (length ps) n r (omega arith) (omega arith) (omega arith) (omega arith) ∙ ap (λ S. S ++ record { keys = more; values = plus } ∷ []) v)
+
+-- a trace with the same pairs and ends is the same
+pub same_trace : {K V A B : Type 0} (ps qs : List (Arc K A × Arc V B)) (es fs : List ℕ) (T : List (Answered K V)) → qs ≡ ps → fs ≡ es → parted (keys_in ps) (values_in ps) 0 es ≡ T → parted (keys_in qs) (values_in qs) 0 fs ≡ T
+same_trace ps qs es fs T e f v = (λ i. parted (keys_in (e i)) (values_in (e i)) 0 (f i)) ∙ v
+
+pub on_err : {X E P : Type 0} (r : Result X E) → P → OnErr r P
+on_err (Ok x) p = tt
+on_err (Err e) p = p

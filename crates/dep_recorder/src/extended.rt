@@ -29,13 +29,34 @@ impl<U: Universe> Trace<U> {
     fn try_clone(&self, alloc: Global, more: usize) -> Result<Trace<U>, NoMemory>
         ensures { IfOk result (λ t. t ≡ self.now) }
     {
-        let mut pairs = Vec::new(alloc);
-        pairs.reserve(self.pairs.len().saturating_add(more))?;
-        copy_pairs(&mut pairs, &self.pairs)?;
-        let mut ends = Vec::with_capacity(alloc, self.ends.len().saturating_add(1))?;
-        ends.extend_from_slice(&self.ends)?;
+        let pairs = copied_pairs(&self.pairs, alloc, more)?;
+        let ends = copied_ends(&self.ends, alloc)?;
         Ok(Trace { pairs, ends })
     }
+}
+
+/// The same pairs again, shared, with room for some more.
+fn copied_pairs<K: Drop, V: Drop>(
+    from: &[(Arc<K>, Arc<V>)],
+    alloc: Global,
+    more: usize,
+) -> Result<Vec<(Arc<K>, Arc<V>)>, NoMemory>
+    ensures keys { IfOk result (λ ps. keys_in ps.items ≡ keys_in from.now) }
+    ensures values { IfOk result (λ ps. values_in ps.items ≡ values_in from.now) }
+{
+    let mut pairs = Vec::new(alloc);
+    pairs.reserve(from.len().saturating_add(more))?;
+    copy_pairs(&mut pairs, from)?;
+    Ok(pairs)
+}
+
+/// The same ends again, with room for one more.
+fn copied_ends(from: &[usize], alloc: Global) -> Result<Vec<usize>, NoMemory>
+    ensures { IfOk result (λ es. es.items ≡ from.now) }
+{
+    let mut ends = Vec::with_capacity(alloc, from.len().saturating_add(1))?;
+    ends.extend_from_slice(from)?;
+    Ok(ends)
 }
 
 /// Adds the same pairs again, shared.

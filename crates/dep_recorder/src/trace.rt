@@ -79,7 +79,7 @@ impl<U: Universe> Trace<U> {
         self.pairs.reserve(batch.len())?;
         self.ends.reserve(1)?;
         extend(&mut self.pairs, batch.keys(), answers.values())?;
-        self.ends.push(self.pairs.len()).unwrap();
+        self.ends.push_reserved(self.pairs.len());
         Ok(())
     }
 }
