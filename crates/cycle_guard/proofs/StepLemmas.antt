@@ -1,5 +1,5 @@
 -- The steps of the search, as the code takes them: its lists have the newest last.
-use Rattle.std.proofs.Common.{◌≡◌, ◌<◌, ◌+◌, ◌*◌, inl, inr, ℕ, zero, suc, Bool, true, false, not, cond, List, [], ◌∷◌, ◌++◌, length, drop, map, reverse, Option, Some, None, refl, sym, ap, ◌∙◌, subst, arith, add-one, ◌-◌, Bor}
+use Rattle.std.proofs.Common.{◌≡◌, ◌<◌, ◌+◌, ◌*◌, inl, inr, ℕ, zero, suc, Bool, true, false, cond, List, [], ◌∷◌, ◌++◌, length, drop, map, reverse, Option, Some, None, refl, sym, ap, ◌∙◌, subst, arith, add-one, ◌-◌, Bor}
 use Rattle.std.specs.Prelude.{IsSome}
 use Rattle.std.specs.Arc.{arc_value}
 use Rattle.std.specs.List.{slice_get}
@@ -12,7 +12,7 @@ use Rattle.dice_key.specs.Lawful.{IsEquality}
 use Rattle.task_share.specs.Asked.{Leads}
 use Rattle.task_share.specs.Seen.{Share, waits_at, asked_of, IsMirrored}
 use Rattle.cycle_guard.specs.WaitCycle.{IsWaitCycle}
-use Rattle.cycle_guard.specs.Search.{Stacked, left_of, IsSearch, next_wait, steps_left, is_met}
+use Rattle.cycle_guard.specs.Search.{Stacked, left_of, IsSearch, next_wait, steps_left, is_met, GoesOn}
 use Rattle.cycle_guard.proofs.SearchLemmas.{search_begins, search_popped, search_passed, search_met, found_cycle, found_leads, over, unmet_less, unmet_same}
 use Rattle.lists.specs.Lists.{Has}
 
@@ -68,17 +68,12 @@ module _ {K A T : Type 0} (eq : K → K → Bool) (law : IsEquality eq) (ps : Li
   next_at path rest n seen a o e = sym (ap (λ xs. next_wait eq ps xs n) a.is) ∙ e
 
   -- the search begins at `to`, behind `from`
-  pub step_begins : (path0 path1 path : List (Arc K A)) (a b : Arc K A) (passed0 passed : List ℕ) (met0 met : List (Arc K A)) → path0 ≡ [] → path1 ≡ path0 ++ a ∷ [] → path ≡ path1 ++ b ∷ [] → arc_value a ≡ from → arc_value b ≡ to → passed0 ≡ [] → passed ≡ passed0 ++ 0 ∷ [] → met0 ≡ [] → (from ≡ to → ⊥)
-      → ((q : K) → is_met eq met q ≡ cond (eq to q) true (is_met eq met0 q)) → IsSearch eq ps from to (reverse (map arc_value path)) (reverse passed) (is_met eq met)
-  step_begins path0 path1 path a b passed0 passed met0 met e f g x y h i j apart marks =
-      let p : path ≡ a ∷ b ∷ [] = g ∙ ap (λ xs. xs ++ b ∷ []) (f ∙ ap (λ xs. xs ++ a ∷ []) e) in
-      let r : reverse (map arc_value path) ≡ to ∷ from ∷ [] = ap (λ xs. reverse (map arc_value xs)) p ∙ (ap (λ z. z ∷ arc_value a ∷ []) y ∙ ap (λ z. to ∷ z ∷ []) x) in
+  pub step_begins : (path : List (Arc K A)) (passed0 passed : List ℕ) (met : List (Arc K A)) → map arc_value path ≡ from ∷ to ∷ [] → passed0 ≡ [] → passed ≡ passed0 ++ 0 ∷ [] → (from ≡ to → ⊥)
+      → ((q : K) → is_met eq met q ≡ eq to q) → IsSearch eq ps from to (reverse (map arc_value path)) (reverse passed) (is_met eq met)
+  step_begins path passed0 passed met p h i apart marks =
+      let r : reverse (map arc_value path) ≡ to ∷ from ∷ [] = ap reverse p in
       let n : reverse passed ≡ 0 ∷ [] = ap reverse (i ∙ ap (λ xs. xs ++ 0 ∷ []) h) in
-      subst (λ xs. IsSearch eq ps from to xs (reverse passed) (is_met eq met)) (sym r) (subst (λ ns. IsSearch eq ps from to (to ∷ from ∷ []) ns (is_met eq met)) (sym n) (search_begins eq law ps from to (is_met eq met) apart (λ q. marks q ∙ (ap (λ xs. cond (eq to q) true (is_met eq xs q)) j ∙ by_bool (eq to q)))))
-    where
-      by_bool : (b : Bool) → cond b true false ≡ b
-      by_bool true = refl
-      by_bool false = refl
+      subst (λ xs. IsSearch eq ps from to xs (reverse passed) (is_met eq met)) (sym r) (subst (λ ns. IsSearch eq ps from to (to ∷ from ∷ []) ns (is_met eq met)) (sym n) (search_begins eq law ps from to (is_met eq met) apart marks))
 
   -- all waits of the last key were passed, and it is taken from the path
   pub step_popped : (path shorter : List (Arc K A)) (passed rest : List ℕ) (n : ℕ) (taken : Option (Arc K A)) (seen : K → Bool) → passed ≡ rest ++ n ∷ [] → next_wait eq ps (reverse (map arc_value path)) n ≡ None → path ≡ shorter ++ option_to_list taken → (0 < length path → IsSome taken)
@@ -125,16 +120,16 @@ module _ {K A T : Type 0} (eq : K → K → Bool) (law : IsEquality eq) (ps : Li
       )
 
   -- a wait was passed, for a key that is met now
-  pub step_met : (path longer : List (Arc K A)) (passed rest mid later_passed : List ℕ) (n : ℕ) (d : K) (last : Arc K A) (seen later : K → Bool) → passed ≡ rest ++ n ∷ [] → mid ≡ rest ++ (n + 1) ∷ [] → later_passed ≡ mid ++ 0 ∷ [] → longer ≡ path ++ last ∷ [] → arc_value last ≡ d
+  pub step_met : (path longer : List (Arc K A)) (passed rest mid later_passed : List ℕ) (n : ℕ) (d : K) (seen later : K → Bool) → passed ≡ rest ++ n ∷ [] → mid ≡ rest ++ (n + 1) ∷ [] → later_passed ≡ mid ++ 0 ∷ [] → map arc_value longer ≡ map arc_value path ++ d ∷ []
       → next_wait eq ps (reverse (map arc_value path)) n ≡ Some d → seen d ≡ false → (d ≡ from → ⊥) → ((q : K) → later q ≡ cond (eq d q) true (seen q))
       → IsSearch eq ps from to (reverse (map arc_value path)) (reverse passed) seen
       → IsSearch eq ps from to (reverse (map arc_value longer)) (reverse later_passed) later × (steps_left eq ps (reverse (map arc_value longer)) (reverse later_passed) later < steps_left eq ps (reverse (map arc_value path)) (reverse passed) seen)
-  step_met path longer passed rest mid later_passed n d last seen later e f h grown named next t apart marks s =
+  step_met path longer passed rest mid later_passed n d seen later e f h grown next t apart marks s =
       let a = at_top path passed rest n seen e s in
       let z = drop_at (waits_at eq ps a.top) n (d) (next_at path rest n seen a (Some (d)) next) in
       let g : mid ≡ rest ++ suc n ∷ [] = f ∙ ap (λ x. rest ++ x ∷ []) (add-one n) in
       let r : reverse later_passed ≡ 0 ∷ suc n ∷ reverse rest = last_first later_passed mid 0 h ∙ ap (λ ns. 0 ∷ ns) (last_first mid rest (suc n) g) in
-      let p : reverse (map arc_value longer) ≡ d ∷ a.top ∷ a.below = ap (λ xs. reverse (map arc_value xs)) grown ∙ (ap reverse (map-append arc_value path (last ∷ [])) ∙ (reverse-append (map arc_value path) (arc_value last ∷ []) ∙ (ap (λ x. x ∷ reverse (map arc_value path)) named ∙ ap (λ xs. d ∷ xs) a.is))) in
+      let p : reverse (map arc_value longer) ≡ d ∷ a.top ∷ a.below = ap reverse grown ∙ (reverse-append (map arc_value path) (d ∷ []) ∙ ap (λ xs. d ∷ xs) a.is) in
       let has = has_at (waits_at eq ps a.top) n (d) (next_at path rest n seen a (Some (d)) next) in
       let b = search_met eq law ps from to a.top (d) a.below n (suc n) (reverse rest) seen later z has t apart marks a.search in
       let l = left_at path passed rest n seen e a in
@@ -144,6 +139,21 @@ module _ {K A T : Type 0} (eq : K → K → Bool) (law : IsEquality eq) (ps : Li
         subst (λ xs. IsSearch eq ps from to xs (reverse later_passed) later) (sym p) (subst (λ ns. IsSearch eq ps from to (d ∷ a.top ∷ a.below) ns later) (sym r) b),
         omega arith,
       )
+
+  -- the search after a step, which leaves less to do
+  abbrev pub IsStep : (path longer : List (Arc K A)) (passed later_passed : List ℕ) (seen later : K → Bool) → Type 0
+  IsStep path longer passed later_passed seen later = IsSearch eq ps from to (reverse (map arc_value longer)) (reverse later_passed) later × (steps_left eq ps (reverse (map arc_value longer)) (reverse later_passed) later < steps_left eq ps (reverse (map arc_value path)) (reverse passed) seen)
+
+  -- a wait was passed, and the search goes on to its key
+  pub step_on : (path longer : List (Arc K A)) (passed rest mid later_passed : List ℕ) (n : ℕ) (d : K) (met after : List (Arc K A)) → passed ≡ rest ++ n ∷ [] → mid ≡ rest ++ (n + 1) ∷ [] → next_wait eq ps (reverse (map arc_value path)) n ≡ Some d → (d ≡ from → ⊥)
+      → GoesOn eq d path longer mid later_passed met after → IsSearch eq ps from to (reverse (map arc_value path)) (reverse passed) (is_met eq met) → IsStep path longer passed later_passed (is_met eq met) (is_met eq after)
+  step_on path longer passed rest mid later_passed n d met after e f next apart g s = by_test (is_met eq met d) refl
+    where
+      by_test : (b : Bool) → is_met eq met d ≡ b → IsStep path longer passed later_passed (is_met eq met) (is_met eq after)
+      by_test true t =
+          let o = g.stays t in
+          subst (λ xs. IsStep path xs passed later_passed (is_met eq met) (is_met eq after)) (sym o.0) (subst (λ ns. IsStep path path passed ns (is_met eq met) (is_met eq after)) (sym o.1) (step_passed path passed rest mid n d (is_met eq met) (is_met eq after) e f next t g.marked s))
+      by_test false t = let o = g.grows t in step_met path longer passed rest mid later_passed n d (is_met eq met) (is_met eq after) e f o.1 o.0 next t apart g.marked s
 
   -- the last key of the path waits for `from`
   module _ (mirror : IsMirrored eq ps) (path : List (Arc K A)) (passed rest : List ℕ) (n : ℕ) (d : K) (seen : K → Bool) (e : passed ≡ rest ++ n ∷ []) (next : next_wait eq ps (reverse (map arc_value path)) n ≡ Some d) (back : d ≡ from) (s : IsSearch eq ps from to (reverse (map arc_value path)) (reverse passed) seen) where
@@ -202,11 +212,3 @@ read_next {K} {A} {T} eq ps path waits n last r e w i =
 -- what the tests say
 pub apart_by : {K : Type 0} (eq : K → K → Bool) → IsEquality eq → (x y : K) → false ≡ eq x y → x ≡ y → ⊥
 apart_by eq law x y f e = let t : eq x y ≡ true = subst (λ z. eq x z ≡ true) e (law.itself x) in let g : true ≡ false = sym t ∙ sym f in cc
-
-pub was_met : (b c : Bool) → b ≡ not c → b ≡ false → c ≡ true
-was_met b true e f = refl
-was_met b false e f = let g : false ≡ true = sym f ∙ e in cc
-
-pub was_unmet : (b c : Bool) → b ≡ not c → b ≡ true → c ≡ false
-was_unmet b true e f = let g : true ≡ false = sym f ∙ e in cc
-was_unmet b false e f = refl

@@ -1,5 +1,5 @@
 -- What the search keeps: a path of keys, last first, and of each but the first how many of its waits were passed.
-use Rattle.std.specs.Prelude.{◌≡◌, ◌⊎◌, ◌+◌, ◌*◌, ℕ, suc, Bool, true, false, cond, List, [], ◌∷◌, drop, length, Option, None}
+use Rattle.std.specs.Prelude.{◌≡◌, ◌⊎◌, ◌+◌, ◌*◌, ℕ, suc, Bool, true, false, cond, List, [], ◌∷◌, ◌++◌, map, drop, length, Option, None}
 use Rattle.std.specs.Arc.{arc_value}
 use Rattle.std.specs.List.{list_any, slice_get}
 use Rattle.std.specs.declared.sync.Arc.{Arc}
@@ -50,6 +50,12 @@ next_wait eq ps (k ∷ ks) n = slice_get (waits_at eq ps k) n
 -- the key is one of these
 abbrev pub is_met : {K A : Type 0} → (K → K → Bool) → List (Arc K A) → K → Bool
 is_met eq ms q = list_any (λ a. eq q (arc_value a)) ms
+
+-- the search goes on to d: it stays where it is, where d was met before; else d is the last of the path, with no wait passed
+pub record GoesOn {K A : Type 0} (eq : K → K → Bool) (d : K) (path longer : List (Arc K A)) (passed later : List ℕ) (met after : List (Arc K A)) : Type 0 where
+  pub marked : (q : K) → is_met eq after q ≡ cond (eq d q) true (is_met eq met q)
+  pub stays : is_met eq met d ≡ true → (longer ≡ path) × (later ≡ passed)
+  pub grows : is_met eq met d ≡ false → (map arc_value longer ≡ map arc_value path ++ d ∷ []) × (later ≡ passed ++ 0 ∷ [])
 
 -- what is left to do: the steps that remain at the keys of the path, and those at keys that were not met
 abbrev pub steps_left : {K T : Type 0} → (K → K → Bool) → List (K × Share K T) → List K → List ℕ → (K → Bool) → ℕ
