@@ -1,5 +1,5 @@
 //! The tasks that nobody asks for: how one is found among the candidates, and how its asks are withdrawn.
-ghost use Rattle.std.specs.Prelude.{◌≡◌, ◌≤◌, ◌++◌, ◌∷◌, [], ℕ, List, false, map, vec_capacity, IfSome, IfNone};
+ghost use Rattle.std.specs.Prelude.{◌≡◌, ◌≤◌, ◌++◌, ◌∷◌, [], ℕ, List, false, Some, None, map, vec_capacity, IfSome, IfNone};
 ghost use Rattle.std.specs.Arc.{arc_value};
 ghost use Rattle.std.specs.Map.{lookup};
 ghost use Rattle.dice_key.specs.Lawful.{IsEquality};
@@ -58,18 +58,19 @@ fn take_idle<K: Eq + Hash + Drop, T: Drop>(
     let Some(place) = places.remove(&key) else {
         return None;
     };
-    let Place {
-        task,
-        live: _,
-        promises: _,
-        askers: _,
-        waits,
-        name: _,
-    } = place;
-    let Some(task) = task else {
+    let Some(found) = task_of(place) else {
         return None;
     };
+    let (task, waits) = found;
     Some((key, task, waits))
+}
+
+/// The task of a place with what it waits for, where there is one.
+fn task_of<K: Eq + Hash + Drop, T: Drop>(place: Place<K, T>) -> Option<(T, IndexSet<Arc<K>>)>
+    ensures some { IfSome result (λ f. (place.task ≡ Some f.0) × (f.1.keys ≡ place.waits.keys)) }
+    ensures none { IfNone result (place.task ≡ None) }
+{
+    place.task.zip(Some(place.waits))
 }
 
 /// Takes one task out that has not ended and that nobody asks for, with what it waits for.

@@ -29,8 +29,9 @@ pub fn reserve_place<K: Eq + Hash + Drop, T: Drop>(
         return Ok(());
     }
     candidates.reserve(places.len() + 1)?;
-    let place = vacant(alloc, Arc::try_clone(key)?);
-    places.insert(Arc::try_clone(key)?, place)?;
+    let name = Arc::try_clone(key)?;
+    let held = Arc::try_clone(key)?;
+    drop(places.insert(held, vacant(alloc, name))?);
     Ok(())
 }
 
