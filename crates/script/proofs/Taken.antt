@@ -12,7 +12,7 @@ use Rattle.script.specs.Lines.{IsName, words, line_of, behind_line}
 use Rattle.script.specs.Past.{Past, adding, no_texts, with_entry, made_in, settling, closing, fate_of}
 use Rattle.script.specs.Faults.{Tests, done, touching, FirstToFail, Form, puts, drops, commits, opens, asks, acts, waits, cancels, closes, form_of}
 use Rattle.script.specs.Scripts.{IsSkipped, Makes, put_line, drop_line, commit_line, open_line, ask_line, action_line, wait_line, cancel_line, close_line}
-use Rattle.script.specs.Taking.{IsUntouched, IsPutRead, IsRequestRead, IsTaken, IsLineTaken}
+use Rattle.script.specs.Taking.{IsUntouched, IsPutRead, IsRequestRead, IsTaken, IsLineTaken, IsTested, in_open, fresh, IsLabelRead}
 
 pub commit_taken : (p q : Past) (behind : List ℕ) → q ≡ record p { touched = no_texts } → IsTaken p commits behind (Ok (Commit, 0)) q
 commit_taken p q behind g = (tt, commit_line behind, g)
@@ -29,6 +29,34 @@ put_taken p q path number behind name bytes n m h e d g = (
       (subst (λ (b : List ℕ). Makes (puts path number) behind (Put name b) (drop (n + 1) behind)) (sym e)
       (subst (λ (a : List ℕ). Makes (puts path number) behind (Put a (take n behind)) (drop (n + 1) behind)) (sym h.1) (put_line path number behind n h.2))),
   g,
+)
+
+-- a request's operands, one after the other
+pub transaction_refused : (p : Past) (t name label : List ℕ) (s : Stop) → IsTested (in_open p t) t (Err s) → IsRequestRead p t name label (Err s)
+transaction_refused p t name label (stop.Fault w) (inl f) = inl f
+transaction_refused p t name label (stop.Fault w) (inr (h, inl f)) = inr (h, inl f)
+transaction_refused p t name label (stop.Fault w) (inr (h, inr f)) = absurd f.1
+transaction_refused p t name label stop.NoMemory f = tt
+
+pub name_refused : (p : Past) (t name label opened : List ℕ) (s : Stop) → IsTested (in_open p t) t (Ok opened) → IsTested (fresh p name) name (Err s) → IsRequestRead p t name label (Err s)
+name_refused p t name label opened (stop.Fault w) h (inl f) = inr (h.1.0, inr (h.1.1.0, inl f))
+name_refused p t name label opened (stop.Fault w) h (inr (k, inl f)) = inr (h.1.0, inr (h.1.1.0, inr (k, inl f)))
+name_refused p t name label opened (stop.Fault w) h (inr (k, inr f)) = absurd f.1
+name_refused p t name label opened stop.NoMemory h f = tt
+
+pub label_refused : (p : Past) (t name label opened free : List ℕ) (s : Stop) → IsTested (in_open p t) t (Ok opened) → IsTested (fresh p name) name (Ok free) → IsLabelRead label (Err s) →
+    IsRequestRead p t name label (Err s)
+label_refused p t name label opened free (stop.Fault w) h k f = inr (h.1.0, inr (h.1.1.0, inr (k.1.0, inr (k.1.1.0, inl ((λ x. f.1 x.0 x.1), f.0)))))
+label_refused p t name label opened free stop.NoMemory h k f = tt
+
+abbrev request_of : List ℕ → List ℕ → List ℕ → Request
+request_of t name label = record { transaction = t; name = name; label = label }
+
+pub request_read : (p : Past) (t name label opened free read : List ℕ) → IsTested (in_open p t) t (Ok opened) → IsTested (fresh p name) name (Ok free) → IsLabelRead label (Ok read) →
+    IsRequestRead p t name label (Ok (record { transaction = opened; name = free; label = read }))
+request_read p t name label opened free read h k f = (
+  (h.1.0, (h.1.1.0, (k.1.0, (k.1.1.0, ((f.0, f.1), tt))))),
+  (f.0, f.1, ap (λ (x : List ℕ). request_of x free read) h.0 ∙ ap (λ (x : List ℕ). request_of t x read) k.0 ∙ ap (request_of t name) f.2),
 )
 
 -- the transaction of a request that was read is open

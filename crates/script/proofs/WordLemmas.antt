@@ -1,10 +1,11 @@
 -- The words of a line, and its end.
-use Rattle.std.proofs.Common.{◌≡◌, ◌∙◌, ◌<◌, ◌+◌, ◌-◌, subst, sym, ap, refl, inl, inr, ℕ, Bool, true, false, List, [], ◌∷◌, take, drop, length, suc, arith, nat_eq}
-use Rattle.std.proofs.lemmas.List.{take_rest}
+use Rattle.std.proofs.Common.{◌≡◌, ◌↔◌, ◌∙◌, ◌<◌, ◌≤◌, ◌+◌, ◌-◌, subst, sym, ap, refl, inl, inr, ℕ, Bool, true, false, List, [], ◌∷◌, take, drop, length, suc, arith, nat_eq, get_or}
+use Rattle.std.proofs.lemmas.List.{take_rest, drop_more, drop_all}
 use Rattle.std.proofs.Common.{None}
 use Rattle.script.specs.Faults.{form_of}
-use Rattle.script.specs.Lines.{before, words, split_byte, front_word}
+use Rattle.script.specs.Lines.{before, is_name_byte, AreNameBytes, words, split_byte, front_word}
 use Rattle.std.proofs.lemmas.Bool.{cases_Bool}
+use Rattle.std.specs.Cmp.{unsigned_Decides}
 
 -- the first word ends at the first space
 pub first_word : (bs : List ℕ) → before 32 bs < length bs → words bs ≡ take (before 32 bs) bs ∷ words (drop (before 32 bs + 1) bs)
@@ -44,7 +45,49 @@ some_word [] = ([], [], refl)
 some_word (b ∷ bs) = some_split (nat_eq b 32) b (words bs)
 
 -- five words are no line of the table
-pub too_many : (line x y z u a b c d : List ℕ) → words line ≡ a ∷ words x → words x ≡ b ∷ words y → words y ≡ c ∷ words z → words z ≡ d ∷ words u → form_of (words line) ≡ None
-too_many line x y z u a b c d e f g h =
-    let s = some_word u in
-    ap form_of (e ∙ ap (λ (ws : List (List ℕ)). a ∷ ws) (f ∙ ap (λ (ws : List (List ℕ)). b ∷ ws) (g ∙ ap (λ (ws : List (List ℕ)). c ∷ ws) (h ∙ ap (λ (ws : List (List ℕ)). d ∷ ws) s.2))))
+pub too_many : (w a b c x y z : List ℕ) → words x ≡ b ∷ words y → words y ≡ c ∷ words z → form_of (w ∷ a ∷ words x) ≡ None
+too_many w a b c x y z e f =
+    let s = some_word z in
+    ap (λ (ws : List (List ℕ)). form_of (w ∷ a ∷ ws)) (e ∙ ap (λ (ws : List (List ℕ)). b ∷ ws) (f ∙ ap (λ (ws : List (List ℕ)). c ∷ ws) s.2))
+
+-- ---- a walk to the first mark
+
+not_here : (m b : ℕ) (bs : List ℕ) → (b ≡ m → ⊥) → before m (b ∷ bs) ≡ before m bs + 1
+not_here m b bs h = elim (cases_Bool (nat_eq b m)) [
+  | inl t ↦ absurd (h ((unsigned_Decides b m).0 t))
+  | inr f ↦ rw f refl
+]
+
+here : (m b : ℕ) (bs : List ℕ) → b ≡ m → before m (b ∷ bs) ≡ 0
+here m b bs e = let t : nat_eq b m ≡ true = (unsigned_Decides b m).1 e in rw t refl
+
+-- a byte that is not the mark is passed
+pub passed : (m : ℕ) (bs : List ℕ) (i : ℕ) → i < length bs → (get_or bs i 0 ≡ m → ⊥) → i + before m (drop i bs) ≡ before m bs → i + 1 + before m (drop (i + 1) bs) ≡ before m bs
+passed m bs i h k e =
+    let a : before m (drop i bs) ≡ before m (drop (i + 1) bs) + 1 = ap (before m) (drop_more bs i 0 h) ∙ not_here m (get_or bs i 0) (drop (i + 1) bs) k in
+    omega arith
+
+-- the mark stands here
+pub found : (m : ℕ) (bs : List ℕ) (i : ℕ) → i < length bs → get_or bs i 0 ≡ m → i + before m (drop i bs) ≡ before m bs → i ≡ before m bs
+found m bs i h k e =
+    let a : before m (drop i bs) ≡ 0 = ap (before m) (drop_more bs i 0 h) ∙ here m (get_or bs i 0) (drop (i + 1) bs) k in
+    omega arith
+
+-- there is no mark
+pub none_found : (m : ℕ) (bs : List ℕ) (i : ℕ) → length bs ≤ i → i ≤ length bs → i + before m (drop i bs) ≡ before m bs → length bs ≡ before m bs
+none_found m bs i h k e =
+    let a : before m (drop i bs) ≡ 0 = ap (before m) (drop_all i bs h) in
+    omega arith
+
+-- a byte of a name is passed, and none is left
+pub name_goes_on : (bs : List ℕ) (i : ℕ) → i < length bs → is_name_byte (get_or bs i 0) ≡ true → AreNameBytes bs ↔ AreNameBytes (drop i bs) → AreNameBytes bs ↔ AreNameBytes (drop (i + 1) bs)
+name_goes_on bs i h t k = (
+  λ a. (subst AreNameBytes (drop_more bs i 0 h) (k.0 a)).1,
+  λ a. k.1 (subst AreNameBytes (sym (drop_more bs i 0 h)) (t, a)),
+)
+
+pub name_ends : (bs : List ℕ) (i : ℕ) → length bs ≤ i → AreNameBytes bs ↔ AreNameBytes (drop i bs) → AreNameBytes bs
+name_ends bs i h k = k.1 (subst AreNameBytes (sym (drop_all i bs h)) tt)
+
+pub no_name : (bs : List ℕ) (i : ℕ) → i < length bs → is_name_byte (get_or bs i 0) ≡ false → AreNameBytes bs ↔ AreNameBytes (drop i bs) → AreNameBytes bs → ⊥
+no_name bs i h f k a = let t : is_name_byte (get_or bs i 0) ≡ true = (subst AreNameBytes (drop_more bs i 0 h) (k.0 a)).0 in let e : true ≡ false = sym t ∙ f in cc

@@ -1,5 +1,5 @@
 -- What the parts of the reader answer.
-use Rattle.std.specs.Prelude.{◌≡◌, ◌⊎◌, ◌≤◌, ℕ, List, Option, Some, None, length, drop, Result, Ok, Err}
+use Rattle.std.specs.Prelude.{◌≡◌, ◌⊎◌, ◌≤◌, ℕ, true, List, Option, Some, None, length, drop, Result, Ok, Err}
 use Rattle.script.specs.declared.fault.Word.{Word}
 use Rattle.script.specs.declared.fault.Word.TheVariants as fault
 use Rattle.script.specs.declared.fault.Stop.{Stop}
@@ -13,7 +13,7 @@ use Rattle.script.specs.declared.known.Known.{Known}
 use Rattle.script.specs.Known.{past_of}
 use Rattle.script.specs.Lines.{IsDecimal, IsName, words, line_of, behind_line}
 use Rattle.script.specs.Past.{Past, nothing, after, after_all}
-use Rattle.script.specs.Faults.{Form, puts, done, touching, asking, form_of, AllHold, FirstToFail, tests}
+use Rattle.script.specs.Faults.{Form, puts, Tests, done, test, touching, asking, form_of, AllHold, FirstToFail, tests}
 use Rattle.script.specs.Scripts.{IsSkipped, Makes, IsFrom, FaultAt}
 use Rattle.buck_label.specs.Paths.{IsPath}
 use Rattle.buck_label.specs.Labels.{Name, IsLabel, printed}
@@ -32,6 +32,19 @@ abbrev pub IsLabelRead : List ℕ → Result (List ℕ) Stop → Type 0
 IsLabelRead text (Ok l) = (n : Name) × IsLabel text n × (l ≡ printed n)
 IsLabelRead text (Err (stop.Fault w)) = (w ≡ fault.Label) × ((n : Name) → IsLabel text n → ⊥)
 IsLabelRead text (Err stop.NoMemory) = Unit {0}
+
+-- a text that was read, or the first of its tests to fail
+abbrev pub IsTested : Tests → List ℕ → Result (List ℕ) Stop → Type 0
+IsTested ts text (Ok read) = (read ≡ text) × AllHold ts
+IsTested ts text (Err (stop.Fault w)) = FirstToFail ts w
+IsTested ts text (Err stop.NoMemory) = Unit {0}
+
+-- the tests of a transaction that is open, and of the name of a new request
+abbrev pub in_open : Past → List ℕ → Tests
+in_open p t = test (IsName t) fault.Name (test (p.opened t ≡ Some true) fault.Open done)
+
+abbrev pub fresh : Past → List ℕ → Tests
+fresh p name = test (IsName name) fault.Name (test (p.asked name ≡ None) fault.Taken done)
 
 -- a path that was neither put nor dropped
 abbrev pub IsUntouched : Past → List ℕ → Result (List ℕ) Stop → Type 0

@@ -85,7 +85,7 @@ pub enum ScriptRefusal {
 }
 
 /// Why a line was not taken.
-#[derive(Clone, Copy, Debug, PartialEq, Eq)]
+#[derive(Clone, Copy)]
 pub(crate) enum Stop {
     Fault(Word),
     NoMemory,

@@ -7,7 +7,7 @@ ghost use Rattle.script.specs.Faults.{one_word, two_words, three_words, four_wor
 ghost use Rattle.script.specs.Seen.{form_seen};
 
 /// A line's operands as written, where its first word is in the table and their number is right.
-#[derive(Clone, Copy, Debug)]
+#[derive(Clone, Copy)]
 pub(crate) enum Form<'a> {
     Put(&'a [u8], &'a [u8]),
     Drop(&'a [u8]),
@@ -105,20 +105,31 @@ fn four_words<'a>(word: &[u8], a: &'a [u8], b: &'a [u8], c: &'a [u8]) -> Option<
 pub(crate) fn form_of(line: &[u8]) -> Option<Form<'_>>
     ensures { option_map form_seen result ≡ form_of (words line.now) }
 {
-    let (word, rest) = match split(line) {
-        Some(parts) => parts,
-        None => return one_word(line),
-    };
-    let (a, rest) = match split(rest) {
-        Some(parts) => parts,
-        None => return two_words(word, rest),
-    };
-    let (b, rest) = match split(rest) {
-        Some(parts) => parts,
-        None => return three_words(word, a, rest),
+    match split(line) {
+        None => one_word(line),
+        Some((word, rest)) => with_operand(word, rest),
+    }
+}
+
+/// The form of a line with this first word, and its operands behind it.
+fn with_operand<'a>(word: &[u8], rest: &'a [u8]) -> Option<Form<'a>>
+    ensures { option_map form_seen result ≡ form_of (word.now ∷ words rest.now) }
+{
+    match split(rest) {
+        None => two_words(word, rest),
+        Some((a, rest)) => with_operands(word, a, rest),
+    }
+}
+
+/// The form of a line with this first word and first operand, and more operands behind them.
+fn with_operands<'a>(word: &[u8], a: &'a [u8], rest: &'a [u8]) -> Option<Form<'a>>
+    ensures { option_map form_seen result ≡ form_of (word.now ∷ a.now ∷ words rest.now) }
+{
+    let Some((b, rest)) = split(rest) else {
+        return three_words(word, a, rest);
     };
     match split(rest) {
-        Some(_) => None,
         None => four_words(word, a, b, rest),
+        Some(_) => None,
     }
 }

@@ -4,7 +4,7 @@ ghost use Rattle.script.specs.Past.{nothing, fate_of, is_given_up};
 ghost use Rattle.script.specs.Faults.{puts, drops, commits, opens, asks, acts, waits, cancels, closes};
 ghost use Rattle.script.specs.Known.{past_of};
 ghost use Rattle.script.specs.Seen.{form_seen};
-ghost use Rattle.script.specs.Taking.{IsUntouched, IsPutRead, IsRequestRead, IsTaken, IsLineTaken};
+ghost use Rattle.script.specs.Taking.{IsUntouched, IsPutRead, IsRequestRead, IsTaken, IsLineTaken, IsTested, in_open, fresh};
 
 use crate::fate::Fate;
 use crate::fault::{Stop, Word};
@@ -108,18 +108,34 @@ impl Known {
         Ok((Line::Put(path, bytes), taken))
     }
 
-    /// The operands of a request, tested in order: the transaction, its name, the label.
-    fn request(&self, alloc: Global, t: &[u8], name: &[u8], label: &[u8]) -> Result<Request, Stop>
-        ensures { IsRequestRead (past_of self.now) t.now name.now label.now result }
+    /// The name of an open transaction, tested in order: name, open.
+    fn open_transaction(&self, alloc: Global, t: &[u8]) -> Result<Name, Stop>
+        ensures { IsTested (in_open (past_of self.now) t.now) t.now result }
     {
-        let transaction = read_name(alloc, t)?;
-        if self.transactions.is_open(transaction.as_text()) != Some(true) {
+        let name = read_name(alloc, t)?;
+        if self.transactions.is_open(name.as_text()) != Some(true) {
             return Err(Stop::Fault(Word::Open));
         }
+        Ok(name)
+    }
+
+    /// The name of a new request, tested in order: name, taken.
+    fn free_name(&self, alloc: Global, name: &[u8]) -> Result<Name, Stop>
+        ensures { IsTested (fresh (past_of self.now) name.now) name.now result }
+    {
         let name = read_name(alloc, name)?;
         if self.requests.get(name.as_text()).is_some() {
             return Err(Stop::Fault(Word::Taken));
         }
+        Ok(name)
+    }
+
+    /// The operands of a request, tested in order: the transaction, its name, the label.
+    fn request(&self, alloc: Global, t: &[u8], name: &[u8], label: &[u8]) -> Result<Request, Stop>
+        ensures { IsRequestRead (past_of self.now) t.now name.now label.now result }
+    {
+        let transaction = self.open_transaction(alloc, t)?;
+        let name = self.free_name(alloc, name)?;
         let label = read_label(alloc, label)?;
         Ok(Request {
             transaction,
@@ -232,10 +248,7 @@ impl Known {
         ensures taken { IsTaken (past_of self.old) (closes t.now) behind.now result (past_of self.new) }
         ensures fits { IfOk result (λ r. r.1 ≤ length behind.now) }
     {
-        let name = read_name(alloc, t)?;
-        if self.transactions.is_open(name.as_text()) != Some(true) {
-            return Err(Stop::Fault(Word::Open));
-        }
+        let name = self.open_transaction(alloc, t)?;
         self.transactions.set(name.as_text(), false)?;
         Ok((Line::Close(name), 0))
     }

@@ -67,7 +67,7 @@ impl Script {
 }
 
 /// Why the lines were not all taken.
-#[derive(Clone, Copy, Debug, PartialEq, Eq)]
+#[derive(Clone, Copy)]
 enum Broken {
     /// The line that begins at this byte has this fault.
     At(usize, Word),
