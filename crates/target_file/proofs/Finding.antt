@@ -37,14 +37,15 @@ all_end : (ls : List Located) (l : Located) → all_of (ls ++ l ∷ []) ≡ all_
 all_end [] l = refl
 all_end (m ∷ ls) l = ap (λ (r : List targets.Located). located_of m ∷ r) (all_end ls l)
 
-pub pushed : (all : List targets.Located) (old new : List Located) (l : Located) (x : Call) (rest more : List Call) →
-    all_of old ++ map located (map call_of rest) ≡ all → rest ≡ x ∷ more → new ≡ old ++ l ∷ [] → located_of l ≡ located (call_of x) →
+pub put_last : (old new : List Located) (l : Located) (x : Call) → new ≡ old ++ l ∷ [] → located_of l ≡ located (call_of x) → all_of new ≡ all_of old ++ located (call_of x) ∷ []
+put_last old new l x n i = ap all_of n ∙ all_end old l ∙ ap (λ (y : targets.Located). all_of old ++ y ∷ []) i
+
+pub pushed : (all : List targets.Located) (old new : List Located) (x : Call) (rest more : List Call) →
+    all_of old ++ map located (map call_of rest) ≡ all → rest ≡ x ∷ more → all_of new ≡ all_of old ++ located (call_of x) ∷ [] →
     all_of new ++ map located (map call_of more) ≡ all
-pushed all old new l x rest more h e n i =
-    ap (λ (r : List Located). all_of r ++ map located (map call_of more)) n
-    ∙ ap (λ (r : List targets.Located). r ++ map located (map call_of more)) (all_end old l)
-    ∙ append_assoc (all_of old) (located_of l ∷ []) (map located (map call_of more))
-    ∙ ap (λ (y : targets.Located). all_of old ++ y ∷ map located (map call_of more)) i
+pushed all old new x rest more h e n =
+    ap (λ (r : List targets.Located). r ++ map located (map call_of more)) n
+    ∙ append_assoc (all_of old) (located (call_of x) ∷ []) (map located (map call_of more))
     ∙ ap (λ (r : List Call). all_of old ++ map located (map call_of r)) (sym e) ∙ h
 
 pub all_done : (ls : List Located) (rest first all : List Call) → all_of ls ++ map located (map call_of rest) ≡ map located (map call_of first) → rest ≡ [] → first ≡ all → all_of ls ≡ map located (map call_of all)

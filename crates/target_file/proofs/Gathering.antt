@@ -1,9 +1,9 @@
 -- What is found in arguments, lists and commands, one after the other.
-use Rattle.std.proofs.Common.{◌≡◌, ◌<◌, ◌+◌, ◌-◌, ◌∙◌, sym, ap, refl, subst, ℕ, zero, suc, Bool, true, false, if◌then◌else◌, nat_eq, List, [], ◌∷◌, ◌++◌, append_assoc, length, take, drop, get_or, Option, Some, None, arith}
+use Rattle.std.proofs.Common.{◌≡◌, ◌<◌, ◌+◌, ◌-◌, ◌∙◌, sym, ap, refl, subst, ℕ, zero, suc, Bool, true, false, if◌then◌else◌, nat_eq, map, List, [], ◌∷◌, ◌++◌, append_assoc, length, take, drop, get_or, Option, Some, None, arith}
 use Rattle.std.specs.List.{AllByRecursion, starts_with}
 use Rattle.std.specs.Option.{option_or}
 use Rattle.std.specs.declared.vec.Vec.{Vec}
-use Rattle.std.proofs.lemmas.List.{at_drop_more, drop-drop, take_rest}
+use Rattle.std.proofs.lemmas.List.{at_drop_more, drop-drop, take_rest, take_more, map-append}
 use Rattle.buck_label.specs.Paths.{IsPath}
 use Rattle.target_file.specs.declared.table.Rule.{Rule}
 use Rattle.target_file.specs.declared.table.Attribute.{Attribute}
@@ -15,7 +15,8 @@ use Rattle.target_file.specs.Table.{same_attribute, form_of}
 use Rattle.target_file.specs.Strings.{IsSource, IsCommand, IsLocated, opener, before_close, locations}
 use Rattle.target_file.specs.Calls.{Value, One, Many, Argument}
 use Rattle.target_file.specs.Files.{attributes}
-use Rattle.target_file.specs.Targets.{given, text_in, list_in}
+use Rattle.target_file.specs.Targets.{given, text_in, list_in, source_of}
+use Rattle.target_file.specs.declared.source.Source.{Source}
 use Rattle.target_file.proofs.Saying.{Says}
 use Rattle.target_file.proofs.Deciding.{same_says}
 use Rattle.target_file.proofs.Locations.{NoClose, cut_close, command_step}
@@ -45,6 +46,19 @@ pub source_at : {A : Type 0} (xs : List (Vec ℕ A)) (k : ℕ) (x : Vec ℕ A) �
 source_at [] k x h l e = absurd (omega arith)
 source_at (y ∷ xs) zero x h l e = subst (λ (z : Vec ℕ _). IsSource z.items) (sym e) h.0
 source_at (y ∷ xs) (suc k) x h l e = source_at xs k x h.1 (omega arith) e
+
+-- one string more of a list
+pub texts_more : {A : Type 0} (xs : List (Vec ℕ A)) (k : ℕ) (x : Vec ℕ A) (old new : List (List ℕ)) (text : List ℕ) → k < length xs → x ≡ get_or xs k x →
+    old ≡ texts_of (take k xs) → text ≡ x.items → new ≡ old ++ text ∷ [] → new ≡ texts_of (take (k + 1) xs)
+texts_more xs k x old new text h e o t n =
+    let all : texts_of (take (k + 1) xs) ≡ texts_of (take k xs) ++ (get_or xs k x).items ∷ [] = ap texts_of (take_more xs k x h) ∙ map-append (λ (v : Vec ℕ _). v.items) (take k xs) (get_or xs k x ∷ []) in
+    n ∙ ap (λ (y : List ℕ). old ++ y ∷ []) (t ∙ ap (λ (v : Vec ℕ _). v.items) e) ∙ ap (λ (ys : List (List ℕ)). ys ++ (get_or xs k x).items ∷ []) o ∙ sym all
+
+pub sources_more : {A : Type 0} (xs : List (Vec ℕ A)) (k : ℕ) (x : Vec ℕ A) (old new : List Source) (text : List ℕ) → k < length xs → x ≡ get_or xs k x →
+    old ≡ map source_of (texts_of (take k xs)) → text ≡ x.items → new ≡ old ++ source_of text ∷ [] → new ≡ map source_of (texts_of (take (k + 1) xs))
+sources_more xs k x old new text h e o t n =
+    let all : texts_of (take k xs) ++ text ∷ [] ≡ texts_of (take (k + 1) xs) = texts_more xs k x (texts_of (take k xs)) (texts_of (take k xs) ++ text ∷ []) text h e refl t refl in
+    n ∙ ap (λ (ys : List Source). ys ++ source_of text ∷ []) o ∙ sym (map-append source_of (texts_of (take k xs)) (text ∷ [])) ∙ ap (map source_of) all
 
 -- the label behind an opener
 pub label_is : (rest : List ℕ) (at : ℕ) → at < length rest → get_or rest at 0 ≡ 41 → NoClose (take at rest) → take at rest ≡ before_close rest

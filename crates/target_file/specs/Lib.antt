@@ -6,6 +6,7 @@ pub mod Files
 pub mod SameSources
 pub mod Same
 pub mod Targets
+pub mod Given
 pub mod Laws
 pub mod Meaning
 pub mod Names

@@ -1,5 +1,5 @@
 //! From calls to targets.
-ghost use Rattle.std.specs.Prelude.{◌≡◌, map, IfOk};
+ghost use Rattle.std.specs.Prelude.{◌≡◌, ◌++◌, ◌∷◌, [], map, IfOk, OnOk};
 ghost use Rattle.std.specs.List.{AllByRecursion};
 ghost use Rattle.target_file.specs.Files.{IsFine};
 ghost use Rattle.target_file.specs.Seen.{call_of};
@@ -23,6 +23,15 @@ fn locate(alloc: Global, call: Call) -> Result<Located, NoMemory>
     Ok(Located { line, target })
 }
 
+/// Adds the target of a call.
+fn add_located(alloc: Global, targets: &mut Vec<Located>, call: Call) -> Result<(), NoMemory>
+    requires { IsFine (call_of call) }
+    ensures { OnOk result (all_of targets.new.items ≡ all_of targets.old.items ++ located (call_of call) ∷ []) }
+{
+    targets.push(locate(alloc, call)?)?;
+    Ok(())
+}
+
 /// The targets of the calls, in order.
 pub fn located_all(alloc: Global, calls: Vec<Call>) -> Result<Vec<Located>, NoMemory>
     requires { AllByRecursion IsFine (map call_of calls.items) }
@@ -30,7 +39,7 @@ pub fn located_all(alloc: Global, calls: Vec<Call>) -> Result<Vec<Located>, NoMe
 {
     let mut targets = Vec::with_capacity(alloc, calls.len())?;
     for call in calls {
-        targets.push(locate(alloc, call)?)?;
+        add_located(alloc, &mut targets, call)?;
     }
     Ok(targets)
 }

@@ -1,10 +1,11 @@
 //! From the arguments of calls to what they mean.
-ghost use Rattle.std.specs.Prelude.{◌≡◌, ◌++◌, [], List, ℕ, IfOk, Some, map};
+ghost use Rattle.std.specs.Prelude.{◌≡◌, ◌++◌, ◌∷◌, [], List, ℕ, IfOk, OnOk, Some, map};
 ghost use Rattle.std.specs.List.{AllByRecursion};
 ghost use Rattle.std.specs.Option.{option_or, option_map};
 ghost use Rattle.buck_label.specs.Paths.{IsPath};
 ghost use Rattle.target_file.specs.Calls.{One, Many};
 ghost use Rattle.target_file.specs.Files.{IsFine};
+ghost use Rattle.target_file.specs.Given.{text_or, list_or_none, exported, written, commanded};
 ghost use Rattle.target_file.specs.Seen as seen;
 ghost use Rattle.target_file.specs.Seen.{arguments_of, call_of};
 ghost use Rattle.target_file.specs.Strings.{IsSource, IsCommand, IsLocated, before_close, locations};
@@ -88,6 +89,15 @@ fn source_of(alloc: Global, text: &[u8]) -> Result<Source, NoMemory>
     Ok(Source::Path(path_of(alloc, text)?))
 }
 
+/// Adds the source that a string names.
+fn add_source(alloc: Global, sources: &mut Vec<Source>, text: &[u8]) -> Result<(), NoMemory>
+    requires { IsSource text.now }
+    ensures { OnOk result (sources.new.items ≡ sources.old.items ++ source_of text.now ∷ []) }
+{
+    sources.push(source_of(alloc, text)?)?;
+    Ok(())
+}
+
 /// The sources of a list.
 fn sources_of(alloc: Global, items: &[Vec<u8>]) -> Result<Sources, NoMemory>
     requires { AllByRecursion IsSource (seen.texts_of items.now) }
@@ -95,7 +105,7 @@ fn sources_of(alloc: Global, items: &[Vec<u8>]) -> Result<Sources, NoMemory>
 {
     let mut sources = Vec::with_capacity(alloc, items.len())?;
     for item in items {
-        sources.push(source_of(alloc, item)?)?;
+        add_source(alloc, &mut sources, item)?;
     }
     Ok(Sources::of(sources))
 }
@@ -124,6 +134,40 @@ fn command_of(alloc: Global, text: &[u8]) -> Result<Command, NoMemory>
     Ok(Command::of(text, labels))
 }
 
+/// What an `export_file` of this name does.
+fn export_file(alloc: Global, arguments: &[Argument], name: &[u8]) -> Result<Action, NoMemory>
+    requires src { IsPath (text_or Attribute.Src (arguments_of arguments.now) name.now) }
+    requires out { IsPath (text_or Attribute.Out (arguments_of arguments.now) name.now) }
+    ensures { IfOk result (λ a. a ≡ exported (arguments_of arguments.now) name.now) }
+{
+    let src = path_of(alloc, text_of(arguments, Attribute::Src, name))?;
+    let out = path_of(alloc, text_of(arguments, Attribute::Out, name))?;
+    Ok(Action::ExportFile { src, out })
+}
+
+/// What a `write_file` of this name does.
+fn write_file(alloc: Global, arguments: &[Argument], name: &[u8]) -> Result<Action, NoMemory>
+    requires { IsPath (text_or Attribute.Out (arguments_of arguments.now) name.now) }
+    ensures { IfOk result (λ a. a ≡ written (arguments_of arguments.now) name.now) }
+{
+    let content = Text::from_slice(alloc, text_of(arguments, Attribute::Content, b""))?;
+    let out = path_of(alloc, text_of(arguments, Attribute::Out, name))?;
+    Ok(Action::WriteFile { content, out })
+}
+
+/// What a `genrule` does.
+fn genrule(alloc: Global, arguments: &[Argument]) -> Result<Action, NoMemory>
+    requires srcs { AllByRecursion IsSource (list_or_none Attribute.Srcs (arguments_of arguments.now)) }
+    requires out { IsPath (text_or Attribute.Out (arguments_of arguments.now) []) }
+    requires cmd { IsCommand (text_or Attribute.Cmd (arguments_of arguments.now) []) }
+    ensures { IfOk result (λ a. a ≡ commanded (arguments_of arguments.now)) }
+{
+    let srcs = sources_of(alloc, list_of(arguments, Attribute::Srcs))?;
+    let out = path_of(alloc, text_of(arguments, Attribute::Out, b""))?;
+    let cmd = command_of(alloc, text_of(arguments, Attribute::Cmd, b""))?;
+    Ok(Action::Genrule { srcs, out, cmd })
+}
+
 /// What the target of a call does.
 pub fn action_of(alloc: Global, call: &Call) -> Result<Action, NoMemory>
     requires { IsFine (call_of call.now) }
@@ -132,26 +176,13 @@ pub fn action_of(alloc: Global, call: &Call) -> Result<Action, NoMemory>
     let given = call.arguments.as_slice();
     let name = text_of(given, Attribute::Name, b"");
     match call.rule {
-        Rule::ExportFile => {
-            let src = path_of(alloc, text_of(given, Attribute::Src, name))?;
-            let out = path_of(alloc, text_of(given, Attribute::Out, name))?;
-            Ok(Action::ExportFile { src, out })
-        }
+        Rule::ExportFile => export_file(alloc, given, name),
         Rule::Filegroup => {
             let srcs = sources_of(alloc, list_of(given, Attribute::Srcs))?;
             Ok(Action::Filegroup { srcs })
         }
-        Rule::WriteFile => {
-            let content = Text::from_slice(alloc, text_of(given, Attribute::Content, b""))?;
-            let out = path_of(alloc, text_of(given, Attribute::Out, name))?;
-            Ok(Action::WriteFile { content, out })
-        }
-        Rule::Genrule => {
-            let srcs = sources_of(alloc, list_of(given, Attribute::Srcs))?;
-            let out = path_of(alloc, text_of(given, Attribute::Out, b""))?;
-            let cmd = command_of(alloc, text_of(given, Attribute::Cmd, b""))?;
-            Ok(Action::Genrule { srcs, out, cmd })
-        }
+        Rule::WriteFile => write_file(alloc, given, name),
+        Rule::Genrule => genrule(alloc, given),
         Rule::StampFile => {
             let out = path_of(alloc, text_of(given, Attribute::Out, name))?;
             Ok(Action::StampFile { out })

@@ -30,12 +30,12 @@ pub struct Progress {
 }
 
 impl Progress {
-    ghost use Rattle.std.specs.Prelude.{◌≡◌, ◌↔◌, true, false, ℕ, List, [], IfOk, length, map};
+    ghost use Rattle.std.specs.Prelude.{◌≡◌, ◌↔◌, true, false, ℕ, List, [], IfOk, OnOk, length, map};
     ghost use Rattle.target_file.specs.Tokens.{Word, Text, Mark};
     ghost use Rattle.target_file.specs.Calls.{One};
     ghost use Rattle.target_file.specs.Files.{IsFine, names};
     ghost use Rattle.lists.specs.Lists.{Has};
-    ghost use Rattle.target_file.specs.Machine.{IsFresh, set_place, first};
+    ghost use Rattle.target_file.specs.Machine.{IsFresh, set_place, give, first};
     ghost use Rattle.std.specs.List.{AllByRecursion};
     ghost use Rattle.target_file.specs.Targets.{located};
     ghost use Rattle.target_file.specs.Code.{state_of, Stepped};
@@ -126,6 +126,15 @@ impl Progress {
         if !may_be(self.rule, attribute, &text) || !self.is_fresh(attribute, &text) {
             return Ok(false);
         }
+        self.give(attribute, text)?;
+        Ok(true)
+    }
+
+    /// Gives the attribute this string.
+    fn give(&mut self, attribute: Attribute, text: Vec<u8>) -> Result<(), NoMemory>
+        requires { IsFresh (map call_of self.old.calls.items) attribute (One text.items) }
+        ensures { OnOk result (state_of self.new ≡ give (state_of self.old) attribute (One text.items)) }
+    {
         self.given.reserve(1)?;
         self.names
             .note(self.alloc, attribute, &text, self.calls.len())?;
@@ -135,7 +144,7 @@ impl Progress {
         })?;
         self.items.clear();
         self.place = Place::Done;
-        Ok(true)
+        Ok(())
     }
 
     /// Whether the string, if it is a name, is that of no whole call.

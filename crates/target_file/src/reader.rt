@@ -1,5 +1,5 @@
 //! A file, read byte by byte.
-ghost use Rattle.std.specs.Prelude.{◌≡◌, ◌↔◌, ◌<◌, ◌^◌, ◌+◌, ℕ, List, [], ◌∷◌, ◌++◌, map, false, true, IfOk, Some, None};
+ghost use Rattle.std.specs.Prelude.{◌≡◌, ◌≢◌, ◌↔◌, ◌<◌, ◌^◌, ◌+◌, ℕ, List, [], ◌∷◌, ◌++◌, map, false, true, IfOk, Some, None};
 ghost use Rattle.target_file.specs.Tokens.{is_blank, is_mark, is_quote, is_letter, escaped, Word, Text, start};
 ghost use Rattle.target_file.specs.Machine.{first};
 ghost use Rattle.target_file.specs.Tokens as token;
@@ -132,6 +132,17 @@ impl Reader {
             let ok = self.progress.mark(byte)?;
             return Ok(ok);
         }
+        self.begin(byte)
+    }
+
+    /// The first byte of a string or of a word.
+    fn begin(&mut self, byte: u8) -> Result<bool, NoMemory>
+        requires mode { self.old.mode ≡ Mode.Between }
+        requires no_blank { is_blank byte ≡ false }
+        requires no_comment { byte ≢ 35 }
+        requires no_mark { is_mark byte ≡ false }
+        ensures { IfOk result (λ ok. Took (scan_of self.old) byte (state_of self.old.progress) ok (scan_of self.new) (state_of self.new.progress)) }
+    {
         self.bytes.clear();
         if is_quote(byte) {
             self.mode = Mode::Text(byte);

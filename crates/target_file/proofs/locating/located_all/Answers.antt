@@ -8,8 +8,8 @@ use Rattle.target_file.proofs.Finding.{pushed, all_done}
 use Rattle.target_file.proofs.locating.located_all.Goals as goal
 use Rattle.std.proofs.lemmas.List.{nil_from_length}
 
-pub locate-requires : goal.locate-requires
-locate-requires c =
+pub add_located-requires : goal.add_located-requires
+add_located-requires c =
     let at = c.loop-call in
     let steps : into_iter_items at.call-iterator ≡ c.in-Some.call ∷ into_iter_items c.next.new.self = c.in-Some.ensures.steps.0 in
     let f : AllByRecursion IsFine (map call_of (c.in-Some.call ∷ into_iter_items c.next.new.self)) = subst (λ (r : List Call). AllByRecursion IsFine (map call_of r)) steps at.invariant.fine in
@@ -22,7 +22,7 @@ loop-call-preserved c =
     let steps : into_iter_items at.call-iterator ≡ x ∷ into_iter_items c.next.new.self = c.in-Some.ensures.steps.0 in
     let f : AllByRecursion IsFine (map call_of (x ∷ into_iter_items c.next.new.self)) = subst (λ (r : List Call). AllByRecursion IsFine (map call_of r)) steps at.invariant.fine in record {
       fine = f.1;
-      so_far = pushed _ at.targets.items c.push.new.self.items c.in_ok-locate.field-0 x (into_iter_items at.call-iterator) (into_iter_items c.next.new.self) at.invariant.so_far steps c.in_ok-push.ensures.items c.in_ok-locate.ensures;
+      so_far = pushed _ at.targets.items c.add_located.new.targets.items x (into_iter_items at.call-iterator) (into_iter_items c.next.new.self) at.invariant.so_far steps c.in_ok-add_located.ensures;
       count = let was = at.invariant.count in let gone = c.in-Some.ensures.steps.1 in let short = ap length steps in omega arith;
     }
 
