@@ -1,6 +1,7 @@
 //! Scripts that are known byte by byte, or by their length.
 use bulk_script::{bulk_script, request_count};
 use script::read;
+use std::alloc::Global;
 
 const ONE: &[u8] = b"put src/BUCK 406\n\
 export_file(name = \"s0\")\nexport_file(name = \"s1\")\nexport_file(name = \"s2\")\nexport_file(name = \"s3\")\n\
@@ -12,18 +13,37 @@ put src/s8 1\n8\nput src/s9 1\n9\nput src/s10 2\n10\nput src/s11 2\n11\nput src/
 put p0/BUCK 39\nwrite_file(name = \"t0\", content = \"0\")\n\n\
 commit\nopen a\nask a a0 //p0:t0\nput src/s0 1\nx\ncommit\nopen b\nask b b0 //p0:t0\n";
 
+/// Whether this is the script of so many targets.
+fn is_bulk(alloc: Global, targets: u32, text: &[u8]) -> bool {
+    match bulk_script(alloc, targets) {
+        Ok(script) => script.as_slice() == text,
+        Err(_) => false,
+    }
+}
+
 #[test]
 fn one_target(rt: HostRuntime) {
-    let script = bulk_script(rt.alloc(), 1).expect(&rt, "memory");
-    assert!(rt; script.as_slice() == ONE);
+    assert!(rt; is_bulk(rt.alloc(), 1, ONE));
     assert!(rt; request_count(1) == 2);
+}
+
+/// How many bytes the script of so many targets has, and how many lines.
+fn sizes(alloc: Global, targets: u32) -> Option<(usize, usize)> {
+    match bulk_script(alloc, targets) {
+        Ok(script) => Some((script.len(), line_count(alloc, &script)?)),
+        Err(_) => None,
+    }
+}
+
+fn line_count(alloc: Global, text: &[u8]) -> Option<usize> {
+    match read(alloc, text) {
+        Ok(script) => Some(script.lines().len()),
+        Err(_) => None,
+    }
 }
 
 #[test]
 fn two_packages_are_read(rt: HostRuntime) {
-    let script = bulk_script(rt.alloc(), 101).expect(&rt, "memory");
-    assert!(rt; script.len() == 8_090);
-    let read = read(rt.alloc(), &script).expect(&rt, "a script");
-    assert!(rt; read.lines().len() == 46);
+    assert!(rt; sizes(rt.alloc(), 101) == Some((8_090, 46)));
     assert!(rt; request_count(101) == 22);
 }

@@ -1,18 +1,25 @@
 //! Scripts whose reading is known.
 
-use script::{Line, Request, ScriptRefusal, Word, read, readings_are_one};
+use script::{Line, Request, Script, ScriptRefusal, Word, read, readings_are_one};
 use std::alloc::Global;
 use std::test::Fail;
 
 /// A text, and the line of its first fault with the word for it.
 type FaultRow = (&'static [u8], usize, Word);
 
+/// Whether this is the first fault of the text.
+fn is_first_fault(alloc: Global, row: FaultRow) -> bool {
+    let (text, line, word) = row;
+    match read(alloc, text) {
+        Ok(_) => false,
+        Err(refusal) => refusal == ScriptRefusal::Fault { line, word },
+    }
+}
+
 /// The number of the first row whose text has another first fault, or no fault.
 fn first_other_fault(alloc: Global, rows: &[FaultRow]) -> Option<usize> {
     for i in 0..rows.len() {
-        let (text, line, word) = rows[i];
-        let wanted = ScriptRefusal::Fault { line, word };
-        if read(alloc, text).err() != Some(wanted) {
+        if !is_first_fault(alloc, rows[i]) {
             return Some(i);
         }
     }
@@ -23,121 +30,127 @@ fn line_count(alloc: Global, text: &[u8]) -> Result<usize, ScriptRefusal> {
     Ok(read(alloc, text)?.lines().len())
 }
 
+const PUT_FAULTS: [FaultRow; 10] = [
+    (b"put a/x 5\nabc", 1, Word::Count),
+    (b"put a/x 1\nab", 1, Word::Count),
+    (b"put a/x 1", 1, Word::Count),
+    (b"put a/x 4194305", 1, Word::Number),
+    (b"put a/x 01", 1, Word::Number),
+    (b"put a/x ", 1, Word::Number),
+    (b"put a/x 99999999999999999999999", 1, Word::Number),
+    (b"put a//x 1", 1, Word::Path),
+    (b"put a/x 0\n\nput a/x 01", 3, Word::Twice),
+    (b"put a/x 2\n\n\n\nbad", 5, Word::Word),
+];
+
 #[test]
 fn faults_of_puts(rt: HostRuntime) {
-    let rows: [FaultRow; 10] = [
-        (b"put a/x 5\nabc", 1, Word::Count),
-        (b"put a/x 1\nab", 1, Word::Count),
-        (b"put a/x 1", 1, Word::Count),
-        (b"put a/x 4194305", 1, Word::Number),
-        (b"put a/x 01", 1, Word::Number),
-        (b"put a/x ", 1, Word::Number),
-        (b"put a/x 99999999999999999999999", 1, Word::Number),
-        (b"put a//x 1", 1, Word::Path),
-        (b"put a/x 0\n\nput a/x 01", 3, Word::Twice),
-        (b"put a/x 2\n\n\n\nbad", 5, Word::Word),
-    ];
-    assert_eq!(rt; first_other_fault(rt.alloc(), &rows), None);
+    assert!(rt; first_other_fault(rt.alloc(), &PUT_FAULTS) == None);
 }
+
+const WORD_FAULTS: [FaultRow; 11] = [
+    (b"commit ", 1, Word::Word),
+    (b"commit\r", 1, Word::Word),
+    (b" ", 1, Word::Word),
+    (b"put a/x", 1, Word::Word),
+    (b"ask t r //a //b", 1, Word::Word),
+    (b"drop", 1, Word::Word),
+    (b"wait r q", 1, Word::Word),
+    (b"cancel", 1, Word::Word),
+    (b"close t ", 1, Word::Word),
+    (b"client a", 1, Word::Word),
+    (b"Open t", 1, Word::Word),
+];
 
 #[test]
 fn faults_of_words(rt: HostRuntime) {
-    let rows: [FaultRow; 11] = [
-        (b"commit ", 1, Word::Word),
-        (b"commit\r", 1, Word::Word),
-        (b" ", 1, Word::Word),
-        (b"put a/x", 1, Word::Word),
-        (b"ask t r //a //b", 1, Word::Word),
-        (b"drop", 1, Word::Word),
-        (b"wait r q", 1, Word::Word),
-        (b"cancel", 1, Word::Word),
-        (b"close t ", 1, Word::Word),
-        (b"client a", 1, Word::Word),
-        (b"Open t", 1, Word::Word),
-    ];
-    assert_eq!(rt; first_other_fault(rt.alloc(), &rows), None);
+    assert!(rt; first_other_fault(rt.alloc(), &WORD_FAULTS) == None);
 }
+
+const NAME_FAULTS: [FaultRow; 9] = [
+    (b"open ", 1, Word::Name),
+    (b"open t\r", 1, Word::Name),
+    (b"open abcdefghijklmnopqrstuvwxyz1234567", 1, Word::Name),
+    (b"open t\nopen t", 2, Word::Taken),
+    (b"#\n\nask t r //a", 3, Word::Open),
+    (b"open t\nask t r! bad", 2, Word::Name),
+    (b"open t\nask t t //a\naction t t bad", 3, Word::Taken),
+    (b"open t\nask t r a:b", 2, Word::Label),
+    (b"open t\nask t r :b", 2, Word::Label),
+];
 
 #[test]
 fn faults_of_names(rt: HostRuntime) {
-    let rows: [FaultRow; 9] = [
-        (b"open ", 1, Word::Name),
-        (b"open t\r", 1, Word::Name),
-        (b"open abcdefghijklmnopqrstuvwxyz1234567", 1, Word::Name),
-        (b"open t\nopen t", 2, Word::Taken),
-        (b"#\n\nask t r //a", 3, Word::Open),
-        (b"open t\nask t r! bad", 2, Word::Name),
-        (b"open t\nask t t //a\naction t t bad", 3, Word::Taken),
-        (b"open t\nask t r a:b", 2, Word::Label),
-        (b"open t\nask t r :b", 2, Word::Label),
-    ];
-    assert_eq!(rt; first_other_fault(rt.alloc(), &rows), None);
+    assert!(rt; first_other_fault(rt.alloc(), &NAME_FAULTS) == None);
 }
+
+const REQUEST_FAULTS: [FaultRow; 19] = [
+    (b"wait r", 1, Word::Unknown),
+    (b"cancel r", 1, Word::Unknown),
+    (b"wait r!", 1, Word::Name),
+    (b"cancel ", 1, Word::Name),
+    (b"close t\r", 1, Word::Name),
+    (b"close t", 1, Word::Open),
+    (b"open t\nclose t\nopen t", 3, Word::Taken),
+    (b"open t\nclose t\nclose t", 3, Word::Open),
+    (b"open t\nclose t\nask t r //a", 3, Word::Open),
+    (
+        b"open t\nask t r //a:w\nclose t\nwait r",
+        4,
+        Word::Cancelled,
+    ),
+    (
+        b"open t\nask t r //a:w\nclose t\ncancel r",
+        4,
+        Word::Cancelled,
+    ),
+    (
+        b"open t\nask t r //a:w\ncancel r\nwait r",
+        4,
+        Word::Cancelled,
+    ),
+    (
+        b"open t\nask t r //a:w\ncancel r\ncancel r",
+        4,
+        Word::Cancelled,
+    ),
+    (
+        b"open t\nask t r //a:w\nwait r\ncancel r",
+        4,
+        Word::Answered,
+    ),
+    (
+        b"open t\nask t r //a:w\nwait r\nclose t\ncancel r",
+        5,
+        Word::Answered,
+    ),
+    (b"drop a//x", 1, Word::Path),
+    (b"drop a/x\ndrop a/x", 2, Word::Twice),
+    (b"put a/x 0\n\ndrop a/x", 3, Word::Twice),
+    (b"drop a/x\nput a/x 01", 2, Word::Twice),
+];
 
 #[test]
 fn faults_of_requests_and_transactions(rt: HostRuntime) {
-    let rows: [FaultRow; 19] = [
-        (b"wait r", 1, Word::Unknown),
-        (b"cancel r", 1, Word::Unknown),
-        (b"wait r!", 1, Word::Name),
-        (b"cancel ", 1, Word::Name),
-        (b"close t\r", 1, Word::Name),
-        (b"close t", 1, Word::Open),
-        (b"open t\nclose t\nopen t", 3, Word::Taken),
-        (b"open t\nclose t\nclose t", 3, Word::Open),
-        (b"open t\nclose t\nask t r //a", 3, Word::Open),
-        (
-            b"open t\nask t r //a:w\nclose t\nwait r",
-            4,
-            Word::Cancelled,
-        ),
-        (
-            b"open t\nask t r //a:w\nclose t\ncancel r",
-            4,
-            Word::Cancelled,
-        ),
-        (
-            b"open t\nask t r //a:w\ncancel r\nwait r",
-            4,
-            Word::Cancelled,
-        ),
-        (
-            b"open t\nask t r //a:w\ncancel r\ncancel r",
-            4,
-            Word::Cancelled,
-        ),
-        (
-            b"open t\nask t r //a:w\nwait r\ncancel r",
-            4,
-            Word::Answered,
-        ),
-        (
-            b"open t\nask t r //a:w\nwait r\nclose t\ncancel r",
-            5,
-            Word::Answered,
-        ),
-        (b"drop a//x", 1, Word::Path),
-        (b"drop a/x\ndrop a/x", 2, Word::Twice),
-        (b"put a/x 0\n\ndrop a/x", 3, Word::Twice),
-        (b"drop a/x\nput a/x 01", 2, Word::Twice),
-    ];
-    assert_eq!(rt; first_other_fault(rt.alloc(), &rows), None);
+    assert!(rt; first_other_fault(rt.alloc(), &REQUEST_FAULTS) == None);
 }
+
+/// Scripts, and how many lines that do something they have.
+const SCRIPTS: [(&[u8], usize); 8] = [
+    (b"", 0),
+    (b"\n# put\n\n", 0),
+    (b"put a/x 0", 1),
+    (b"put a/x 0\n", 1),
+    (b"put a/x 0\n\ncommit\nput a/x 1\nb\ncommit", 4),
+    (b"open abcdefghijklmnopqrstuvwxyz123456", 1),
+    (b"drop a/x\ncommit\ndrop a/x", 3),
+    (b"open t\nask t r //a\nwait r\nwait r\nclose t\nwait r", 6),
+];
 
 #[test]
 fn scripts_of_few_lines(rt: HostRuntime) {
-    let rows: [(&[u8], usize); 8] = [
-        (b"", 0),
-        (b"\n# put\n\n", 0),
-        (b"put a/x 0", 1),
-        (b"put a/x 0\n", 1),
-        (b"put a/x 0\n\ncommit\nput a/x 1\nb\ncommit", 4),
-        (b"open abcdefghijklmnopqrstuvwxyz123456", 1),
-        (b"drop a/x\ncommit\ndrop a/x", 3),
-        (b"open t\nask t r //a\nwait r\nwait r\nclose t\nwait r", 6),
-    ];
-    for (text, lines) in rows {
-        assert_eq!(rt; line_count(rt.alloc(), text), Ok(lines));
+    for (text, lines) in SCRIPTS {
+        assert!(rt; line_count(rt.alloc(), text) == Ok(lines));
     }
     readings_are_one();
 }
@@ -148,42 +161,55 @@ fn is_request(request: &Request, name: &[u8], label: &[u8]) -> bool {
         && request.label.as_bytes() == label
 }
 
-fn is_as_written(alloc: Global) -> Result<bool, ScriptRefusal> {
-    let text = b"put a/f 2\n\n\n\ncommit\nopen t\nask t r //a\naction t q //a:w";
-    let script = read(alloc, text)?;
-    Ok(match script.lines() {
-        [
-            Line::Put(path, bytes),
-            Line::Commit,
-            Line::Open(t),
-            Line::Ask(r),
-            Line::Action(q),
-        ] => {
-            path.as_bytes() == b"a/f".as_slice()
-                && bytes.as_bytes() == b"\n\n".as_slice()
-                && t.as_bytes() == b"t".as_slice()
-                && is_request(r, b"r", b"//a:a")
-                && is_request(q, b"q", b"//a:w")
+/// Whether a line is as the line of this number in `WRITTEN`.
+fn is_as_written(at: usize, line: &Line) -> bool {
+    match (at, line) {
+        (0, Line::Put(path, bytes)) => {
+            path.as_bytes() == b"a/f".as_slice() && bytes.as_bytes() == b"\n\n".as_slice()
         }
+        (1, Line::Commit) => true,
+        (2, Line::Open(name)) => name.as_bytes() == b"t".as_slice(),
+        (3, Line::Ask(request)) => is_request(request, b"r", b"//a:a"),
+        (4, Line::Action(request)) => is_request(request, b"q", b"//a:w"),
         _ => false,
-    })
+    }
+}
+
+const WRITTEN: &[u8] = b"put a/f 2\n\n\n\ncommit\nopen t\nask t r //a\naction t q //a:w";
+
+/// Whether there are five lines, each as written.
+fn are_as_written(lines: &[Line]) -> bool {
+    for i in 0..lines.len() {
+        if !is_as_written(i, &lines[i]) {
+            return false;
+        }
+    }
+    lines.len() == 5
+}
+
+fn is_read_as_written(alloc: Global) -> Result<bool, ScriptRefusal> {
+    Ok(are_as_written(read(alloc, WRITTEN)?.lines()))
 }
 
 #[test]
 fn lines_as_written(rt: HostRuntime) {
-    assert_eq!(rt; is_as_written(rt.alloc()), Ok(true));
+    assert!(rt; is_read_as_written(rt.alloc()) == Ok(true));
     assert!(rt; Word::Twice.text() == "twice");
 }
 
 /// Whether the request in this line is cancelled; `None` where there is none.
-fn cancelled(alloc: Global, text: &[u8], at: usize) -> Result<Option<bool>, ScriptRefusal> {
-    let script = read(alloc, text)?;
-    Ok(match script.lines().get(at) {
-        Some(Line::Ask(request) | Line::Action(request)) => Some(script.is_cancelled(
-            &request.name,
-        )),
+fn is_cancelled(script: &Script, at: usize) -> Option<bool> {
+    match script.lines().get(at) {
+        Some(Line::Ask(request) | Line::Action(request)) => {
+            Some(script.is_cancelled(&request.name))
+        }
         _ => None,
-    })
+    }
+}
+
+/// The same of the script that is read from this text.
+fn cancelled(alloc: Global, text: &[u8], at: usize) -> Result<Option<bool>, ScriptRefusal> {
+    Ok(is_cancelled(&read(alloc, text)?, at))
 }
 
 #[test]
@@ -193,7 +219,7 @@ fn requests_that_a_script_cancels(rt: HostRuntime) {
         b"open t\nask t r //a\nask t q //a\nask t p //a\naction t o //a\nopen s\nask s n //a\nwait q\ncancel r\nclose t";
     let rows = [(1, true), (2, false), (3, true), (4, true), (6, false)];
     for (at, is) in rows {
-        assert_eq!(rt; cancelled(alloc, text, at), Ok(Some(is)));
+        assert!(rt; cancelled(alloc, text, at) == Ok(Some(is)));
     }
 }
 

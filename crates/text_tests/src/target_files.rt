@@ -2,8 +2,8 @@
 
 use buck_label::Text;
 use std::alloc::Global;
-use std::process::Abort;
-use target_file::{Action, File, FileFault, Source, Target, read};
+use std::test::Fail;
+use target_file::{Action, Command, File, FileFault, Source, Target, read};
 
 /// How many targets the text has; 99 where it is no file.
 fn count(alloc: Global, text: &[u8]) -> usize {
@@ -16,20 +16,16 @@ fn count(alloc: Global, text: &[u8]) -> usize {
 /// The line that is named; 0 where the text is a file.
 fn line_of(alloc: Global, text: &[u8]) -> u64 {
     match read(alloc, text) {
-        Err(FileFault::Bad { line }) => line,
-        _ => 0,
+        Ok(_) => 0,
+        Err(fault) => line_in(fault),
     }
 }
 
-fn file_of(rt: &impl Abort, alloc: Global, text: &[u8]) -> File {
-    match read(alloc, text) {
-        Ok(file) => file,
-        Err(_) => panic!(rt; "no file"),
+fn line_in(fault: FileFault) -> u64 {
+    match fault {
+        FileFault::Bad { line } => line,
+        FileFault::NoMemory => 0,
     }
-}
-
-fn is(bytes: &[u8], wanted: &[u8]) -> bool {
-    bytes == wanted
 }
 
 fn shared<T: Send + Sync>(_value: &T) {}
@@ -168,46 +164,68 @@ fn faults_are_told_on_their_line(rt: HostRuntime) {
     }
 }
 
-fn target<'a>(rt: &impl Abort, file: &'a File, name: &[u8]) -> &'a Target {
+/// The action of the target of this name.
+fn action<'a>(file: &'a File, name: &[u8]) -> Option<&'a Action> {
     match file.target(name) {
-        Some(target) => target,
-        None => panic!(rt; "no such target"),
+        Some(target) => Some(target.action()),
+        None => None,
     }
 }
 
-fn writes(target: &Target, wanted_out: &[u8], wanted: &[u8]) -> bool {
-    match target.action() {
-        Action::WriteFile { content, out } => {
+fn writes(file: &File, name: &[u8], wanted_out: &[u8], wanted: &[u8]) -> bool {
+    match action(file, name) {
+        Some(Action::WriteFile { content, out }) => {
             out.as_bytes() == wanted_out && content.as_bytes() == wanted
         }
         _ => false,
     }
 }
 
-#[test]
-fn targets_are_found_by_name(rt: HostRuntime) {
-    let text =
-        b"write_file(name = \"u\", content = \"a\\n\")\n\nwrite_file(content = 'b', out = \"o/p\", name = \"w\")";
-    let file = file_of(&rt, rt.alloc(), text);
-    assert!(rt; writes(target(&rt, &file, b"u"), b"u", b"a\n"));
-    assert!(rt; writes(target(&rt, &file, b"w"), b"o/p", b"b"));
-    assert!(rt; is(target(&rt, &file, b"w").name(), b"w"));
-    assert!(rt; file.target(b"v").is_none());
-    assert!(rt; file.target(b"").is_none());
-    let targets = file.targets();
-    assert!(rt; targets.len() == 2);
-    assert!(rt; targets[0].line == 1);
-    assert!(rt; targets[1].line == 3);
-    shared(&file);
+/// The name of the target that this name finds.
+fn has_name(file: &File, name: &[u8]) -> bool {
+    match file.target(name) {
+        Some(target) => target.name() == name,
+        None => false,
+    }
 }
 
-fn same_target(rt: &impl Abort, alloc: Global, x: &[u8], y: &[u8]) -> bool {
-    let x = file_of(rt, alloc, x);
-    let y = file_of(rt, alloc, y);
+/// Whether the file has two targets, which begin on these lines.
+fn has_lines(file: &File, first: u64, second: u64) -> bool {
+    match file.targets() {
+        [x, y] => x.line == first && y.line == second,
+        _ => false,
+    }
+}
+
+const TWO: &[u8] =
+    b"write_file(name = \"u\", content = \"a\\n\")\n\nwrite_file(content = 'b', out = \"o/p\", name = \"w\")";
+
+#[test]
+fn targets_are_found_by_name(rt: HostRuntime) -> Result<(), Fail> {
+    let file = read(rt.alloc(), TWO)?;
+    assert!(rt; writes(&file, b"u", b"u", b"a\n") && writes(&file, b"w", b"o/p", b"b"));
+    assert!(rt; has_name(&file, b"w"));
+    assert!(rt; file.target(b"v").is_none() && file.target(b"").is_none());
+    assert!(rt; has_lines(&file, 1, 3));
+    shared(&file);
+    Ok(())
+}
+
+/// Whether two files have the same target `w`.
+fn have_same(x: &File, y: &File) -> bool {
     match (x.target(b"w"), y.target(b"w")) {
         (Some(x), Some(y)) => **x == **y,
         _ => false,
     }
+}
+
+/// The same of the files of two texts.
+fn same_target(alloc: Global, x: &[u8], y: &[u8]) -> Result<bool, FileFault> {
+    Ok(have_same(&read(alloc, x)?, &read(alloc, y)?))
+}
+
+fn same_file(alloc: Global, x: &[u8], y: &[u8]) -> Result<bool, FileFault> {
+    Ok(read(alloc, x)? == read(alloc, y)?)
 }
 
 #[test]
@@ -218,13 +236,19 @@ fn calls_are_equal_by_what_they_mean(rt: HostRuntime) {
     let below = b"\nwrite_file(name = \"w\", content = \"a\")";
     let changed = b"write_file(name = \"w\", content = \"b\")";
     let labelled = b"write_file(name = \"w\", content = \"a\", labels = ['x'])";
-    assert!(rt; same_target(&rt, alloc, plain, other));
-    assert!(rt; same_target(&rt, alloc, plain, below));
-    assert!(rt; !same_target(&rt, alloc, plain, changed));
-    assert!(rt; !same_target(&rt, alloc, plain, labelled));
-    assert!(rt; file_of(&rt, alloc, plain) == file_of(&rt, alloc, other));
-    assert!(rt; file_of(&rt, alloc, plain) != file_of(&rt, alloc, below));
-    assert!(rt; file_of(&rt, alloc, plain) != file_of(&rt, alloc, changed));
+    let targets: [(&[u8], bool); 4] = [
+        (other, true),
+        (below, true),
+        (changed, false),
+        (labelled, false),
+    ];
+    for (text, same) in targets {
+        assert!(rt; same_target(alloc, plain, text) == Ok(same));
+    }
+    let files: [(&[u8], bool); 3] = [(other, true), (below, false), (changed, false)];
+    for (text, same) in files {
+        assert!(rt; same_file(alloc, plain, text) == Ok(same));
+    }
 }
 
 const FIVE: &[u8] = b"export_file(name = 'f', out = 'o')
@@ -233,26 +257,35 @@ genrule(name = 'g', out = 'p', cmd = 'a $(location :f) $(location //a:b)')
 stamp_file(name = 's')
 ";
 
-fn exports(target: &Target, wanted_src: &[u8], wanted_out: &[u8]) -> bool {
-    match target.action() {
-        Action::ExportFile { src, out } => {
+fn exports(file: &File, name: &[u8], wanted_src: &[u8], wanted_out: &[u8]) -> bool {
+    match action(file, name) {
+        Some(Action::ExportFile { src, out }) => {
             src.as_bytes() == wanted_src && out.as_bytes() == wanted_out
         }
         _ => false,
     }
 }
 
-fn groups(target: &Target) -> bool {
-    match target.action() {
-        Action::Filegroup { srcs } => match srcs.as_slice() {
-            [
-                Source::Path(path),
-                Source::Label(here),
-                Source::Label(there),
-            ] => {
-                is(path.as_bytes(), b"f")
-                    && is(here.as_bytes(), b":f")
-                    && is(there.as_bytes(), b"//a")
+fn is_path(source: &Source, wanted: &[u8]) -> bool {
+    match source {
+        Source::Path(path) => path.as_bytes() == wanted,
+        Source::Label(_) => false,
+    }
+}
+
+fn is_label(source: &Source, wanted: &[u8]) -> bool {
+    match source {
+        Source::Label(label) => label.as_bytes() == wanted,
+        Source::Path(_) => false,
+    }
+}
+
+/// Whether the target `x` groups a path and two labels.
+fn groups(file: &File) -> bool {
+    match action(file, b"x") {
+        Some(Action::Filegroup { srcs }) => match srcs.as_slice() {
+            [path, here, there] => {
+                is_path(path, b"f") && is_label(here, b":f") && is_label(there, b"//a")
             }
             _ => false,
         },
@@ -260,34 +293,60 @@ fn groups(target: &Target) -> bool {
     }
 }
 
-fn generates(target: &Target) -> bool {
-    match target.action() {
-        Action::Genrule { srcs, out, cmd } => {
-            let text = b"a $(location :f) $(location //a:b)";
-            let names = match cmd.locations() {
-                [first, second] => is(first.as_bytes(), b":f") && is(second.as_bytes(), b"//a:b"),
-                _ => false,
-            };
-            names && srcs.as_slice().is_empty() && is(out.as_bytes(), b"p") && is(cmd.text(), text)
+/// Whether the command has its text and its two locations.
+fn is_command(cmd: &Command) -> bool {
+    match cmd.locations() {
+        [first, second] => {
+            first.as_bytes() == b":f".as_slice()
+                && second.as_bytes() == b"//a:b".as_slice()
+                && cmd.text() == b"a $(location :f) $(location //a:b)".as_slice()
         }
         _ => false,
     }
 }
 
+fn generates(file: &File) -> bool {
+    match action(file, b"g") {
+        Some(Action::Genrule { srcs, out, cmd }) => {
+            srcs.as_slice().is_empty() && out.as_bytes() == b"p".as_slice() && is_command(cmd)
+        }
+        _ => false,
+    }
+}
+
+fn stamps(file: &File) -> bool {
+    match action(file, b"s") {
+        Some(Action::StampFile { out }) => out.as_bytes() == b"s".as_slice(),
+        _ => false,
+    }
+}
+
 fn are(texts: &[Text], wanted: &[&[u8]]) -> bool {
-    texts.len() == wanted.len() && texts.iter().zip(wanted).all(|(x, y)| x.as_bytes() == *y)
+    if texts.len() != wanted.len() {
+        return false;
+    }
+    for (text, bytes) in texts.iter().zip(wanted) {
+        if text.as_bytes() != *bytes {
+            return false;
+        }
+    }
+    true
+}
+
+/// Whether a target has these labels and this visibility.
+fn is_marked(file: &File, name: &[u8], labels: &[&[u8]], visibility: &[&[u8]]) -> bool {
+    match file.target(name) {
+        Some(target) => are(target.labels(), labels) && are(target.visibility(), visibility),
+        None => false,
+    }
 }
 
 #[test]
-fn targets_of_five_rules(rt: HostRuntime) {
-    let file = file_of(&rt, rt.alloc(), FIVE);
-    assert!(rt; exports(target(&rt, &file, b"f"), b"f", b"o"));
-    let group = target(&rt, &file, b"x");
-    assert!(rt; groups(group));
-    assert!(rt; are(group.labels(), &[b"l", b""]));
-    assert!(rt; are(group.visibility(), &[b"PUBLIC"]));
-    assert!(rt; generates(target(&rt, &file, b"g")));
-    let stamp = target(&rt, &file, b"s");
-    assert!(rt; stamp.labels().is_empty() && stamp.visibility().is_empty());
-    assert!(rt; matches!(stamp.action(), Action::StampFile { out } if is(out.as_bytes(), b"s")));
+fn targets_of_five_rules(rt: HostRuntime) -> Result<(), Fail> {
+    let file = read(rt.alloc(), FIVE)?;
+    assert!(rt; exports(&file, b"f", b"f", b"o"));
+    assert!(rt; groups(&file) && is_marked(&file, b"x", &[b"l", b""], &[b"PUBLIC"]));
+    assert!(rt; generates(&file));
+    assert!(rt; stamps(&file) && is_marked(&file, b"s", &[], &[]));
+    Ok(())
 }
