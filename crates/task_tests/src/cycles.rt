@@ -7,52 +7,66 @@ use std::test::Fail;
 use task_share::{Asker, Table};
 
 /// Lets the task of one key wait for another.
-fn wait(alloc: Global, table: &mut Table<u32, bool>, asker: u32, key: u32) -> Result<(), NoMemory> {
+fn wait(alloc: Global, table: &mut Table<u32, u64>, asker: u32, key: u32) -> Result<(), NoMemory> {
     let key = Arc::new(alloc, key)?;
-    let asker = Arc::new(alloc, asker)?;
-    table.join(&key, Asker::Task(asker))
+    let asker = Asker::Task(Arc::new(alloc, asker)?);
+    table.join(&key, asker)
 }
 
-/// The cycle that a wait would close.
-fn cycle(
-    alloc: Global,
-    table: &Table<u32, bool>,
-    from: u32,
-    to: u32,
-) -> Result<Option<Vec<u32>>, NoMemory> {
-    let from = Arc::new(alloc, from)?;
-    let to = Arc::new(alloc, to)?;
-    let Some(path) = would_close(alloc, table, &from, &to)? else {
-        return Ok(None);
-    };
-    let mut keys = Vec::new(alloc);
-    for key in path.keys() {
-        keys.push(**key)?;
+/// A table in which these tasks wait for these keys.
+fn waiting(alloc: Global, waits: &[(u32, u32)]) -> Result<Table<u32, u64>, NoMemory> {
+    let mut table = Table::new(alloc);
+    for (asker, key) in waits {
+        wait(alloc, &mut table, *asker, *key)?;
     }
-    Ok(Some(keys))
+    Ok(table)
 }
+
+fn are(found: &[Arc<u32>], keys: &[u32]) -> bool {
+    if found.len() != keys.len() {
+        return false;
+    }
+    for i in 0..keys.len() {
+        if *found[i] != keys[i] {
+            return false;
+        }
+    }
+    true
+}
+
+/// A wait, and the cycle that it would close, which has no keys where there is none.
+type Row = (u32, u32, &'static [u32]);
+
+/// Whether the wait would close this cycle.
+fn closes(alloc: Global, table: &Table<u32, u64>, row: &Row) -> Result<bool, NoMemory> {
+    let from = Arc::new(alloc, row.0)?;
+    let to = Arc::new(alloc, row.1)?;
+    Ok(match would_close(alloc, table, &from, &to)? {
+        Some(path) => !row.2.is_empty() && are(path.keys(), row.2),
+        None => row.2.is_empty(),
+    })
+}
+
+/// 1 waits for 2, which waits for 3.
+const CHAIN: [Row; 3] = [(3, 1, &[3, 1, 2]), (1, 3, &[]), (2, 2, &[2])];
 
 #[test]
 fn a_wait_closes_a_cycle_where_waits_lead_back(rt: HostRuntime) -> Result<(), Fail> {
-    let alloc = rt.alloc();
-    let mut table = Table::new(alloc);
-    wait(alloc, &mut table, 1, 2)?;
-    wait(alloc, &mut table, 2, 3)?;
-    assert_eq!(rt; cycle(alloc, &table, 3, 1)?, Some(vec![in alloc; 3, 1, 2]?));
-    assert_eq!(rt; cycle(alloc, &table, 1, 3)?, None);
-    assert_eq!(rt; cycle(alloc, &table, 2, 2)?, Some(vec![in alloc; 2]?));
+    let table = waiting(rt.alloc(), &[(1, 2), (2, 3)])?;
+    for row in &CHAIN {
+        assert!(rt; closes(rt.alloc(), &table, row)?);
+    }
     Ok(())
 }
 
+/// Both 1 and 2 wait for 4 first, which waits for none.
+const BRANCHES: [Row; 2] = [(3, 1, &[3, 1, 2]), (5, 1, &[])];
+
 #[test]
 fn a_second_branch_is_searched(rt: HostRuntime) -> Result<(), Fail> {
-    let alloc = rt.alloc();
-    let mut table = Table::new(alloc);
-    wait(alloc, &mut table, 1, 4)?;
-    wait(alloc, &mut table, 1, 2)?;
-    wait(alloc, &mut table, 2, 4)?;
-    wait(alloc, &mut table, 2, 3)?;
-    assert_eq!(rt; cycle(alloc, &table, 3, 1)?, Some(vec![in alloc; 3, 1, 2]?));
-    assert_eq!(rt; cycle(alloc, &table, 5, 1)?, None);
+    let table = waiting(rt.alloc(), &[(1, 4), (1, 2), (2, 4), (2, 3)])?;
+    for row in &BRANCHES {
+        assert!(rt; closes(rt.alloc(), &table, row)?);
+    }
     Ok(())
 }

@@ -25,47 +25,98 @@ fn shared(alloc: Global, one: &Arc<u32>, two: &Arc<u32>) -> Result<Table<u32, u6
     Ok(table)
 }
 
-/// The next task that is dropped, with its key.
-fn next(table: &mut Table<u32, u64>) -> Option<(u32, u64)> {
-    let (key, task) = table.next_unasked()?;
-    Some((*key, task))
+/// A table with its two keys.
+#[derive(Drop)]
+struct Tasks {
+    one: Arc<u32>,
+    two: Arc<u32>,
+    table: Table<u32, u64>,
+}
+
+/// What `shared` makes.
+fn shared_tasks(alloc: Global) -> Result<Tasks, NoMemory> {
+    let one = Arc::new(alloc, 1)?;
+    let two = Arc::new(alloc, 2)?;
+    let table = shared(alloc, &one, &two)?;
+    Ok(Tasks { one, two, table })
+}
+
+impl Tasks {
+    /// The next task that is dropped, with its key.
+    fn next(&mut self) -> Option<(u32, u64)> {
+        match self.table.next_unasked() {
+            Some((key, task)) => Some((*key, task)),
+            None => None,
+        }
+    }
+
+    /// The next task that is dropped once a promise has left key 1.
+    fn next_without(&mut self, promise: u64) -> Option<(u32, u64)> {
+        let asker = Asker::Promise(promise);
+        self.table.leave(&self.one, &asker);
+        self.next()
+    }
+
+    /// Whether the task of key 1 is this one.
+    fn has(&self, task: u64) -> bool {
+        self.table.task(&self.one) == Some(&task)
+    }
+
+    /// Notes that the task of key 1 has ended; whether it is still there, and neither runs nor waits.
+    fn end(&mut self) -> bool {
+        self.table.ended(&self.one);
+        self.has(10) && !self.table.is_live(&self.one) && self.table.waits(&self.one).is_empty()
+    }
+
+    /// Makes a task of key 1 and changes it to another; whether it was made.
+    fn make_anew(&mut self, task: u64, other: u64) -> Result<bool, NoMemory> {
+        let made = make(&mut self.table, &self.one, task)?;
+        if let Some(task) = self.table.task_mut(&self.one) {
+            *task = other;
+        }
+        Ok(made)
+    }
+
+    /// Whether just these promises ask for key 1.
+    fn is_asked_by(&self, promises: &[u64]) -> bool {
+        self.table.askers(&self.one).promises == promises
+    }
+
+    /// How many tasks ask for key 2, and how many keys key 1 waits for.
+    fn counts(&self) -> (usize, usize) {
+        let askers = self.table.askers(&self.two).tasks.len();
+        (askers, self.table.waits(&self.one).len())
+    }
+
+    /// Takes a task away that asks for key 2.
+    fn take_asker(&mut self) -> Option<u32> {
+        match self.table.take_asker(&self.two) {
+            Some(key) => Some(*key),
+            None => None,
+        }
+    }
 }
 
 #[test]
 fn a_shared_task_stays_until_its_last_asker_leaves(rt: HostRuntime) -> Result<(), Fail> {
-    let one = Arc::new(rt.alloc(), 1)?;
-    let two = Arc::new(rt.alloc(), 2)?;
-    let mut table = shared(rt.alloc(), &one, &two)?;
-    table.leave(&one, &Asker::Promise(8));
-    assert_eq!(rt; next(&mut table), None);
-    table.leave(&one, &Asker::Promise(9));
-    assert_eq!(rt; next(&mut table), Some((1, 10)));
-    assert_eq!(rt; next(&mut table), Some((2, 20)));
-    assert_eq!(rt; next(&mut table), None);
+    let mut tasks = shared_tasks(rt.alloc())?;
+    assert!(rt; tasks.next_without(8) == None);
+    assert!(rt; tasks.next_without(9) == Some((1, 10)));
+    assert!(rt; tasks.next() == Some((2, 20)) && tasks.next() == None);
     Ok(())
 }
 
 #[test]
 fn a_task_made_anew_keeps_its_askers(rt: HostRuntime) -> Result<(), Fail> {
-    let one = Arc::new(rt.alloc(), 1)?;
-    let two = Arc::new(rt.alloc(), 2)?;
-    let mut table = shared(rt.alloc(), &one, &two)?;
-    table.ended(&one);
-    assert_eq!(rt; table.task(&one).copied(), Some(10));
-    assert_eq!(rt; table.is_live(&one), false);
-    assert_eq!(rt; table.waits(&one).len(), 0);
-    assert_eq!(rt; make(&mut table, &one, 30)?, true);
-    if let Some(task) = table.task_mut(&one) {
-        *task = 31;
-    }
-    assert_eq!(rt; table.task(&one).copied(), Some(31));
-    assert_eq!(rt; table.askers(&one).promises, [8, 9].as_slice());
-    assert_eq!(rt; next(&mut table), Some((2, 20)));
-    assert_eq!(rt; next(&mut table), None);
+    let mut tasks = shared_tasks(rt.alloc())?;
+    assert!(rt; tasks.end());
+    assert!(rt; tasks.make_anew(30, 31)?);
+    assert!(rt; tasks.has(31) && tasks.is_asked_by(&[8, 9]));
+    assert!(rt; tasks.next() == Some((2, 20)) && tasks.next() == None);
     Ok(())
 }
 
-/// What `shared` makes, in room made ahead.
+/// The task 10 of key 1, which asks for 2, and the promise 8 for 1, in room made ahead.
 fn reserved(alloc: Global, one: &Arc<u32>, two: &Arc<u32>) -> Result<Table<u32, u64>, NoMemory> {
     let mut table = Table::new(alloc);
     table.reserve(one)?;
@@ -79,17 +130,20 @@ fn reserved(alloc: Global, one: &Arc<u32>, two: &Arc<u32>) -> Result<Table<u32, 
     Ok(table)
 }
 
+/// What `reserved` makes.
+fn reserved_tasks(alloc: Global) -> Result<Tasks, NoMemory> {
+    let one = Arc::new(alloc, 1)?;
+    let two = Arc::new(alloc, 2)?;
+    let table = reserved(alloc, &one, &two)?;
+    Ok(Tasks { one, two, table })
+}
+
 #[test]
 fn room_made_ahead_is_filled(rt: HostRuntime) -> Result<(), Fail> {
-    let one = Arc::new(rt.alloc(), 1)?;
-    let two = Arc::new(rt.alloc(), 2)?;
-    let mut table = reserved(rt.alloc(), &one, &two)?;
-    assert_eq!(rt; table.task(&one).copied(), Some(10));
-    assert_eq!(rt; table.askers(&one).promises, [8].as_slice());
-    assert_eq!(rt; table.askers(&two).tasks.len(), 1);
-    assert_eq!(rt; table.waits(&one).len(), 1);
-    assert_eq!(rt; table.take_asker(&two).map(|key| *key), Some(1));
-    assert_eq!(rt; table.take_asker(&two).map(|key| *key), None);
-    assert_eq!(rt; table.waits(&one).len(), 0);
+    let mut tasks = reserved_tasks(rt.alloc())?;
+    assert!(rt; tasks.has(10) && tasks.is_asked_by(&[8]));
+    assert!(rt; tasks.counts() == (1, 1));
+    assert!(rt; tasks.take_asker() == Some(1) && tasks.take_asker() == None);
+    assert!(rt; tasks.counts() == (0, 0));
     Ok(())
 }
