@@ -133,13 +133,25 @@ impl<U: Universe> Assignment<U> {
         requires { length answers.now ≡ length batch.now }
         ensures { IfOk result (λ a. a ≡ answered_more self.now batch.now answers.now) }
     {
-        let answered = match &self.answered {
-            Some(trace) => trace.extended(self.alloc, batch, answers)?,
-            None => Trace::new(self.alloc).extended(self.alloc, batch, answers)?,
-        };
+        let answered = Arc::new(self.alloc, self.extended_trace(batch, answers)?)?;
         let mut next = self.try_clone()?;
-        next.answered = Some(Arc::new(self.alloc, answered)?);
+        next.answered = Some(answered);
         Ok(next)
+    }
+
+    /// The trace of the answered batches, with one more.
+    fn extended_trace(
+        &self,
+        batch: &Batch<U::Key>,
+        answers: &Answers<U::Value>,
+    ) -> Result<Trace<U>, NoMemory>
+        requires { length answers.now ≡ length batch.now }
+        ensures { IfOk result (λ t. t ≡ (answered_more self.now batch.now answers.now).answered) }
+    {
+        match &self.answered {
+            Some(trace) => trace.extended(self.alloc, batch, answers),
+            None => Trace::new(self.alloc).extended(self.alloc, batch, answers),
+        }
     }
 
     /// Whether the two are the same: their names, their answered batches, whether they compute or check, and of a check the value,
