@@ -1,6 +1,5 @@
 -- The texts of actions. Each line ends in a line feed.
 use Rattle.std.specs.Prelude.{◌≡◌, ℕ, Bool, true, false, List, [], ◌∷◌, ◌++◌, map, codes, decimal, Option, Some, None, Result, Ok, Err}
-use Rattle.std.specs.declared.vec.Vec.{Vec}
 use Rattle.hex.specs.Hex.{encode_lower}
 use Rattle.sha2.specs.Sha256.{sha256}
 use Rattle.target_file.specs.Strings.{locations}
@@ -122,10 +121,10 @@ abbrev pub behind : List ℕ → Result (List ℕ) Fault → Result (List ℕ) F
 behind text (Ok lines) = Ok (text ++ lines)
 behind text (Err e) = Err e
 
--- the bytes that are there, or the fault
-abbrev pub items_in : {A : Type 0} → Result (Vec ℕ A) Fault → Result (List ℕ) Fault
-items_in (Ok v) = Ok v.items
-items_in (Err e) = Err e
+-- the text, or the fault that was told
+abbrev pub text_or : List ℕ → Result (Unit {0}) Fault → Result (List ℕ) Fault
+text_or text (Ok u) = Ok text
+text_or text (Err e) = Err e
 
 -- the text has gained the line, or the fault that stands in its place was told
 abbrev pub IsAppended : List ℕ → List ℕ → Result (Unit {0}) Fault → Result (List ℕ) Fault → Type 0

@@ -1,14 +1,14 @@
 //! The texts of actions, and their digests.
-ghost use Rattle.std.specs.Prelude.{◌≡◌, ◌++◌, map, decimal, IfOk, OnOk};
+ghost use Rattle.std.specs.Prelude.{◌≡◌, ◌++◌, map, decimal, Some, IfOk, OnOk};
 ghost use Rattle.std.specs.Arc.{arc_value};
-ghost use Rattle.action_digest.specs.Actions.{hex_digest, line, digest_line, line_by, lines_by, head_of, is_stamp, names_sources, action_of, behind, items_in, IsAppended};
+ghost use Rattle.action_digest.specs.Actions.{hex_digest, line, digest_line, file_line, source_in, target_line, digest_in, line_by, lines_by, head_of, is_stamp, names_sources, action_of, behind, text_or, IsAppended};
 ghost use Rattle.hex.specs.Hex.{encode_lower};
 ghost use Rattle.sha2.specs.Sha256.{sha256};
 
 use crate::fault::Fault;
 use crate::key::Key;
 use crate::value::{ActionText, Value};
-use buck_label::Text;
+use buck_label::{Label, Path, Text};
 use dice_key::{NoMemory, Version};
 use itoa::Buffer;
 use sha2::{Digest, Sha256};
@@ -38,8 +38,8 @@ pub(crate) fn action_of(
 {
     let mut text = Vec::with_capacity(alloc, ROOM)?;
     push_head(&mut text, version, action)?;
-    match with_lines(text, names_sources(action), keys, values)? {
-        Ok(text) => Ok(Ok(ActionText {
+    match push_answers(&mut text, names_sources(action), keys, values)? {
+        Ok(()) => Ok(Ok(ActionText {
             text: Text::new(alloc, text)?,
             holds_version: is_stamp(action),
         })),
@@ -66,27 +66,29 @@ fn push_head(text: &mut Vec<u8>, version: Version, action: &Action) -> Result<()
     ensures { OnOk result (text.new.items ≡ text.old.items ++ head_of version action.now) }
 {
     match action {
-        Action::ExportFile { out, .. } => {
-            push_line(text, b"export_file")?;
-            push_line(text, out.as_bytes())
-        }
+        Action::ExportFile { out, .. } => push_rule(text, b"export_file", out.as_bytes()),
         Action::Filegroup { .. } => push_line(text, b"filegroup"),
         Action::WriteFile { content, out } => {
-            push_line(text, b"write_file")?;
-            push_line(text, out.as_bytes())?;
+            push_rule(text, b"write_file", out.as_bytes())?;
             push_digest(text, content.as_bytes())
         }
         Action::Genrule { out, cmd, .. } => {
-            push_line(text, b"genrule")?;
-            push_line(text, out.as_bytes())?;
+            push_rule(text, b"genrule", out.as_bytes())?;
             push_digest(text, cmd.text())
         }
         Action::StampFile { out } => {
-            push_line(text, b"stamp_file")?;
-            push_line(text, out.as_bytes())?;
+            push_rule(text, b"stamp_file", out.as_bytes())?;
             push_number(text, version)
         }
     }
+}
+
+/// Appends the lines of a rule and of its out.
+fn push_rule(text: &mut Vec<u8>, rule: &[u8], out: &[u8]) -> Result<(), NoMemory>
+    ensures { OnOk result (text.new.items ≡ text.old.items ++ line rule.now ++ line out.now) }
+{
+    push_line(text, rule)?;
+    push_line(text, out)
 }
 
 /// Appends the line of a number in decimal.
@@ -126,6 +128,42 @@ fn push_named(text: &mut Vec<u8>, named: bool, name: &[u8], digest: &[u8]) -> Re
     push_line(text, digest.as_bytes())
 }
 
+/// Appends the line of a source by its answer, or gives the fault that it has no file.
+fn push_source(
+    text: &mut Vec<u8>,
+    named: bool,
+    path: &Path,
+    value: &Value,
+) -> Result<Result<(), Fault>, NoMemory>
+    ensures { IfOk result (λ r. IsAppended text.old.items text.new.items r (file_line named path.now (source_in (Some value.now)))) }
+{
+    let Value::Source(Some(bytes)) = value else {
+        return Ok(Err(Fault::NoSource(path.try_clone()?)));
+    };
+    let digest = digest_of(bytes.as_bytes());
+    push_named(text, named, path.as_bytes(), digest.as_slice())?;
+    Ok(Ok(()))
+}
+
+/// Appends the line of a target by its answer, or gives the fault that the answer is.
+fn push_target(
+    text: &mut Vec<u8>,
+    named: bool,
+    label: &Label,
+    value: &Value,
+) -> Result<Result<(), Fault>, NoMemory>
+    ensures { IfOk result (λ r. IsAppended text.old.items text.new.items r (target_line named label.now (digest_in (Some value.now)))) }
+{
+    match value {
+        Value::Digest(Ok(digest)) => {
+            push_named(text, named, label.as_bytes(), digest.as_slice())?;
+            Ok(Ok(()))
+        }
+        Value::Digest(Err(fault)) => Ok(Err(fault.try_clone()?)),
+        _ => Ok(Err(Fault::nothing(*text.allocator())?)),
+    }
+}
+
 /// Appends the line of a key by its answer, or gives the fault that the answer is.
 fn push_answer(
     text: &mut Vec<u8>,
@@ -135,39 +173,26 @@ fn push_answer(
 ) -> Result<Result<(), Fault>, NoMemory>
     ensures { IfOk result (λ r. IsAppended text.old.items text.new.items r (line_by named key.now value.now)) }
 {
-    match (key, value) {
-        (Key::Source(path), Value::Source(Some(bytes))) => {
-            push_named(
-                text,
-                named,
-                path.as_bytes(),
-                digest_of(bytes.as_bytes()).as_slice(),
-            )?;
-        }
-        (Key::Source(path), _) => return Ok(Err(Fault::NoSource(path.try_clone()?))),
-        (Key::Digest(label), Value::Digest(Ok(digest))) => {
-            push_named(text, named, label.as_bytes(), digest.as_slice())?;
-        }
-        (Key::Digest(_), Value::Digest(Err(fault))) => return Ok(Err(fault.try_clone()?)),
-        (Key::Digest(_), _) => return Ok(Err(Fault::nothing(*text.allocator())?)),
-        _ => {}
+    match key {
+        Key::Source(path) => push_source(text, named, path, value),
+        Key::Digest(label) => push_target(text, named, label, value),
+        _ => Ok(Ok(())),
     }
-    Ok(Ok(()))
 }
 
-/// The text with the lines of these keys by their answers, in order, or the first fault.
-fn with_lines(
-    mut text: Vec<u8>,
+/// Appends the lines of these keys by their answers, in order, or gives the first fault.
+fn push_answers(
+    text: &mut Vec<u8>,
     named: bool,
     keys: &[Arc<Key>],
     values: &[Arc<Value>],
-) -> Result<Result<Vec<u8>, Fault>, NoMemory>
-    ensures { IfOk result (λ r. items_in r ≡ behind text.items (lines_by named (map arc_value keys.now) (map arc_value values.now))) }
+) -> Result<Result<(), Fault>, NoMemory>
+    ensures { IfOk result (λ r. text_or text.new.items r ≡ behind text.old.items (lines_by named (map arc_value keys.now) (map arc_value values.now))) }
 {
     for (key, value) in keys.iter().zip(values) {
-        if let Err(fault) = push_answer(&mut text, named, key, value)? {
+        if let Err(fault) = push_answer(text, named, key, value)? {
             return Ok(Err(fault));
         }
     }
-    Ok(Ok(text))
+    Ok(Ok(()))
 }

@@ -1,7 +1,7 @@
 use Rattle.std.proofs.Common.{◌≡◌, map, drop, length}
 use Rattle.std.specs.Arc.{arc_value}
 use Rattle.action_digest.specs.Actions.{behind, lines_by}
-use Rattle.action_digest.proofs.action.with_lines.Given as goal
+use Rattle.action_digest.proofs.action.push_answers.Given as goal
 
 abbrev pub invariant-loop-key : goal.invariant-loop-key
 invariant-loop-key l =
