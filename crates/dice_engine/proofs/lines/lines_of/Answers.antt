@@ -4,6 +4,9 @@ use Rattle.dice_engine.specs.Lines.{AreLines}
 use Rattle.dice_engine.proofs.Listing.{zipped_more}
 use Rattle.dice_engine.proofs.lines.lines_of.Goals as goal
 
+pub loop-index-init : goal.loop-index-init
+loop-index-init g c = search rules
+
 pub loop-index-preserved : goal.loop-index-preserved
 loop-index-preserved g c =
     let m = g.U.Universe.meaning in

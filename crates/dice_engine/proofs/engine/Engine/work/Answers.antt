@@ -9,11 +9,23 @@ use Rattle.dice_engine.proofs.engine.Engine.work.Goals as goal
 pub returns-in_default-clause-works : goal.returns-in_default-clause-works
 returns-in_default-clause-works g c = works rests (turn_so g.U.Key.PartialEq.eq g.U.Universe.meaning _ _ _ _ c.take_job.ensures.turn (λ found own work d. d.0))
 
+pub returns-in_default-clause-did : goal.returns-in_default-clause-did
+returns-in_default-clause-did g c = λ e. cc
+
+pub returns-in_default-clause-job : goal.returns-in_default-clause-job
+returns-in_default-clause-job g c = λ e. cc
+
 pub returns-clause-works : goal.returns-clause-works
 returns-clause-works g c = works (works rests (turn_so g.U.Key.PartialEq.eq g.U.Universe.meaning _ _ _ _ c.take_job.ensures.turn (λ found own work d. d.0))) c.take_up.ensures.turn
 
 pub returns-clause-did : goal.returns-clause-did
 returns-clause-did g c = λ e. (let a = c.take_job.ensures.turn.turns in let b = c.take_up.ensures.turn.turns in omega arith)
+
+pub returns-clause-idle : goal.returns-clause-idle
+returns-clause-idle g c = λ e. cc
+
+pub returns-clause-none : goal.returns-clause-none
+returns-clause-none g c = λ e. cc
 
 pub returns-clause-job : goal.returns-clause-job
 returns-clause-job g c = λ e.

@@ -1,4 +1,4 @@
-use Rattle.std.proofs.Common.{subst}
+use Rattle.std.proofs.Common.{subst, rules}
 use Rattle.std.specs.Prelude.{OnErr}
 use Rattle.dice_core.specs.Cores.{CoreSeen, events_of}
 use Rattle.dice_engine.specs.Turns.{Adds}
@@ -12,6 +12,9 @@ returns-in_err-opened-clause-err g c =
     let m = g.U.Universe.meaning in
     subst (λ (s : CoreSeen g.row.U-Key.Denot g.row.U-Value.Denot). OnErr c.from_residual.result (Adds eq m c.args.by (events_of s) (events_of c.open-opened.new.self) AddsNothing)) c.deref_mut-core.ensures.value
     (always_err c.from_residual.result _ (nothing eq m _ _ c.standing-newest.ensures.lawful c.args.by c.in_err-opened.ensures.err.hands.events))
+
+pub returns-clause-named : goal.returns-clause-named
+returns-clause-named g c = search rules
 
 pub returns-clause-ok : goal.returns-clause-ok
 returns-clause-ok g c =
