@@ -1,7 +1,7 @@
 //! What a commit reaches.
-ghost use Rattle.std.specs.Prelude.{◌≡◌, ◌++◌, List, map, IfOk, OnOk};
+ghost use Rattle.std.specs.Prelude.{◌≡◌, ◌++◌, ◌∷◌, List, [], map, filter, IfOk, OnOk};
 ghost use Rattle.std.specs.Arc.{arc_value};
-ghost use Rattle.versioned_graph.specs.Edges.{CommitReaches};
+ghost use Rattle.versioned_graph.specs.Edges.{CommitReaches, is_edge};
 ghost use Rattle.versioned_graph.specs.Users.{IsIndexed, recorded_of};
 ghost use Rattle.lists.specs.Lists.{Has};
 
@@ -62,9 +62,23 @@ fn push_users<U: Universe>(
         return Ok(());
     };
     for user in recorded.iter() {
-        if store.is_edge(key, user) {
-            todo.push(Arc::try_clone(user)?)?;
-        }
+        push_user(store, key, user, todo)?;
     }
+    Ok(())
+}
+
+/// Adds the second key, if an edge to it from the first one is recorded.
+fn push_user<U: Universe>(
+    store: &Store<U>,
+    key: &Arc<U::Key>,
+    user: &Arc<U::Key>,
+    todo: &mut Vec<Arc<U::Key>>,
+) -> Result<(), NoMemory>
+    ensures { OnOk result (map arc_value todo.new.items ≡ map arc_value todo.old.items ++ filter (is_edge U.Key.eq store.now (arc_value key.now)) (arc_value user.now ∷ [])) }
+{
+    if !store.is_edge(key, user) {
+        return Ok(());
+    }
+    todo.push(Arc::try_clone(user)?)?;
     Ok(())
 }
