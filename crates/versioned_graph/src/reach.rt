@@ -25,17 +25,35 @@ pub(crate) fn reached<U: Universe>(
     ensures all { IfOk result (λ r. (q : U.Key) → CommitReaches U.Key.eq store.now (map arc_value changed.now) q → Has (map arc_value r.items) q) }
     ensures only { IfOk result (λ r. (q : U.Key) → Has (map arc_value r.items) q → CommitReaches U.Key.eq store.now (map arc_value changed.now) q) }
 {
-    laws_of::<U>();
     let mut todo = copies(alloc, changed)?;
     let mut seen = HashSet::new(alloc);
     let mut reached = Vec::new(alloc);
+    walk(store, users, &mut todo, &mut seen, &mut reached)?;
+    Ok(reached)
+}
+
+/// Adds all keys to which chains of recorded edges lead from those that are to do, and those themselves.
+fn walk<U: Universe>(
+    store: &Store<U>,
+    users: &Users<U>,
+    todo: &mut Vec<Arc<U::Key>>,
+    seen: &mut HashSet<Arc<U::Key>>,
+    reached: &mut Vec<Arc<U::Key>>,
+) -> Result<(), NoMemory>
+    requires indexed { IsIndexed U.Key.eq store.now users.now }
+    requires unseen { seen.old.keys ≡ [] }
+    requires none { reached.old.items ≡ [] }
+    ensures all { OnOk result ((q : U.Key) → CommitReaches U.Key.eq store.now (map arc_value todo.old.items) q → Has (map arc_value reached.new.items) q) }
+    ensures only { OnOk result ((q : U.Key) → Has (map arc_value reached.new.items) q → CommitReaches U.Key.eq store.now (map arc_value todo.old.items) q) }
+{
+    laws_of::<U>();
     while let Some(key) = todo.pop() {
         if seen.insert(Arc::try_clone(&key)?)? {
-            push_users(store, users, &key, &mut todo)?;
+            push_users(store, users, &key, todo)?;
             reached.push(key)?;
         }
     }
-    Ok(reached)
+    Ok(())
 }
 
 /// The same keys again, shared.
