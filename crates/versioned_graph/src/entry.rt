@@ -53,7 +53,8 @@ impl<U: Universe> Entry<U> {
     pub(crate) fn look(&self, universe: &U, version: u64) -> Found<'_, U>
         ensures { look_of result ≡ look U.meaning.is_transient (Some (kept_of self.now)) version }
     {
-        if self.ranges.contains(version) {
+        let known = self.ranges.contains(version);
+        if known {
             Found::Match(&self.value, self.version)
         } else if universe.is_transient(&self.value) {
             Found::Compute(Why::Transient(self.version))
