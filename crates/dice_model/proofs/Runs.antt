@@ -3,6 +3,7 @@ use Rattle.std.proofs.Common.{◌≡◌, ◌<◌, ◌-◌, ℕ, zero, suc, List,
 use Rattle.std.specs.Arc.{arc_value}
 use Rattle.std.specs.Option.{option_map}
 use Rattle.std.specs.declared.sync.Arc.{Arc}
+use Rattle.std.proofs.lemmas.List.{append-nil}
 use Rattle.std.proofs.lemmas.Option.{same_Some}
 use Rattle.dice_key.specs.Meaning.{Meaning, Answered, Running, Step, Asks, Ends, next_of, resumed, Takes, answered_with}
 use Rattle.dice_key.specs.Lawful.{IsStep}
@@ -30,6 +31,18 @@ pub record Stands {K V : Type 0} (m : Meaning K V) (f : K → Option V) (k : K) 
   pub version : r.version ≡ v
   pub says : IsStep s (next_of m r)
   pub rest : reached f (λ A. m.next k A v) n r.answered ≡ o
+
+module _ {K V : Type 0} (f : K → Option V) where
+  -- the values of keys one after another: none is asked yet; all have one
+  pub answers_begin : (ys : List V) (ks js : List K) → ys ≡ [] → ks ≡ js → option_map (λ zs. ys ++ zs) (answers f ks) ≡ answers f js
+  answers_begin ys ks js e h = ap (λ xs. option_map (λ zs. xs ++ zs) (answers f ks)) e ∙ (itself (answers f ks) ∙ ap (answers f) h)
+    where
+      itself : (o : Option (List V)) → option_map (λ zs. [] ++ zs) o ≡ o
+      itself None = refl
+      itself (Some zs) = refl
+
+  pub answers_done : (ys : List V) (ks : List K) (o : Option (List V)) → ks ≡ [] → option_map (λ zs. ys ++ zs) (answers f ks) ≡ o → Some ys ≡ o
+  answers_done ys ks o e h = sym (ap (λ j. option_map (λ zs. ys ++ zs) (answers f j)) e ∙ ap Some (append-nil ys)) ∙ h
 
 module _ {K V : Type 0} (f : K → Option V) (next : List (Answered K V) → Step K V) where
   pub reached_end : (n : ℕ) (A : List (Answered K V)) (x : V) → next A ≡ Ends x → reached f next n A ≡ Some x

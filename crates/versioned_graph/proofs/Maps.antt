@@ -1,5 +1,5 @@
 -- The entries, read through the map that holds them.
-use Rattle.std.proofs.Common.{◌≡◌, ◌<◌, ◌||◌, ◌&&◌, ℕ, nat_le, leb-true, arith, Bool, true, false, cond, List, [], ◌∷◌, map, Option, Some, None, refl, ap, sym, ◌∙◌}
+use Rattle.std.proofs.Common.{◌≡◌, ◌<◌, ◌||◌, ◌&&◌, ℕ, nat_le, leb-true, not, arith, Bool, true, false, cond, List, [], ◌∷◌, map, Option, Some, None, refl, ap, sym, ◌∙◌}
 use Rattle.std.specs.Map.{lookup}
 use Rattle.std.specs.Arc.{arc_value, arc_with_value}
 use Rattle.std.specs.Borrow.{Bor}
@@ -10,7 +10,7 @@ use Rattle.std.specs.List.{list_any}
 use Rattle.dice_key.specs.Meaning.{Meaning, Answered}
 use Rattle.version_ranges.specs.declared.half_open.Range.{Range}
 use Rattle.version_ranges.specs.Members.{contains}
-use Rattle.versioned_graph.specs.Entries.{Stored, Kept, kept_of, named, joined, entry_at}
+use Rattle.versioned_graph.specs.Entries.{Stored, Kept, kept_of, named, joined, entry_at, written, goes_in}
 use Rattle.versioned_graph.specs.Edges.{deps_of, is_edge}
 
 pub cond_map : {A B : Type 0} (f : A → B) (b : Bool) (x : A) (o : Option A) → cond b (Some (f x)) (option_map f o) ≡ option_map f (cond b (Some x) o)
@@ -96,3 +96,17 @@ not_le a b h = by_test (nat_le a b) refl
     by_test : (r : Bool) → nat_le a b ≡ r → nat_le a b ≡ false
     by_test true e = absurd (let l = leb-true a b e in omega arith)
     by_test false e = e
+
+module _ {K V : Type 0} (m : Meaning K V) (veq : V → V → Bool) (e n : Kept K V) where
+  -- the new entry is joined with the one that is there; takes its place; or is let go
+  pub written_joined : (veq e.value n.value && not (m.is_transient e.value)) ≡ true → joined m veq e n ≡ written m veq (Some e) n
+  written_joined h = sym (ap (λ b. cond b (joined m veq e n) (cond (nat_le e.version n.version) n e)) h)
+
+  pub in_joined : (veq e.value n.value && not (m.is_transient e.value)) ≡ true → goes_in m veq (Some e) n ≡ true
+  in_joined h = ap (λ b. b || nat_le e.version n.version) h
+
+  pub written_left : (veq e.value n.value && not (m.is_transient e.value)) ≡ false → nat_le e.version n.version ≡ false → e ≡ written m veq (Some e) n
+  written_left h l = sym (ap (λ b. cond b (joined m veq e n) (cond (nat_le e.version n.version) n e)) h ∙ ap (λ b. cond b n e) l)
+
+  pub in_left : (veq e.value n.value && not (m.is_transient e.value)) ≡ false → nat_le e.version n.version ≡ false → goes_in m veq (Some e) n ≡ false
+  in_left h l = ap (λ b. b || nat_le e.version n.version) h ∙ l

@@ -52,6 +52,12 @@ module _ {K A B S : Type 0} (eq : K → K → Bool) where
       by_test true e = more q (subst (λ l. Has l q) (set-named k es ∙ ap (λ x. or_none (option_map keys_in x)) known) (subst (λ n. Has (users_of eq (map set_of es) n) q) (sym (same k j e)) h))
       by_test false e = h
 
+  -- what stands in another list
+  pub set-other : (k : K) (a : Arc K A) (es fs : List (Arc K A × HashSet (Arc K B) S)) (o : Option (HashSet (Arc K B) S))
+      → ((q : Arc K A) → lookup (λ y. eq (arc_value q) (arc_value y)) fs ≡ cond (eq k (arc_value q)) o (lookup (λ y. eq (arc_value q) (arc_value y)) es))
+      → (j q : K) → eq k j ≡ false → Has (users_of eq (map set_of es) j) q → Has (users_of eq (map set_of fs) j) q
+  set-other k a es fs o up j q n h = subst (λ l. Has l q) (sym (set-put k a es fs o up j ∙ ap (λ b. cond b (or_none (option_map keys_in o)) (users_of eq (map set_of es) j)) n)) h
+
   -- what stands in the list that is written
   pub set-has : (law : IsEquality eq) (k : K) (a : Arc K A) (es fs : List (Arc K A × HashSet (Arc K B) S)) (o : Option (HashSet (Arc K B) S))
       → ((q : Arc K A) → lookup (λ y. eq (arc_value q) (arc_value y)) fs ≡ cond (eq k (arc_value q)) o (lookup (λ y. eq (arc_value q) (arc_value y)) es))
@@ -71,6 +77,15 @@ module _ {K B : Type 0} (eq : K → K → Bool) (law : IsEquality eq) where
   -- and the key is there
   pub now_in : (old new : List (Arc K B)) (k : K) → ((q : K) → list_any (λ y. eq q (arc_value y)) new ≡ cond (eq k q) true (list_any (λ y. eq q (arc_value y)) old)) → Has (map arc_value new) k
   now_in old new k marks = any_has eq law (map arc_value new) k (any_map eq k new ∙ (marks k ∙ ap (λ b. cond b true (list_any (λ y. eq k (arc_value y)) old)) (law.itself k)))
+
+module _ {K : Type 0} (eq : K → K → Bool) (same : AreSame eq) where
+  -- what stands in the lists still does, where one that had none is written
+  pub all_stay : (k : K) (us vs : List (K × List K)) → users_of eq us k ≡ [] → ((j q : K) → eq k j ≡ false → Has (users_of eq us j) q → Has (users_of eq vs j) q) → (j q : K) → Has (users_of eq us j) q → Has (users_of eq vs j) q
+  all_stay k us vs none others j q h = by_test (eq k j) refl
+    where
+      by_test : (b : Bool) → eq k j ≡ b → Has (users_of eq vs j) q
+      by_test true e = absurd (subst (λ l. Has l q) none (subst (λ n. Has (users_of eq us n) q) (sym (same k j e)) h))
+      by_test false e = others j q e h
 
 -- what was found, or that there is none
 pub of_found : {K B S : Type 0} (r : Option (Bor (HashSet (Arc K B) S))) (ks : List K) → or_none (option_map keys_in (option_copied r)) ≡ ks → MatchOption r (ks ≡ []) (λ s. map arc_value s.now.keys ≡ ks)

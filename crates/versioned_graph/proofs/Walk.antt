@@ -1,5 +1,8 @@
 -- Steps of the walk along recorded edges.
-use Rattle.std.proofs.Common.{◌≡◌, ◌≤◌, ◌+◌, ◌⊎◌, inl, inr, suc, Bool, true, false, cond, List, [], ◌∷◌, ◌++◌, length, filter, Some, refl, sym, ap, ◌∙◌, subst, arith, ℕ}
+use Rattle.std.proofs.Common.{◌≡◌, ◌≤◌, ◌+◌, ◌⊎◌, inl, inr, suc, Bool, true, false, cond, List, [], ◌∷◌, ◌++◌, length, filter, Some, refl, sym, ap, ◌∙◌, subst, arith, ℕ, append_assoc, ◌<◌, map, drop, get_or}
+use Rattle.std.proofs.lemmas.List.{append-nil, map-append, at_drop_more}
+use Rattle.std.specs.Arc.{arc_value}
+use Rattle.std.specs.declared.sync.Arc.{Arc}
 use Rattle.std.specs.Map.{lookup}
 use Rattle.std.specs.List.{list_any}
 use Rattle.dice_key.specs.Lawful.{IsEquality}
@@ -9,6 +12,30 @@ use Rattle.versioned_graph.specs.Users.{or_none, users_of, IsIndexed, recorded_o
 use Rattle.dice_key.proofs.KeySets.{any_end, any_has}
 use Rattle.lists.proofs.Members.{filter_has, has_either, has_filter, has_left, has_right}
 use Rattle.lists.specs.Lists.{Has}
+
+-- a list goes on with one that passes the test, and stays as it is with one that does not
+pub filter_kept : {X : Type 0} (f : X → Bool) (x : X) (xs : List X) → f x ≡ true → xs ++ x ∷ [] ≡ xs ++ filter f (x ∷ [])
+filter_kept f x xs e = sym (ap (λ b. xs ++ cond b (x ∷ []) []) e)
+
+pub filter_left : {X : Type 0} (f : X → Bool) (x : X) (xs : List X) → f x ≡ false → xs ≡ xs ++ filter f (x ∷ [])
+filter_left f x xs e = sym (ap (λ b. xs ++ cond b (x ∷ []) []) e ∙ append-nil xs)
+
+-- what one more adds, and then the others
+pub filter_step : {X : Type 0} (f : X → Bool) (x : X) (xs ys : List X) → (ys ++ filter f (x ∷ [])) ++ filter f xs ≡ ys ++ filter f (x ∷ xs)
+filter_step f x xs ys = by_test (f x)
+  where
+    by_test : (b : Bool) → (ys ++ cond b (x ∷ []) []) ++ filter f xs ≡ ys ++ cond b (x ∷ filter f xs) (filter f xs)
+    by_test true = rw append_assoc
+    by_test false = rw append_assoc
+
+-- one key more is copied
+pub copied_more : {K A : Type 0} (cs ks : List (Arc K A)) (i : ℕ) (x k : Arc K A) → i < length ks → k ≡ get_or ks i k → arc_value x ≡ arc_value k → (all : List K)
+    → map arc_value cs ++ map arc_value (drop i ks) ≡ all → map arc_value (cs ++ x ∷ []) ++ map arc_value (drop (i + 1) ks) ≡ all
+copied_more {K} cs ks i x k l at e all h =
+    let rest : List K = map arc_value (drop (i + 1) ks) in
+    let moved : (map arc_value cs ++ arc_value x ∷ []) ++ rest ≡ map arc_value cs ++ arc_value x ∷ rest = rw append_assoc refl in
+    ap (λ l. l ++ rest) (map-append arc_value cs (x ∷ []))
+    ∙ (moved ∙ (ap (λ y. map arc_value cs ++ y ∷ rest) (e ∙ ap arc_value at) ∙ (ap (λ l. map arc_value cs ++ l) (sym (at_drop_more (map arc_value) ks i k l)) ∙ h)))
 
 filter_length : {X : Type 0} (f : X → Bool) (xs : List X) → length (filter f xs) ≤ length xs
 filter_length f [] = omega arith

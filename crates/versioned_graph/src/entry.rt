@@ -1,5 +1,5 @@
 //! What is kept of a key.
-ghost use Rattle.std.specs.Prelude.{◌≡◌, ℕ, Bool, true, false, ◌&&◌, ◌||◌, [], map, not, IfOk, MatchOption, Some, unwrap_or};
+ghost use Rattle.std.specs.Prelude.{◌≡◌, ℕ, Bool, true, false, ◌&&◌, ◌||◌, [], map, not, IfOk, OnOk, MatchOption, Some, unwrap_or};
 ghost use Rattle.std.specs.Arc.{arc_value};
 ghost use Rattle.std.specs.List.{list_any};
 ghost use Rattle.std.specs.Option.{option_map};
@@ -17,13 +17,25 @@ use version_ranges::Ranges;
 
 /// A value that was finished, the trace of its finish, the versions at which it is known to hold, and the greatest version at
 /// which it was finished or seen; and the keys from which an edge to its key is recorded.
-#[derive(Drop)]
 pub(crate) struct Entry<U: Universe> {
     pub(crate) value: Arc<U::Value>,
     pub(crate) trace: Arc<Trace<U>>,
     pub(crate) ranges: Ranges,
     pub(crate) version: u64,
     pub(crate) deps: HashSet<Arc<U::Key>>,
+}
+
+// (One function for all places that drop one: a derived drop is written out at each.)
+impl<U: Universe> Drop for Entry<U> {
+    fn drop(self) {
+        let Entry {
+            value: _value,
+            trace: _trace,
+            ranges: _ranges,
+            version: _,
+            deps: _deps,
+        } = self;
+    }
 }
 
 impl<U: Universe> Model for Entry<U> {
@@ -41,13 +53,21 @@ impl<U: Universe> Entry<U> {
     pub(crate) fn look(&self, universe: &U, version: u64) -> Found<'_, U>
         ensures { look_of result ≡ look U.meaning.is_transient (Some (kept_of self.now)) version }
     {
-        if self.ranges.contains(version) {
+        let known = self.ranges.contains(version);
+        if known {
             Found::Match(&self.value, self.version)
         } else if universe.is_transient(&self.value) {
             Found::Compute(Why::Transient(self.version))
         } else {
             Found::CheckDeps(&self.value, &self.trace, self.version)
         }
+    }
+
+    /// Whether an edge from a key to the entry's own is recorded.
+    pub(crate) fn has_edge_from(&self, from: &Arc<U::Key>) -> bool
+        ensures { result ≡ list_any (U.Key.eq (arc_value from.now)) self.now.deps }
+    {
+        self.deps.contains(from)
     }
 
     /// Notes that the entry was seen at a version.
@@ -72,14 +92,9 @@ impl<U: Universe> Entry<U> {
         ensures kept { IfOk result (λ e. kept_of e ≡ kept_of self) }
         ensures deps { IfOk result (λ e. (j : U.Key) → list_any (U.Key.eq j) e.deps ≡ (list_any (U.Key.eq j) earlier.now.deps || list_any (U.Key.eq j) self.deps)) }
     {
-        let deps = united::<U>(self.deps, &earlier.deps)?;
-        Ok(Entry {
-            value: self.value,
-            trace: self.trace,
-            ranges: self.ranges,
-            version: self.version,
-            deps,
-        })
+        let mut entry = self;
+        add_all::<U>(&mut entry.deps, &earlier.deps)?;
+        Ok(entry)
     }
 
     /// The entry that stands for this one and one of the same value: with the ranges of both, and the trace of the later one.
@@ -87,24 +102,22 @@ impl<U: Universe> Entry<U> {
         ensures kept { IfOk result (λ e. kept_of e ≡ joined U.meaning U.Value.eq (kept_of self.now) (kept_of next)) }
         ensures deps { IfOk result (λ e. e.deps ≡ next.deps) }
     {
-        let ranges = either(&self.ranges, &next.ranges)?;
-        let value = Arc::try_clone(&self.value)?;
-        if self.version <= next.version {
-            return Ok(Entry {
-                value,
-                trace: next.trace,
-                ranges,
-                version: next.version,
-                deps: next.deps,
-            });
+        let mut joined = next;
+        joined.ranges = either(&self.ranges, &joined.ranges)?;
+        joined.value = Arc::try_clone(&self.value)?;
+        if self.version <= joined.version {
+            return Ok(joined);
         }
-        Ok(Entry {
-            value,
-            trace: Arc::try_clone(&self.trace)?,
-            ranges,
-            version: self.version,
-            deps: next.deps,
-        })
+        joined.trace = Arc::try_clone(&self.trace)?;
+        joined.version = self.version;
+        Ok(joined)
+    }
+
+    /// Whether a finish of the same value was made, and the value is not transient.
+    fn joins(&self, universe: &U, next: &Entry<U>) -> bool
+        ensures { result ≡ (U.Value.eq self.now.value next.now.value && not (U.meaning.is_transient self.now.value)) }
+    {
+        *self.value == *next.value && !universe.is_transient(&self.value)
     }
 
     /// The entry that stands after a finish has made `next`; `None` where this one stays as it is.
@@ -112,7 +125,7 @@ impl<U: Universe> Entry<U> {
         ensures kept { IfOk result (λ o. unwrap_or (option_map kept_of o) (kept_of self.now) ≡ written U.meaning U.Value.eq (Some (kept_of self.now)) (kept_of next)) }
         ensures deps { IfOk result (λ o. MatchOption o (goes_in U.meaning U.Value.eq (Some (kept_of self.now)) (kept_of next) ≡ false) (λ e. (goes_in U.meaning U.Value.eq (Some (kept_of self.now)) (kept_of next) ≡ true) × ((j : U.Key) → list_any (U.Key.eq j) e.deps ≡ (list_any (U.Key.eq j) self.now.deps || list_any (U.Key.eq j) next.deps)))) }
     {
-        if *self.value == *next.value && !universe.is_transient(&self.value) {
+        if self.joins(universe, &next) {
             let next = next.with_edges_of(self)?;
             return Ok(Some(self.joined(next)?));
         }
@@ -123,19 +136,18 @@ impl<U: Universe> Entry<U> {
     }
 }
 
-/// The keys of both sets.
-fn united<U: Universe>(
-    keys: HashSet<Arc<U::Key>>,
+/// Adds these keys to a set.
+fn add_all<U: Universe>(
+    keys: &mut HashSet<Arc<U::Key>>,
     others: &HashSet<Arc<U::Key>>,
-) -> Result<HashSet<Arc<U::Key>>, NoMemory>
-    ensures { IfOk result (λ s. (q : U.Key) → list_any (λ a. U.Key.eq q (arc_value a)) s.keys ≡ (list_any (λ a. U.Key.eq q (arc_value a)) others.now.keys || list_any (λ a. U.Key.eq q (arc_value a)) keys.keys)) }
+) -> Result<(), NoMemory>
+    ensures { OnOk result ((q : U.Key) → list_any (λ a. U.Key.eq q (arc_value a)) keys.new.keys ≡ (list_any (λ a. U.Key.eq q (arc_value a)) others.now.keys || list_any (λ a. U.Key.eq q (arc_value a)) keys.old.keys)) }
 {
     laws_of::<U>();
-    let mut united = keys;
     for key in others.iter() {
-        united.insert(Arc::try_clone(key)?)?;
+        keys.insert(Arc::try_clone(key)?)?;
     }
-    Ok(united)
+    Ok(())
 }
 
 /// The versions of either set.

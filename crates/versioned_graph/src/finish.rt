@@ -27,7 +27,8 @@ pub(crate) fn link_open<U: Universe>(
     ensures there { IfOk result (λ s. (j : U.Key) → list_any (λ a. U.Key.eq j (arc_value a)) s.keys ≡ true → Has (users_of U.Key.eq users.new j) (arc_value key.now)) }
     ensures stay { (j : U.Key) (q : U.Key) → Has (users_of U.Key.eq users.old j) q → Has (users_of U.Key.eq users.new j) q }
 {
-    if ranges.is_open() {
+    let opened = ranges.is_open();
+    if opened {
         link(alloc, users, key, trace)
     } else {
         Ok(HashSet::new(alloc))

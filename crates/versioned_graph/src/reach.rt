@@ -1,7 +1,7 @@
 //! What a commit reaches.
-ghost use Rattle.std.specs.Prelude.{◌≡◌, ◌++◌, List, map, IfOk, OnOk};
+ghost use Rattle.std.specs.Prelude.{◌≡◌, ◌++◌, ◌∷◌, List, [], map, filter, IfOk, OnOk};
 ghost use Rattle.std.specs.Arc.{arc_value};
-ghost use Rattle.versioned_graph.specs.Edges.{CommitReaches};
+ghost use Rattle.versioned_graph.specs.Edges.{CommitReaches, is_edge};
 ghost use Rattle.versioned_graph.specs.Users.{IsIndexed, recorded_of};
 ghost use Rattle.lists.specs.Lists.{Has};
 
@@ -25,17 +25,35 @@ pub(crate) fn reached<U: Universe>(
     ensures all { IfOk result (λ r. (q : U.Key) → CommitReaches U.Key.eq store.now (map arc_value changed.now) q → Has (map arc_value r.items) q) }
     ensures only { IfOk result (λ r. (q : U.Key) → Has (map arc_value r.items) q → CommitReaches U.Key.eq store.now (map arc_value changed.now) q) }
 {
-    laws_of::<U>();
     let mut todo = copies(alloc, changed)?;
     let mut seen = HashSet::new(alloc);
     let mut reached = Vec::new(alloc);
+    walk(store, users, &mut todo, &mut seen, &mut reached)?;
+    Ok(reached)
+}
+
+/// Adds all keys to which chains of recorded edges lead from those that are to do, and those themselves.
+fn walk<U: Universe>(
+    store: &Store<U>,
+    users: &Users<U>,
+    todo: &mut Vec<Arc<U::Key>>,
+    seen: &mut HashSet<Arc<U::Key>>,
+    reached: &mut Vec<Arc<U::Key>>,
+) -> Result<(), NoMemory>
+    requires indexed { IsIndexed U.Key.eq store.now users.now }
+    requires unseen { seen.old.keys ≡ [] }
+    requires none { reached.old.items ≡ [] }
+    ensures all { OnOk result ((q : U.Key) → CommitReaches U.Key.eq store.now (map arc_value todo.old.items) q → Has (map arc_value reached.new.items) q) }
+    ensures only { OnOk result ((q : U.Key) → Has (map arc_value reached.new.items) q → CommitReaches U.Key.eq store.now (map arc_value todo.old.items) q) }
+{
+    laws_of::<U>();
     while let Some(key) = todo.pop() {
         if seen.insert(Arc::try_clone(&key)?)? {
-            push_users(store, users, &key, &mut todo)?;
+            push_users(store, users, &key, todo)?;
             reached.push(key)?;
         }
     }
-    Ok(reached)
+    Ok(())
 }
 
 /// The same keys again, shared.
@@ -62,9 +80,23 @@ fn push_users<U: Universe>(
         return Ok(());
     };
     for user in recorded.iter() {
-        if store.is_edge(key, user) {
-            todo.push(Arc::try_clone(user)?)?;
-        }
+        push_user(store, key, user, todo)?;
     }
+    Ok(())
+}
+
+/// Adds the second key, if an edge to it from the first one is recorded.
+fn push_user<U: Universe>(
+    store: &Store<U>,
+    key: &Arc<U::Key>,
+    user: &Arc<U::Key>,
+    todo: &mut Vec<Arc<U::Key>>,
+) -> Result<(), NoMemory>
+    ensures { OnOk result (map arc_value todo.new.items ≡ map arc_value todo.old.items ++ filter (is_edge U.Key.eq store.now (arc_value key.now)) (arc_value user.now ∷ [])) }
+{
+    if !store.is_edge(key, user) {
+        return Ok(());
+    }
+    todo.push(Arc::try_clone(user)?)?;
     Ok(())
 }

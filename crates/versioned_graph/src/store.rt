@@ -119,8 +119,8 @@ impl<U: Universe> Store<U> {
     pub(crate) fn is_edge(&self, from: &Arc<U::Key>, to: &Arc<U::Key>) -> bool
         ensures { result ≡ is_edge U.Key.eq self.now (arc_value from.now) (arc_value to.now) }
     {
-        match self.entries.get(to) {
-            Some(entry) => entry.deps.contains(from),
+        match self.entry(to) {
+            Some(entry) => entry.has_edge_from(from),
             None => false,
         }
     }

@@ -1,5 +1,5 @@
 //! Which keys may use a key.
-ghost use Rattle.std.specs.Prelude.{◌≡◌, List, [], map, if◌then◌else◌, OnOk, MatchOption};
+ghost use Rattle.std.specs.Prelude.{◌≡◌, false, List, [], map, if◌then◌else◌, OnOk, MatchOption};
 ghost use Rattle.std.specs.Arc.{arc_value};
 ghost use Rattle.versioned_graph.specs.Users.{users_of};
 ghost use Rattle.lists.specs.Lists.{Has};
@@ -51,13 +51,24 @@ impl<U: Universe> Users<U> {
         ensures stay { (j : U.Key) (q : U.Key) → Has (users_of U.Key.eq self.old j) q → Has (users_of U.Key.eq self.new j) q }
     {
         laws_of::<U>();
+        let user = Arc::try_clone(user)?;
         if let Some(set) = self.sets.get_mut(key) {
-            set.insert(Arc::try_clone(user)?)?;
+            set.insert(user)?;
             return Ok(());
         }
+        self.begin(key, user)
+    }
+
+    /// Makes the set of a key, with its first user.
+    fn begin(&mut self, key: &Arc<U::Key>, user: Arc<U::Key>) -> Result<(), NoMemory>
+        ensures ok { OnOk result (Has (users_of U.Key.eq self.new (arc_value key.now)) (arc_value user)) }
+        ensures stay { (j : U.Key) (q : U.Key) → U.Key.eq (arc_value key.now) j ≡ false → Has (users_of U.Key.eq self.old j) q → Has (users_of U.Key.eq self.new j) q }
+    {
+        laws_of::<U>();
+        let key = Arc::try_clone(key)?;
         let mut set = HashSet::new(self.alloc);
-        set.insert(Arc::try_clone(user)?)?;
-        self.sets.insert(Arc::try_clone(key)?, set)?;
+        set.insert(user)?;
+        self.sets.insert(key, set)?;
         Ok(())
     }
 

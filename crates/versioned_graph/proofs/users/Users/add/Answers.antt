@@ -1,24 +1,13 @@
 -- A key is noted to one set.
-use Rattle.std.proofs.Common.{◌≡◌, map, ap, sym, ◌∙◌, Some, None, subst, refl, IsSome}
+use Rattle.std.proofs.Common.{◌≡◌, map, ap, sym, ◌∙◌, Some, None, subst, refl, IsSome, OnOk}
 use Rattle.std.specs.Arc.{arc_value}
 use Rattle.std.specs.Map.{lookup}
-use Rattle.std.specs.Option.{option_copied_mut}
-use Rattle.versioned_graph.specs.Users.{set_of, users_of}
-use Rattle.versioned_graph.proofs.UsersLemmas.{set-more, set-has, still_in, now_in}
+use Rattle.std.specs.Option.{option_map, option_copied_mut}
+use Rattle.versioned_graph.specs.Users.{set_of, or_none, users_of}
+use Rattle.versioned_graph.proofs.UsersLemmas.{keys_in, set-named, set-more, set-has, still_in, now_in, all_stay}
 use Rattle.versioned_graph.proofs.users.Users.add.Goals as goal
 use Rattle.dice_key.proofs.KeySets.{noted}
 use Rattle.lists.specs.Lists.{Has}
-
-pub returns-in_err-try_clone-clause-stay : goal.returns-in_err-try_clone-clause-stay
-returns-in_err-try_clone-clause-stay g c = λ j q h.
-    let eq = g.U.Key.PartialEq.eq in
-    let k = arc_value c.args.key.now in
-    let us = c.self.inside.sets.entries in
-    let l = c.in-Some.set.now in
-    let known : lookup (λ y. eq k (arc_value y)) us ≡ Some l = sym c.get_mut.ensures.value ∙ ap option_copied_mut c.in-Some.is in
-    let some : IsSome (lookup (λ y. eq k (arc_value y)) us) = subst IsSome (sym known) refl in
-    set-more eq c.laws_of.ensures.keys.same k c.args.key.now us (c.get_mut.follows.lender l).entries (Some l) (Some l) known (((c.get_mut.follows.holds l).3 some).0) (λ x i. i) j q
-    (subst (λ ls. Has (users_of eq ls j) q) (sym c.self.view_is) h)
 
 pub returns-in_err-insert-clause-stay : goal.returns-in_err-insert-clause-stay
 returns-in_err-insert-clause-stay g c = λ j q h.
@@ -42,7 +31,7 @@ returns-in-Some-clause-ok g c =
     let known : lookup (λ y. eq k (arc_value y)) us ≡ Some l = sym c.get_mut.ensures.value ∙ ap option_copied_mut c.in-Some.is in
     let some : IsSome (lookup (λ y. eq k (arc_value y)) us) = subst IsSome (sym known) refl in
     set-has eq c.laws_of.ensures.keys k c.args.key.now us (c.get_mut.follows.lender f).entries (Some f) (((c.get_mut.follows.holds f).3 some).0) (arc_value c.args.user.now)
-    (now_in eq c.laws_of.ensures.keys l.keys f.keys (arc_value c.args.user.now) (noted eq c.args.user.now c.in_ok-try_clone.field-0 l.keys f.keys c.in_ok-try_clone.ensures c.in_ok-insert.ensures.updates.0))
+    (now_in eq c.laws_of.ensures.keys l.keys f.keys (arc_value c.args.user.now) (noted eq c.args.user.now c.in_ok-user.user l.keys f.keys c.in_ok-user.ensures c.in_ok-insert.ensures.updates.0))
 
 pub returns-in-Some-clause-stay : goal.returns-in-Some-clause-stay
 returns-in-Some-clause-stay g c = λ j q h.
@@ -54,25 +43,18 @@ returns-in-Some-clause-stay g c = λ j q h.
     let known : lookup (λ y. eq k (arc_value y)) us ≡ Some l = sym c.get_mut.ensures.value ∙ ap option_copied_mut c.in-Some.is in
     let some : IsSome (lookup (λ y. eq k (arc_value y)) us) = subst IsSome (sym known) refl in
     set-more eq c.laws_of.ensures.keys.same k c.args.key.now us (c.get_mut.follows.lender f).entries (Some l) (Some f) known (((c.get_mut.follows.holds f).3 some).0)
-    (λ x i. still_in eq c.laws_of.ensures.keys l.keys f.keys (arc_value c.args.user.now) (noted eq c.args.user.now c.in_ok-try_clone.field-0 l.keys f.keys c.in_ok-try_clone.ensures c.in_ok-insert.ensures.updates.0) x i) j q
+    (λ x i. still_in eq c.laws_of.ensures.keys l.keys f.keys (arc_value c.args.user.now) (noted eq c.args.user.now c.in_ok-user.user l.keys f.keys c.in_ok-user.ensures c.in_ok-insert.ensures.updates.0) x i) j q
     (subst (λ ls. Has (users_of eq ls j) q) (sym c.self.view_is) h)
 
 pub returns-clause-ok : goal.returns-clause-ok
-returns-clause-ok g c =
-    let eq = g.U.Key.PartialEq.eq in
-    let us = c.get_mut.follows.lender-at-none.entries in
-    let k = arc_value c.in_ok-try_clone-3.field-0 in
-    let f = c.insert-2.new.self in
-    subst (λ n. Has (users_of eq (map set_of c.insert-3.new.self.entries) n) (arc_value c.args.user.now)) c.in_ok-try_clone-3.ensures
-    (set-has eq c.laws_of.ensures.keys k c.in_ok-try_clone-3.field-0 us c.insert-3.new.self.entries (Some f) c.in_ok-insert-3.ensures.updates.0 (arc_value c.args.user.now)
-    (now_in eq c.laws_of.ensures.keys c.new-set.result.keys f.keys (arc_value c.args.user.now) (noted eq c.args.user.now c.in_ok-try_clone-2.field-0 c.new-set.result.keys f.keys c.in_ok-try_clone-2.ensures c.in_ok-insert-2.ensures.updates.0)))
+returns-clause-ok g c = subst (λ x. OnOk c.begin.result (Has (users_of g.U.Key.PartialEq.eq c.begin.new.self (arc_value c.args.key.now)) x)) c.in_ok-user.ensures c.begin.ensures.ok
 
 pub returns-clause-stay : goal.returns-clause-stay
 returns-clause-stay g c = λ j q h.
     let eq = g.U.Key.PartialEq.eq in
+    let k = arc_value c.args.key.now in
     let us = c.get_mut.follows.lender-at-none.entries in
-    let k = arc_value c.in_ok-try_clone-3.field-0 in
     let same = c.get_mut.follows.holds-at-none in
-    let none : lookup (λ y. eq k (arc_value y)) us ≡ None = ap (λ n. lookup (λ y. eq n (arc_value y)) us) c.in_ok-try_clone-3.ensures ∙ (ap (λ m. lookup (λ y. eq (arc_value c.args.key.now) (arc_value y)) m.entries) same ∙ (sym c.get_mut.ensures.value ∙ ap option_copied_mut c.in_default.is)) in
-    set-more eq c.laws_of.ensures.keys.same k c.in_ok-try_clone-3.field-0 us c.insert-3.new.self.entries None (Some c.insert-2.new.self) none c.in_ok-insert-3.ensures.updates.0 (λ x i. absurd i) j q
+    let none : lookup (λ y. eq k (arc_value y)) us ≡ None = ap (λ m. lookup (λ y. eq k (arc_value y)) m.entries) same ∙ (sym c.get_mut.ensures.value ∙ ap option_copied_mut c.in_default.is) in
+    all_stay eq c.laws_of.ensures.keys.same k (map set_of us) c.begin.new.self (set-named eq k us ∙ ap (λ o. or_none (option_map keys_in o)) none) c.begin.ensures.stay j q
     (subst (λ m. Has (users_of eq (map set_of m.entries) j) q) (sym same) (subst (λ ls. Has (users_of eq ls j) q) (sym c.self.view_is) h))
