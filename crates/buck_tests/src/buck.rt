@@ -111,9 +111,9 @@ fn a_package_asks_its_target_file(rt: HostRuntime) -> Result<(), Fail> {
 }
 
 /// The rule of `//a:w`.
-fn rule_key(alloc: Global) -> Result<Key, NoMemory> {
+fn rule_key(alloc: Global) -> Result<Arc<Key>, NoMemory> {
     let label = label(alloc, b"//a:w")?;
-    Ok(RuleKey { label }.wrap())
+    Ok(Arc::new(alloc, RuleKey { label }.wrap())?)
 }
 
 fn base_prints(universe: &Buck, key: &Key, text: &[u8]) -> Result<bool, NoMemory> {
@@ -136,7 +136,7 @@ fn a_rule_stands_on_its_package(rt: HostRuntime) -> Result<(), Fail> {
 fn has_fault_of_package(alloc: Global, universe: &Buck) -> Result<bool, NoMemory> {
     let rule = rule_key(alloc)?;
     let package = package(alloc)?;
-    let none = Value::Package(Err(Fault::NoPackage(package)));
+    let none = Arc::new(alloc, Value::Package(Err(Fault::NoPackage(package))))?;
     let found = universe.project(&rule, &none)?;
     Ok(is_no_package_of_rule(&found) && !universe.is_transient(&found))
 }
