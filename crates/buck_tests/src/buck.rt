@@ -54,7 +54,8 @@ fn prints(universe: &Buck, key: &Key, short: bool, text: &[u8]) -> Result<bool, 
     Ok(universe.print(key, short)?.as_bytes() == text)
 }
 
-fn is_computed(alloc: Global, universe: &Buck) -> Result<bool, NoMemory> {
+fn is_computed(alloc: Global) -> Result<bool, NoMemory> {
+    let universe = Buck::new(alloc)?;
     let key = PackageKey {
         package: package(alloc)?,
     };
@@ -91,12 +92,13 @@ fn no_file(alloc: Global) -> Result<Answers<Value>, NoMemory>
 }
 
 /// Whether the package `a` asks its target file, and is none where that has no bytes.
-fn asks_its_file(alloc: Global, universe: &Buck) -> Result<bool, NoMemory> {
+fn asks_its_file(alloc: Global) -> Result<bool, NoMemory> {
+    let universe = Buck::new(alloc)?;
     let answers = no_file(alloc)?;
     let package = package(alloc)?;
     let key = Arc::new(alloc, PackageKey { package }.wrap())?;
     let (mut run, first) = universe.begin(&key, 1)?;
-    let asked = asks(universe, &first, b"source a/BUCK")?;
+    let asked = asks(&universe, &first, b"source a/BUCK")?;
     let second = universe.resume(&mut run, &answers)?;
     Ok(asked && tells_no_package(&second))
 }
@@ -104,9 +106,8 @@ fn asks_its_file(alloc: Global, universe: &Buck) -> Result<bool, NoMemory> {
 #[test]
 fn a_package_asks_its_target_file(rt: HostRuntime) -> Result<(), Fail> {
     let alloc = rt.alloc();
-    let universe = Buck::new(alloc)?;
-    assert!(rt; is_computed(alloc, &universe)?);
-    assert!(rt; asks_its_file(alloc, &universe)?);
+    assert!(rt; is_computed(alloc)?);
+    assert!(rt; asks_its_file(alloc)?);
     Ok(())
 }
 
@@ -121,19 +122,26 @@ fn base_prints(universe: &Buck, key: &Key, text: &[u8]) -> Result<bool, NoMemory
     prints(universe, &base, false, text)
 }
 
-#[test]
-fn a_rule_stands_on_its_package(rt: HostRuntime) -> Result<(), Fail> {
-    let alloc = rt.alloc();
+/// Whether the rule `//a:w` has its package as its base, prints as its label if short, and asks one batch.
+fn stands_on_its_package(alloc: Global) -> Result<bool, NoMemory> {
     let universe = Buck::new(alloc)?;
     let rule = rule_key(alloc)?;
-    assert!(rt; base_prints(&universe, &rule, b"package //a")?);
-    assert!(rt; prints(&universe, &rule, true, b"//a:w")?);
-    assert!(rt; universe.most_batches(&rule) == 1);
+    Ok(
+        base_prints(&universe, &rule, b"package //a")?
+            && prints(&universe, &rule, true, b"//a:w")?
+            && universe.most_batches(&rule) == 1,
+    )
+}
+
+#[test]
+fn a_rule_stands_on_its_package(rt: HostRuntime) -> Result<(), Fail> {
+    assert!(rt; stands_on_its_package(rt.alloc())?);
     Ok(())
 }
 
 /// Whether the rule has the fault of a package that there is not, which is not transient.
-fn has_fault_of_package(alloc: Global, universe: &Buck) -> Result<bool, NoMemory> {
+fn has_fault_of_package(alloc: Global) -> Result<bool, NoMemory> {
+    let universe = Buck::new(alloc)?;
     let rule = rule_key(alloc)?;
     let package = package(alloc)?;
     let none = Arc::new(alloc, Value::Package(Err(Fault::NoPackage(package))))?;
@@ -143,9 +151,7 @@ fn has_fault_of_package(alloc: Global, universe: &Buck) -> Result<bool, NoMemory
 
 #[test]
 fn a_rule_of_no_package_has_its_fault(rt: HostRuntime) -> Result<(), Fail> {
-    let alloc = rt.alloc();
-    let universe = Buck::new(alloc)?;
-    assert!(rt; has_fault_of_package(alloc, &universe)?);
+    assert!(rt; has_fault_of_package(rt.alloc())?);
     Ok(())
 }
 
