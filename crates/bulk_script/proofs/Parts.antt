@@ -79,3 +79,14 @@ script_put n a b c d e f g h i j k l =
     (j ∙ ap (λ (o : List ℕ). o ++ text_of (round_in (codes "a") n))
     (i ∙ ap (λ (o : List ℕ). o ++ text_of (package_puts n)) (h ∙ ap (λ (o : List ℕ). o ++ text_of source_puts) g))))
     ∙ bulk_put n
+
+-- a put, piece by piece: the path p, the number d and the bytes f
+pub put_grown : (o p d f a b c e g h i : List ℕ) → a ≡ o ++ codes "put " → b ≡ a ++ p → c ≡ b ++ 32 ∷ [] → e ≡ c ++ d → g ≡ e ++ 10 ∷ [] → h ≡ g ++ f → i ≡ h ++ 10 ∷ [] →
+    i ≡ o ++ (((codes "put " ++ (p ++ 32 ∷ (d ++ 10 ∷ []))) ++ f) ++ 10 ∷ [])
+put_grown o p d f a b c e g h i e1 e2 e3 e4 e5 e6 e7 =
+    let x4 = grown c e g d (10 ∷ []) e4 e5 in
+    let x3 = grown b c g (32 ∷ []) (d ++ 10 ∷ []) e3 x4 in
+    let x2 = grown a b g p (32 ∷ (d ++ 10 ∷ [])) e2 x3 in
+    let x1 = grown o a g (codes "put ") (p ++ 32 ∷ (d ++ 10 ∷ [])) e1 x2 in
+    let y1 = grown o g h (codes "put " ++ (p ++ 32 ∷ (d ++ 10 ∷ []))) f x1 e6 in
+    grown o h i ((codes "put " ++ (p ++ 32 ∷ (d ++ 10 ∷ []))) ++ f) (10 ∷ []) y1 e7

@@ -1,10 +1,11 @@
 -- What a sink gained and a source gave, piece by piece.
-use Rattle.std.proofs.Common.{◌≤◌, ◌<◌, ◌+◌, Some, None, [], refl, ◌≡◌, ◌-◌, ℕ, List, ◌++◌, length, take, drop, Option, sym, ap, ◌∙◌, append_assoc, arith}
+use Rattle.std.proofs.Common.{Result, Ok, Err, OnErr, inl, inr, min, ◌≤◌, ◌<◌, ◌+◌, Some, None, [], refl, ◌≡◌, ◌-◌, ℕ, List, ◌++◌, length, take, drop, Option, sym, ap, ◌∙◌, append_assoc, arith}
 use Rattle.std.proofs.lemmas.Grind.{common_steps}
+use Rattle.std.proofs.lemmas.List.{drop-drop, take-append-drop}
 use Rattle.std.proofs.lemmas.Option.{none-some, same_Some}
 use Rattle.std.proofs.Math.Seq.{take-add}
 use Rattle.std.specs.Io.KnownBytes.{Consumes, IsAtEnd}
-use Rattle.dice_io.specs.Streams.{Reads, Takes, Gained}
+use Rattle.dice_io.specs.Streams.{Reads, ReadPart, ReadTo, Takes, Gained, GainedPart, Unchanged, Unread}
 
 pub gained_more : {t u w : Option (List ℕ)} {bytes : List ℕ} {n : ℕ} (front : List ℕ) → Gained t u front → (h : Takes u w bytes n) → Gained t w (front ++ h.front)
 gained_more front g h after e =
@@ -75,3 +76,76 @@ grown_keeps into grown pad start n s e room =
     let whole : take n into ≡ into = grind (arith, common_steps) in
     let f : take (length into) (into ++ pad) ≡ into = grind (arith, common_steps) in
     ap (λ k. take k grown) s ∙ (ap (take (length into)) (e ∙ ap (λ xs. xs ++ pad) whole) ∙ f)
+
+-- ---- a whole input
+
+-- what was read, and what is left, is what was left
+abbrev pub Told : Option (List ℕ) → Option (List ℕ) → List ℕ → Type 0
+Told left left' got = (all : List ℕ) → left ≡ Some all → (rest : List ℕ) × (left' ≡ Some rest) × (all ≡ got ++ rest)
+
+pub read_more : {left mid left' : Option (List ℕ)} {bytes into' : List ℕ} {most n : ℕ} → Told left mid bytes → Reads mid left' bytes into' most n → Told left left' into'
+read_more {bytes = bytes} told h all e =
+    let a = told all e in
+    let b = h.told a.0 a.1 in
+    (b.0, b.1, a.2 ∙ (ap (λ xs. bytes ++ xs) b.2 ∙ (sym (append_assoc bytes h.got b.0) ∙ ap (λ xs. xs ++ b.0) (sym h.appended))))
+
+pub read_fits : {mid left' : Option (List ℕ)} {bytes into' : List ℕ} {most n : ℕ} (limit : ℕ) → Reads mid left' bytes into' most n → most ≤ limit - length bytes → length bytes ≤ limit
+    → length into' ≤ limit
+read_fits limit h room few = rw h.appended (grind (arith, common_steps, h.counted, h.few))
+
+-- no byte came, so nothing is left
+pub read_to_end : {left mid left' : Option (List ℕ)} {bytes into' : List ℕ} {most n : ℕ} (limit : ℕ) → Told left mid bytes → Reads mid left' bytes into' most n → n ≡ 0 → ReadTo left left' into' limit
+unfolding read_more
+read_to_end limit told h z all e =
+    let a = told all e in
+    let b = h.told a.0 a.1 in
+    let none : b.0 ≡ [] = grind (arith, common_steps, h.ended a.0 a.1 z, h.counted, b.2) in
+    let c = read_more told h all e in
+    (b.0, b.1, c.2, inl none)
+
+pub read_to_limit : {left left' : Option (List ℕ)} (bytes : List ℕ) {limit : ℕ} → Told left left' bytes → length bytes ≤ limit → limit ≤ length bytes → ReadTo left left' bytes limit
+read_to_limit bytes told few full all e =
+    let a = told all e in
+    (a.0, a.1, a.2, inr (omega arith))
+
+pub read_part : {left mid left' : Option (List ℕ)} (bytes : List ℕ) {limit : ℕ} → Told left mid bytes → length bytes ≤ limit → Unread mid left' → ReadPart left left' limit
+read_part bytes told few unread all e =
+    let a = told all e in
+    (bytes, a.0, unread a.0 a.1, a.2, few)
+
+pub on_err_always : {T E P : Type 0} (r : Result T E) → P → OnErr r P
+on_err_always (Ok x) p = tt
+on_err_always (Err e) p = p
+
+-- ---- a piece of bytes in memory
+
+pub reads_front : (left bytes slice into into' : List ℕ) (at len most n : ℕ) → left ≡ drop at bytes → slice ≡ bytes → len ≡ length bytes → at ≤ length bytes → 1 ≤ most → n ≡ min most (len - at)
+    → into' ≡ into ++ take (at + n - at) (drop at slice) → Reads (Some left) (Some (drop (at + n) bytes)) into into' most n
+reads_front left bytes slice into into' at len most n is same counted within some e grown =
+    let width : at + n - at ≡ n = omega arith in
+    let whole : drop at bytes ≡ take n (drop at bytes) ++ drop (at + n) bytes =
+    sym (take-append-drop n (drop at bytes)) ∙ ap (λ xs. take n (drop at bytes) ++ xs) (drop-drop n at bytes) in
+    record {
+      got = take n (drop at bytes);
+      appended = grown ∙ (ap (λ k. into ++ take k (drop at slice)) width ∙ ap (λ xs. into ++ take n (drop at xs)) same);
+      counted = grind (arith, common_steps);
+      few = omega arith;
+      told = λ all h. (drop (at + n) bytes, refl, sym (same_Some _ _ h) ∙ (is ∙ whole));
+      ended = λ all h z.
+          let none : drop at bytes ≡ [] = grind (arith, common_steps) in
+          sym (same_Some _ _ h) ∙ (is ∙ none);
+    }
+
+pub reads_wider : {left left' : Option (List ℕ)} {into into' : List ℕ} {most n : ℕ} (wide : ℕ) → Reads left left' into into' most n → most ≤ wide → Reads left left' into into' wide n
+reads_wider wide h e = record { got = h.got; appended = h.appended; counted = h.counted; few = omega (arith, h.few); told = h.told; ended = h.ended }
+
+-- ---- a whole output
+
+pub gained_whole : {t u : Option (List ℕ)} {bytes : List ℕ} (front rest : List ℕ) → bytes ≡ front ++ rest → length rest ≡ 0 → Gained t u front → Gained t u bytes
+gained_whole {bytes = bytes} front rest e none g after h =
+    let a = g after h in
+    let same : bytes ≡ front = grind (arith, common_steps) in
+    (a.0, a.1, a.2 ∙ ap (λ xs. a.0 ++ xs) (sym same))
+
+pub gained_part : {t u w : Option (List ℕ)} {bytes : List ℕ} (front rest : List ℕ) → bytes ≡ front ++ rest → Gained t u front → Unchanged u w → GainedPart t w bytes
+gained_part front rest e g kept = (front, rest, e, λ after h. g after (kept after h))

@@ -1,7 +1,8 @@
 //! Which command the words of the command line name.
 ghost use Rattle.std.specs.Prelude.{◌≡◌, false, IfOk, IfErr, IsErrOf, IsSomeAnd, codes, map};
+ghost use Rattle.clap.specs.declared.builder.command.Command.{out-Command};
 ghost use Rattle.clap.specs.Words.{app_of, found_of, kind_of, rows_of, rule_of, subcommand_rows_of};
-ghost use Rattle.dice_words.specs.Accepted.{dice, targets, trace, workers, IsAccepted, Asks, HasBulk, HasRun, IsComplete, IsOf, IsWithin};
+ghost use Rattle.dice_words.specs.Accepted.{bulk, dice, dice_alone, run, targets, trace, workers, IsAccepted, Asks, HasBulk, HasRun, IsComplete, IsOf, IsWithin};
 
 use clap::error::ErrorKind;
 use clap::{ArgAction, ArgMatches, value_parser};
@@ -99,24 +100,46 @@ fn targets_argument<'a>(alloc: Global) -> clap::Arg<'a>
         .help("How many targets the script is about, from 1 to 10000")
 }
 
-// The command line of the program: `dice`, of which a subcommand is required.
-fn command_line<'a>(alloc: Global) -> Result<clap::Command<'a>, AllocError>
-    ensures { IfOk result (λ c. app_of c ≡ dice) }
+// `dice run`.
+fn run_command<'a>(alloc: Global) -> Result<clap::Command<'a>, AllocError>
+    ensures shape { IfOk result (λ c. app_of c ≡ run) }
+    ensures local { IfOk result (λ c. (out-Command c).has_globals ≡ false) }
 {
-    let run = clap::Command::new(alloc, "run")
+    clap::Command::new(alloc, "run")
         .about("Reads a script from standard input and writes what it asks for")
         .arg(workers_option(alloc))?
-        .arg(trace_flag(alloc))?;
-    let bulk = clap::Command::new(alloc, "bulk")
+        .arg(trace_flag(alloc))
+}
+
+// `dice bulk`.
+fn bulk_command<'a>(alloc: Global) -> Result<clap::Command<'a>, AllocError>
+    ensures shape { IfOk result (λ c. app_of c ≡ bulk) }
+    ensures local { IfOk result (λ c. (out-Command c).has_globals ≡ false) }
+{
+    clap::Command::new(alloc, "bulk")
         .about("Makes a script of many requests, runs it and writes a summary")
         .arg(targets_argument(alloc))?
-        .arg(workers_option(alloc))?;
+        .arg(workers_option(alloc))
+}
+
+// `dice` without its subcommands, of which one is required.
+fn dice_command<'a>(alloc: Global) -> clap::Command<'a>
+    ensures shape { app_of result ≡ dice_alone }
+    ensures local { (out-Command result).has_globals ≡ false }
+{
     clap::Command::new(alloc, "dice")
         .about("Builds targets incrementally")
         .subcommand_required(true)
         .disable_help_subcommand(true)
-        .subcommand(run)?
-        .subcommand(bulk)
+}
+
+// The command line of the program: `dice` with its two subcommands.
+fn command_line<'a>(alloc: Global) -> Result<clap::Command<'a>, AllocError>
+    ensures { IfOk result (λ c. app_of c ≡ dice) }
+{
+    let run = run_command(alloc)?;
+    let bulk = bulk_command(alloc)?;
+    dice_command(alloc).subcommand(run)?.subcommand(bulk)
 }
 
 // `dice run` by its matches.

@@ -17,3 +17,6 @@ returns-in-Some-Pending-clause-taken c =
     let s : requests_at c.settle.new.self ≡ settling c.in_ok-name.name Cancelled (requests_at k.requests) = search rules in
     cancel_taken (past_of k) _ c.args.name.now c.in_ok-name.name c.args.behind.now e h f
     (settled_past (has k.touched) (transactions_at k.transactions) (requests_at k.requests) (requests_at c.settle.new.self) c.in_ok-name.name Cancelled refl s)
+
+pub returns-in-Some-Answered-clause-taken : goal.returns-in-Some-Answered-clause-taken
+returns-in-Some-Answered-clause-taken c = search rules
