@@ -180,7 +180,7 @@ module _ {K T : Type 0} (eq : K → K → Bool) (law : IsEquality eq) where
 
   -- what is met is counted no more
   module _ (seen later : K → Bool) (d : K) (marks : (q : K) → later q ≡ cond (eq d q) true (seen q)) where
-    unmet_falls : (es : List (K × Share K T)) → unmet later es ≤ unmet seen es
+    pub unmet_falls : (es : List (K × Share K T)) → unmet later es ≤ unmet seen es
     unmet_falls [] = omega arith
     unmet_falls (e ∷ es) = by_tests (eq d e.0) (seen e.0) (marks e.0) (unmet_falls es)
       where

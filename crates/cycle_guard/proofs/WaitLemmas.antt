@@ -1,5 +1,5 @@
 -- Steps of the walk along waits.
-use Rattle.std.proofs.Common.{◌≡◌, ◌⊎◌, inl, inr, Bool, true, false, cond, List, [], ◌∷◌, ◌++◌, refl, sym, ap, ◌∙◌, subst}
+use Rattle.std.proofs.Common.{◌≡◌, ◌<◌, ◌+◌, ◌⊎◌, inl, inr, Bool, true, false, cond, List, [], ◌∷◌, ◌++◌, refl, sym, ap, ◌∙◌, subst, length, length-append, arith}
 use Rattle.dice_key.specs.Lawful.{IsEquality}
 use Rattle.task_share.specs.Asked.{Leads, stays, asks_on}
 use Rattle.task_share.specs.Seen.{Share, waits_at, asked_of, IsMirrored}
@@ -7,6 +7,9 @@ use Rattle.dice_key.proofs.KeySets.{any_has, has_any}
 use Rattle.lists.proofs.Members.{has_either, has_left, has_right}
 use Rattle.lists.specs.Lists.{Has}
 use Rattle.task_share.proofs.Leads.{leads_more}
+use Rattle.cycle_guard.specs.Search.{unmet}
+use Rattle.cycle_guard.proofs.SearchLemmas.{unmet_less, unmet_falls}
+use Rattle.std.proofs.lemmas.Bool.{cases_Bool}
 
 module _ {K T : Type 0} (eq : K → K → Bool) (ps : List (K × Share K T)) (start : K) where
   -- what was seen waits for what was seen or is to do; and the start leads to all that was seen or is to do
@@ -97,4 +100,20 @@ module _ {K T : Type 0} (eq : K → K → Bool) (law : IsEquality eq) (ps : List
         same q (inr h) = elim (has_either rest (key ∷ []) q (subst (λ t. Has t q) split h)) as (λ _. (later q ≡ true) ⊎ Has rest q) [
           | inl i ↦ inr i
           | inr j ↦ elim j as (λ _. (later q ≡ true) ⊎ Has rest q) [ inl e ↦ inl (subst (λ x. later x ≡ true) e key_seen) | inr b ↦ absurd b ]
+        ]
+
+    -- a key that was seen before or was not
+    pub walk_on : (after : List K) → (seen key ≡ true → after ≡ rest) → (seen key ≡ false → after ≡ rest ++ waits_at eq ps key) → IsWalk eq ps start later after
+    walk_on after stayed grows = elim (cases_Bool (seen key)) as (λ _. IsWalk eq ps start later after) [
+      | inl t ↦ subst (IsWalk eq ps start later) (sym (stayed t)) (walk_same t)
+      | inr f ↦ walk_more after (grows f)
+    ]
+
+    -- one key less to do
+    pub walk_less : (after : List K) → (seen key ≡ true → after ≡ rest) → (seen key ≡ false → after ≡ rest ++ waits_at eq ps key) → unmet later ps + length after < unmet seen ps + length todo
+    walk_less after stayed grows =
+        let a = ap length split ∙ length-append rest (key ∷ []) in
+        elim (cases_Bool (seen key)) as (λ _. unmet later ps + length after < unmet seen ps + length todo) [
+          | inl t ↦ (let b = ap length (stayed t) in let u = unmet_falls eq law seen later key marks ps in omega arith)
+          | inr f ↦ (let b = ap length (grows f) ∙ length-append rest (waits_at eq ps key) in let u = unmet_less eq law seen later key marks ps f in omega arith)
         ]

@@ -1,5 +1,5 @@
 //! The search for a cycle.
-ghost use Rattle.std.specs.Prelude.{◌≡◌, ◌<◌, [], ◌∷◌, map, reverse, IfOk, OnOk, IfSome, IfNone, OnSome};
+ghost use Rattle.std.specs.Prelude.{◌≡◌, ◌<◌, ◌+◌, [], ◌∷◌, ◌++◌, map, reverse, IfOk, OnOk, IfSome, IfNone, OnSome};
 ghost use Rattle.std.specs.Arc.{arc_value};
 ghost use Rattle.std.specs.Option.{option_copied, option_map};
 ghost use Rattle.task_share.specs.Asked.{Leads};
@@ -62,20 +62,19 @@ fn search<K: Eq + Hash + Drop, T: Drop>(
     ensures none { IfOk result (λ o. IfNone o (Leads (asked_of K.eq table.now) (arc_value to.now) (arc_value from.now) → ⊥)) }
 {
     table_in_order(table);
-    let mut path = first_path(alloc, from, to)?;
-    let mut seen = first_seen(alloc, to)?;
     let mut passed: Vec<usize> = Vec::new(alloc);
     passed.push(0)?;
+    let mut path = first_path(alloc, from, to)?;
+    let mut seen = first_seen(alloc, to)?;
     while let Some(count) = passed.pop() {
         let Some(next) = wait_at(table, &path, count) else {
             path.pop();
             continue;
         };
-        passed.push(count + 1)?;
         if next == from {
             return Ok(Some(Path::from_keys(path)));
         }
-        go_on(&mut path, &mut passed, &mut seen, next)?;
+        go_on(&mut path, &mut passed, &mut seen, next, count)?;
     }
     Ok(None)
 }
@@ -99,15 +98,18 @@ fn first_seen<K: Eq + Hash + Drop>(alloc: Global, key: &Arc<K>) -> Result<HashSe
     Ok(seen)
 }
 
-/// Goes on to a key, where it was not met before.
+/// Passes the wait number `count` of the last key of the path, from 0, and goes on to its key, where it was not met before.
 fn go_on<K: Eq + Hash + Drop>(
     path: &mut Vec<Arc<K>>,
     passed: &mut Vec<usize>,
     seen: &mut HashSet<Arc<K>>,
     next: &Arc<K>,
+    count: usize,
 ) -> Result<(), NoMemory>
-    ensures { OnOk result (GoesOn K.eq (arc_value next.now) path.old.items path.new.items passed.old.items passed.new.items seen.old.keys seen.new.keys) }
+    requires { count < usize.MAX }
+    ensures { OnOk result (GoesOn K.eq (arc_value next.now) path.old.items path.new.items (passed.old.items ++ (count + 1) ∷ []) passed.new.items seen.old.keys seen.new.keys) }
 {
+    passed.push(count + 1)?;
     if !seen.insert(Arc::try_clone(next)?)? {
         return Ok(());
     }

@@ -112,14 +112,21 @@ impl<U: Universe> Assignment<U> {
     pub fn try_clone(&self) -> Result<Assignment<U>, NoMemory>
         ensures { IfOk result (λ a. a ≡ self.now) }
     {
+        let answered = copied(&self.answered)?;
+        self.with_answered(answered)
+    }
+
+    /// The same name and work, with these answered batches.
+    fn with_answered(&self, answered: Option<Arc<Trace<U>>>) -> Result<Assignment<U>, NoMemory>
+        ensures { IfOk result (λ a. a ≡ record { name = self.now.name; answered = batches_in answered; work = self.now.work }) }
+    {
+        let name = self.name.try_clone()?;
+        let earlier = copied_earlier(&self.earlier)?;
         Ok(Assignment {
             alloc: self.alloc,
-            name: self.name.try_clone()?,
-            answered: copied(&self.answered)?,
-            earlier: match &self.earlier {
-                Some(earlier) => Some(earlier.try_clone()?),
-                None => None,
-            },
+            name,
+            answered,
+            earlier,
         })
     }
 
@@ -133,10 +140,9 @@ impl<U: Universe> Assignment<U> {
         requires { length answers.now ≡ length batch.now }
         ensures { IfOk result (λ a. a ≡ answered_more self.now batch.now answers.now) }
     {
-        let answered = Arc::new(self.alloc, self.extended_trace(batch, answers)?)?;
-        let mut next = self.try_clone()?;
-        next.answered = Some(answered);
-        Ok(next)
+        let trace = self.extended_trace(batch, answers)?;
+        let answered = Arc::new(self.alloc, trace)?;
+        self.with_answered(Some(answered))
     }
 
     /// The trace of the answered batches, with one more.
@@ -184,6 +190,18 @@ fn copied<U: Universe>(answered: &Option<Arc<Trace<U>>>) -> Result<Option<Arc<Tr
 {
     match answered {
         Some(trace) => Ok(Some(Arc::try_clone(trace)?)),
+        None => Ok(None),
+    }
+}
+
+/// The same earlier value again, shared.
+fn copied_earlier<U: Universe>(
+    earlier: &Option<Earlier<U>>,
+) -> Result<Option<Earlier<U>>, NoMemory>
+    ensures { IfOk result (λ e. work_of e ≡ work_of earlier.now) }
+{
+    match earlier {
+        Some(earlier) => Ok(Some(earlier.try_clone()?)),
         None => Ok(None),
     }
 }

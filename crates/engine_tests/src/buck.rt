@@ -1,11 +1,8 @@
 //! A promise on the universe of Buck targets: one seat's calls, one after another.
-ghost use Rattle.std.specs.Prelude.{◌≡◌};
-ghost use Rattle.turnstile.specs.Seats.{IsSeatOf, IsWriter};
-
-use crate::way::{Came, answered, settled, start, way_of};
+use crate::way::{Came, Course, course_of};
 use action_digest::{Buck, Key, Value};
 use buck_label::{Label, Path, Text};
-use dice_engine::{Engine, Seat, Updater, Worked};
+use dice_engine::{Updater, Worked};
 use dice_key::NoMemory;
 use std::alloc::Global;
 use std::sync::{Arc, Wait};
@@ -17,7 +14,7 @@ const FILE: &[u8] = b"write_file(name = \"w\", out = \"w.txt\", content = \"abc\
 const DIGEST: &str = "72801cd249fb51131b7bbb93151ac0d3277ce1ef6febdf4fdc9f980dbb59266d";
 
 /// What a promise has come to.
-#[derive(Clone, Copy, Debug, PartialEq, Eq)]
+#[derive(Clone, Copy, PartialEq)]
 enum Seen {
     Pending,
     /// The digest that is wanted.
@@ -49,23 +46,15 @@ fn seen_of(alloc: Global, came: &Came<Buck>) -> Result<Seen, NoMemory> {
     }
 }
 
-/// Commits the target file of the package `a`, and answers the version, if the commit is not refused.
-fn commit<R: Wait>(
-    rt: &R,
-    alloc: Global,
-    engine: &Engine<Buck>,
-    seat: &mut Seat<Buck>,
-) -> Result<Option<u64>, NoMemory>
-    requires { IsSeatOf engine.now seat.old × IsWriter seat.old }
-    ensures seat { IsSeatOf engine.now seat.new }
-    ensures same { (seat.new.number ≡ seat.old.number) × (seat.new.writers ≡ seat.old.writers) }
-{
+/// The target file of the package `a`, to be committed.
+fn updater_of(alloc: Global) -> Result<Updater<Buck>, NoMemory> {
     let path = Path::read(alloc, b"a/BUCK").map_err(|_| NoMemory)?;
+    let key = Arc::new(alloc, Key::Source(path))?;
     let file = Text::from_slice(alloc, FILE)?;
-    let mut updater = Updater::new(alloc);
     let value = Arc::new(alloc, Value::Source(Some(file)))?;
-    updater.changed_to(Arc::new(alloc, Key::Source(path))?, value)?;
-    Ok(engine.commit(rt, seat, &updater).ok())
+    let mut updater = Updater::new(alloc);
+    updater.changed_to(key, value)?;
+    Ok(updater)
 }
 
 fn digest_key(alloc: Global) -> Result<Arc<Key>, NoMemory> {
@@ -73,18 +62,26 @@ fn digest_key(alloc: Global) -> Result<Arc<Key>, NoMemory> {
     Ok(Arc::new(alloc, Key::Digest(label))?)
 }
 
+/// Whether the digest is computed once, by one job, and the promise goes when its transaction is closed.
+fn comes_to_digest(alloc: Global, course: &Course<Buck>) -> Result<bool, NoMemory> {
+    let way = &course.way;
+    let first = seen_of(alloc, &way.first)? == Seen::Pending;
+    let last = seen_of(alloc, &way.last)? == Seen::Digest;
+    let gone = seen_of(alloc, &way.gone)? == Seen::Gone;
+    let worked = way.worked == Worked::Did && way.idle == Worked::Idle;
+    Ok(course.made == Some(1) && way.version == 1 && worked && first && last && gone)
+}
+
+fn digest_comes<R: Wait>(rt: &R, alloc: Global) -> Result<bool, NoMemory> {
+    let key = digest_key(alloc)?;
+    let updater = updater_of(alloc)?;
+    let course = course_of(rt, alloc, Buck::new(alloc)?, &updater, key)?;
+    comes_to_digest(alloc, &course)
+}
+
 #[test]
 fn a_promise_is_pending_then_settled_and_at_last_gone(rt: HostRuntime) -> Result<(), Fail> {
-    let alloc = rt.alloc();
-    let (engine, mut seat) = start(&rt, alloc, Buck::new(alloc)?, 1)?;
-    let made = commit(&rt, alloc, &engine, &mut seat)?;
-    assert_eq!(rt; made, Some(1));
-    let key = digest_key(alloc)?;
-    let way = way_of(&rt, alloc, &engine, &mut seat, key)?;
-    assert_eq!(rt; way.version, 1);
-    assert_eq!(rt; (way.worked, way.idle), (Worked::Did, Worked::Idle));
-    assert_eq!(rt; seen_of(alloc, &answered(way.first))?, Seen::Pending);
-    assert_eq!(rt; seen_of(alloc, &settled(way.last))?, Seen::Digest);
-    assert_eq!(rt; seen_of(alloc, &answered(way.gone))?, Seen::Gone);
+    let all = digest_comes(&rt, rt.alloc())?;
+    assert!(rt; all);
     Ok(())
 }

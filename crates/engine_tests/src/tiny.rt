@@ -2,7 +2,7 @@
 ghost use Rattle.std.specs.Prelude.{◌≡◌};
 ghost use Rattle.turnstile.specs.Seats.{IsSeatOf, IsWriter};
 
-use crate::way::{Came, answered, settled, start, way_of};
+use crate::way::{Came, Course, course_of, start, waited};
 use dice_engine::{CommitRefusal, Engine, Open, Seat, Updater, Worked};
 use dice_key::{Line, NoMemory};
 use std::alloc::Global;
@@ -11,7 +11,7 @@ use std::test::Fail;
 use tiny_universe::{Place, Tiny, Value};
 
 /// What a promise has come to; of a cycle the number of its keys.
-#[derive(Clone, Copy, Debug, PartialEq, Eq)]
+#[derive(Clone, Copy, PartialEq)]
 enum Seen {
     Pending,
     Number(u64),
@@ -33,12 +33,23 @@ fn seen_of(came: &Came<Tiny>) -> Seen {
 }
 
 /// What a commit came to: its version, or a key that it may not set.
-#[derive(Clone, Copy, Debug, PartialEq, Eq)]
+#[derive(Clone, Copy, PartialEq)]
 enum Made {
     Version(u64),
     NotInjected(Place),
     Twice(Place),
     NoMemory,
+}
+
+/// Numbers for keys, to be committed.
+fn updater_of(alloc: Global, changes: &[(Place, u64)]) -> Result<Updater<Tiny>, NoMemory> {
+    let mut updater = Updater::new(alloc);
+    for (place, number) in changes {
+        let key = Arc::new(alloc, *place)?;
+        let value = Arc::new(alloc, Value::Number(*number))?;
+        updater.changed_to(key, value)?;
+    }
+    Ok(updater)
 }
 
 /// Commits numbers for keys.
@@ -53,11 +64,7 @@ fn commit<R: Wait>(
     ensures seat { IsSeatOf engine.now seat.new }
     ensures same { (seat.new.number ≡ seat.old.number) × (seat.new.writers ≡ seat.old.writers) }
 {
-    let mut updater = Updater::new(alloc);
-    for (place, number) in changes {
-        let value = Arc::new(alloc, Value::Number(*number))?;
-        updater.changed_to(Arc::new(alloc, *place)?, value)?;
-    }
+    let updater = updater_of(alloc, changes)?;
     match engine.commit(rt, seat, &updater) {
         Ok(version) => Ok(Made::Version(version)),
         Err(CommitRefusal::NotInjected(key)) => Ok(Made::NotInjected(**key)),
@@ -99,47 +106,64 @@ fn all_as_wanted<R: Wait>(
     Ok(true)
 }
 
+/// Whether they do so on an engine of their own.
+fn all_as_wanted_alone<R: Wait>(rt: &R, alloc: Global) -> Result<bool, NoMemory> {
+    let (engine, mut seat) = start(rt, alloc, Tiny::new(alloc)?, 1)?;
+    all_as_wanted(rt, alloc, &engine, &mut seat)
+}
+
 #[test]
 fn only_values_that_differ_make_a_version(rt: HostRuntime) -> Result<(), Fail> {
-    let alloc = rt.alloc();
-    let (engine, mut seat) = start(&rt, alloc, Tiny::new(alloc)?, 1)?;
-    let all = all_as_wanted(&rt, alloc, &engine, &mut seat)?;
+    let all = all_as_wanted_alone(&rt, rt.alloc())?;
     assert!(rt; all);
     Ok(())
 }
 
+/// What a run comes to that asks for a sum, on the cells that it stands on.
+fn course_of_sum<R: Wait>(rt: &R, alloc: Global) -> Result<Course<Tiny>, NoMemory> {
+    let key = Arc::new(alloc, Place::Sum(1, 2))?;
+    let updater = updater_of(alloc, &CELLS)?;
+    let universe = Tiny::new(alloc)?;
+    course_of(rt, alloc, universe, &updater, key)
+}
+
+/// Whether the sum of the cells is computed once, by one job, and the promise goes when its transaction is closed.
+fn comes_to_five(course: &Course<Tiny>) -> bool {
+    let way = &course.way;
+    let worked = way.worked == Worked::Did && way.idle == Worked::Idle;
+    let first = seen_of(&way.first) == Seen::Pending;
+    let last = seen_of(&way.last) == Seen::Number(5);
+    let gone = seen_of(&way.gone) == Seen::Gone;
+    !course.taken && way.version == 1 && worked && first && last && gone
+}
+
 #[test]
 fn a_promise_is_pending_then_settled_and_at_last_gone(rt: HostRuntime) -> Result<(), Fail> {
-    let alloc = rt.alloc();
-    let (engine, mut seat) = start(&rt, alloc, Tiny::new(alloc)?, 1)?;
-    let made = commit(&rt, alloc, &engine, &mut seat, &CELLS)?;
-    assert_eq!(rt; made, Made::Version(1));
-    let key = Arc::new(alloc, Place::Sum(1, 2))?;
-    let way = way_of(&rt, alloc, &engine, &mut seat, key)?;
-    assert!(rt; !engine.is_taken());
-    assert_eq!(rt; way.version, 1);
-    assert_eq!(rt; (way.worked, way.idle), (Worked::Did, Worked::Idle));
-    assert_eq!(rt; seen_of(&answered(way.first)), Seen::Pending);
-    assert_eq!(rt; seen_of(&settled(way.last)), Seen::Number(5));
-    assert_eq!(rt; seen_of(&answered(way.gone)), Seen::Gone);
+    let course = course_of_sum(&rt, rt.alloc())?;
+    let (made, all) = (course.made, comes_to_five(&course));
+    drop(course);
+    assert!(rt; made == Some(1) && all);
     Ok(())
+}
+
+/// What a seat did that works on what another one waits for, what the other one sees, the number of the first when it is joined, and
+/// what is left to do then.
+fn two_seats<R: Wait>(rt: &R, alloc: Global) -> Result<(Worked, Seen, u64, Worked), NoMemory> {
+    let ring = Arc::new(alloc, Place::Ring(true))?;
+    let (engine, mut zero) = start(rt, alloc, Tiny::new(alloc)?, 1)?;
+    let mut one = engine.split(&mut zero)?;
+    let (worked, last) = waited(rt, &engine, &mut zero, &mut one, ring)?;
+    let seen = seen_of(&last);
+    let number = engine.join(&mut zero, one);
+    let left = engine.work(rt, &mut zero, &Open, 0);
+    Ok((worked, seen, number, left))
 }
 
 #[test]
 fn a_seat_waits_for_what_another_seat_may_work_on(rt: HostRuntime) -> Result<(), Fail> {
-    let alloc = rt.alloc();
-    let (engine, mut zero) = start(&rt, alloc, Tiny::new(alloc)?, 1)?;
-    let mut one = engine.split(&mut zero)?;
-    let transaction = engine.open(&rt, &mut zero)?;
-    let ring = Arc::new(alloc, Place::Ring(true))?;
-    let promise = engine.ask(&rt, &mut zero, &transaction, ring)?;
-    let worked = engine.work(&rt, &mut one, &Open, 1);
-    let last = engine.wait(&rt, &mut zero, &promise, &Open, 0)?;
-    engine.leave(&rt, &mut zero, promise);
-    assert_eq!(rt; worked, Worked::Did);
-    assert_eq!(rt; seen_of(&settled(last)), Seen::Cycle(2));
-    assert_eq!(rt; engine.join(&mut zero, one), 1);
-    assert_eq!(rt; engine.work(&rt, &mut zero, &Open, 0), Worked::Idle);
+    let (worked, seen, number, left) = two_seats(&rt, rt.alloc())?;
+    assert!(rt; worked == Worked::Did && seen == Seen::Cycle(2));
+    assert!(rt; number == 1 && left == Worked::Idle);
     Ok(())
 }
 
@@ -156,23 +180,20 @@ fn are_these(lines: &[Line], texts: &[&str]) -> bool {
     true
 }
 
+const LINES: [&str; 5] = [
+    "commit 0 1 2",
+    "open 0 1",
+    "ask 0 1 sum 1 2",
+    "start 1 sum 1 2 new",
+    "end 1 sum 1 2",
+];
+
 #[test]
 fn the_log_has_a_line_for_each_event(rt: HostRuntime) -> Result<(), Fail> {
-    let alloc = rt.alloc();
-    let (engine, mut seat) = start(&rt, alloc, Tiny::new(alloc)?, 1)?;
-    let none = engine.log(&rt, alloc, &mut seat)?;
-    assert!(rt; none.is_empty());
-    let made = commit(&rt, alloc, &engine, &mut seat, &CELLS)?;
-    assert_eq!(rt; made, Made::Version(1));
-    let key = Arc::new(alloc, Place::Sum(1, 2))?;
-    let way = way_of(&rt, alloc, &engine, &mut seat, key)?;
-    let texts = [
-        "commit 0 1 2",
-        "open 0 1",
-        "ask 0 1 sum 1 2",
-        "start 1 sum 1 2 new",
-        "end 1 sum 1 2",
-    ];
-    assert!(rt; are_these(&way.lines, &texts));
+    let course = course_of_sum(&rt, rt.alloc())?;
+    let (before, made) = (course.before, course.made);
+    let all = are_these(&course.way.lines, &LINES);
+    drop(course);
+    assert!(rt; before == 0 && made == Some(1) && all);
     Ok(())
 }

@@ -8,7 +8,7 @@ use std::test::Fail;
 use std::thread::{Threads, join};
 use turnstile::{NoMemory, Seat, Tale, Turnstile};
 
-#[derive(Clone, Copy, Debug, PartialEq, Eq)]
+#[derive(Clone, Copy, PartialEq)]
 struct Entry {
     by: Option<u64>,
     turn: u64,
@@ -70,29 +70,83 @@ fn write(ledger: &mut Ledger, entry: Entry) -> Result<(), AllocError>
     Ok(())
 }
 
-#[test]
-fn a_seat_sees_what_another_did(rt: HostRuntime) -> Result<(), Fail> {
-    let (turnstile, mut zero) = start(rt.alloc(), 2, 1)?;
-    let mut one = turnstile.split(&mut zero)?;
-    assert_eq!(rt; (zero.number(), zero.spare()), (0, (1 << 32) - 2));
-    assert_eq!(rt; (one.number(), one.spare()), (1, 0));
-    assert_eq!(rt; (one.left(), turnstile.newest(&mut zero)), ((0, 0, 0), 0));
-    add(&rt, &turnstile, &mut one, 7)?;
-    assert_eq!(rt; (one.left(), turnstile.newest(&mut zero)), ((1, 0, 0), 1));
-    let mut turn = turnstile.enter(&rt, &mut zero);
+/// The first entry that a seat finds, and whether the turnstile is taken in its turn and after it.
+fn first_entry<R: Wait>(
+    rt: &R,
+    turnstile: &Turnstile<Ledger>,
+    seat: &mut Seat<Entry>,
+) -> (Option<Entry>, bool, bool)
+    requires { IsSeatOf turnstile.now seat.old }
+    ensures { IsSeatOf turnstile.now seat.new }
+{
+    let mut turn = turnstile.enter(rt, seat);
     let seen = turn.state().entries.first().copied();
     let taken = turnstile.is_taken();
     turnstile.leave(turn);
-    assert_eq!(rt; (taken, turnstile.is_taken()), (true, false));
-    let entry = Entry {
-        by: Some(1),
-        turn: 7,
+    (seen, taken, turnstile.is_taken())
+}
+
+/// What two seats are seen to do, in the order in which it happens.
+#[derive(Drop)]
+struct Course {
+    /// The number of each seat, and how many it can give away.
+    numbers: [(u64, u64); 2],
+    /// What the second seat left, and the newest version for the first, before the second adds an entry and after it.
+    before: ((u64, u64, u64), u64),
+    after: ((u64, u64, u64), u64),
+    /// The first entry that the first seat finds, and whether the turnstile is taken in its turn and after it.
+    found: (Option<Entry>, bool, bool),
+    /// The number of the seat that is joined, and then what the first seat left, and its newest version.
+    joined: u64,
+    last: ((u64, u64, u64), u64),
+    ledger: Ledger,
+}
+
+fn course_of_two<R: Wait>(rt: &R, alloc: Global) -> Result<Course, AllocError> {
+    let (turnstile, mut zero) = start(alloc, 2, 1)?;
+    let Ok(mut one) = turnstile.split(&mut zero) else {
+        return Err(AllocError);
     };
-    assert_eq!(rt; seen, Some(entry));
-    assert_eq!(rt; turnstile.join(&mut zero, one), 1);
-    assert_eq!(rt; (zero.left(), turnstile.newest(&mut zero)), ((1, 0, 0), 1));
-    let ledger = turnstile.end(&rt, zero);
-    assert_eq!(rt; ledger.entries.as_slice(), [entry].as_slice());
+    let numbers = [(zero.number(), zero.spare()), (one.number(), one.spare())];
+    let before = (one.left(), turnstile.newest(&mut zero));
+    add(rt, &turnstile, &mut one, 7)?;
+    let after = (one.left(), turnstile.newest(&mut zero));
+    let found = first_entry(rt, &turnstile, &mut zero);
+    let joined = turnstile.join(&mut zero, one);
+    let last = (zero.left(), turnstile.newest(&mut zero));
+    let ledger = turnstile.end(rt, zero);
+    Ok(Course {
+        numbers,
+        before,
+        after,
+        found,
+        joined,
+        last,
+        ledger,
+    })
+}
+
+const ENTRY: Entry = Entry {
+    by: Some(1),
+    turn: 7,
+};
+
+/// Whether the first seat sees the entry of the second one, and each knows what is its own.
+fn is_as_wanted(course: &Course) -> bool {
+    let numbers = course.numbers == [(0, (1 << 32) - 2), (1, 0)];
+    let left = course.before == ((0, 0, 0), 0) && course.after == ((1, 0, 0), 1);
+    let (seen, taken, later) = course.found;
+    let found = seen == Some(ENTRY) && taken && !later;
+    let last = course.joined == 1 && course.last == ((1, 0, 0), 1);
+    numbers && left && found && last && course.ledger.entries.as_slice() == [ENTRY].as_slice()
+}
+
+#[test]
+fn a_seat_sees_what_another_did(rt: HostRuntime) -> Result<(), Fail> {
+    let course = course_of_two(&rt, rt.alloc())?;
+    let all = is_as_wanted(&course);
+    drop(course);
+    assert!(rt; all);
     Ok(())
 }
 
@@ -158,6 +212,19 @@ fn add_all_twice<R: Wait + Threads + Sync>(
     (one, first.and(second))
 }
 
+/// How many entries each of four seats made, where each of them counts its turns from 0.
+fn counts(entries: &[Entry]) -> Option<[u64; 4]> {
+    let mut next = [0u64; 4];
+    for entry in entries {
+        let by = entry.by? as usize;
+        if by >= 4 || entry.turn != next[by] {
+            return None;
+        }
+        next[by] = next[by].wrapping_add(1);
+    }
+    Some(next)
+}
+
 #[test]
 fn four_threads_leave_each_event_once(rt: HostRuntime) -> Result<(), Fail> {
     let (turnstile, mut zero) = start(rt.alloc(), 4, 40_000)?;
@@ -176,17 +243,11 @@ fn four_threads_leave_each_event_once(rt: HostRuntime) -> Result<(), Fail> {
             ensures { IsSeatOf shared.entry.now result.0 }
         { add_all_twice(threads, shared, (two, three)) },
     );
-    first?;
-    second?;
     turnstile.join(&mut zero, other);
     let ledger = turnstile.end(&rt, zero);
-    let mut next = [0u64; 4];
-    for entry in ledger.entries.iter() {
-        let by = entry.by.map_or(4, |by| by) as usize;
-        assert!(rt; by < 4, "{by}");
-        assert_eq!(rt; entry.turn, next[by]);
-        next[by] = next[by].wrapping_add(1);
-    }
-    assert_eq!(rt; next, [TURNS; 4]);
+    first?;
+    second?;
+    let all = counts(&ledger.entries) == Some([TURNS; 4]);
+    assert!(rt; all);
     Ok(())
 }

@@ -2,7 +2,7 @@
 ghost use Rattle.std.specs.Prelude.{◌≡◌, IfOk};
 ghost use Rattle.turnstile.specs.Seats.{first_seat, IsSeatOf, IsWriter};
 
-use dice_engine::{Answer, Engine, Open, Seat, Settled, Worked};
+use dice_engine::{Answer, Engine, Open, Seat, Settled, Updater, Worked};
 use dice_key::{KeyRef, Line, NoMemory, Universe, ValueRef, Version};
 use std::alloc::Global;
 use std::sync::{Arc, Wait};
@@ -20,7 +20,6 @@ pub(crate) fn start<U: Universe, R: Wait>(
 }
 
 /// What a promise has come to; of a cycle the number of its keys.
-#[derive(Drop)]
 pub(crate) enum Came<U: Universe> {
     Pending,
     Value(ValueRef<U>),
@@ -28,7 +27,17 @@ pub(crate) enum Came<U: Universe> {
     Gone,
 }
 
-pub(crate) fn answered<U: Universe>(answer: Answer<U>) -> Came<U> {
+// (One function for all places that drop one: a derived drop is written out at each.)
+impl<U: Universe> Drop for Came<U> {
+    fn drop(self) {
+        match self {
+            Came::Value(_value) => {}
+            Came::Pending | Came::Cycle(_) | Came::Gone => {}
+        }
+    }
+}
+
+fn answered<U: Universe>(answer: Answer<U>) -> Came<U> {
     match answer {
         Answer::Pending => Came::Pending,
         Answer::Value(value) => Came::Value(value),
@@ -37,7 +46,7 @@ pub(crate) fn answered<U: Universe>(answer: Answer<U>) -> Came<U> {
     }
 }
 
-pub(crate) fn settled<U: Universe>(settled: Settled<U>) -> Came<U> {
+fn settled<U: Universe>(settled: Settled<U>) -> Came<U> {
     match settled {
         Settled::Value(value) => Came::Value(value),
         Settled::Cycle(path) => Came::Cycle(path.keys().len()),
@@ -46,18 +55,32 @@ pub(crate) fn settled<U: Universe>(settled: Settled<U>) -> Came<U> {
 }
 
 /// What one seat sees of a promise, in the order in which it calls.
-#[derive(Drop)]
 pub(crate) struct Way<U: Universe> {
     /// The version that its transaction reads.
     pub(crate) version: Version,
-    pub(crate) first: Answer<U>,
+    pub(crate) first: Came<U>,
     pub(crate) worked: Worked,
-    pub(crate) last: Settled<U>,
+    pub(crate) last: Came<U>,
     /// The lines of the journal then.
     pub(crate) lines: Vec<Line>,
     pub(crate) idle: Worked,
     /// What a poll answers once the transaction is closed.
-    pub(crate) gone: Answer<U>,
+    pub(crate) gone: Came<U>,
+}
+
+// (One function for all places that drop one.)
+impl<U: Universe> Drop for Way<U> {
+    fn drop(self) {
+        let Way {
+            version: _,
+            first: _first,
+            worked: _,
+            last: _last,
+            lines: _lines,
+            idle: _,
+            gone: _gone,
+        } = self;
+    }
 }
 
 /// A key is asked for in a transaction of its own, which is closed in the end.
@@ -74,8 +97,10 @@ pub(crate) fn way_of<U: Universe, R: Wait>(
     let version = transaction.version;
     let promise = engine.ask(rt, seat, &transaction, key)?;
     let first = engine.poll(rt, seat, &promise)?;
+    let first = answered(first);
     let worked = engine.work(rt, seat, &Open, 0);
     let last = engine.wait(rt, seat, &promise, &Open, 0)?;
+    let last = settled(last);
     let lines = engine.log(rt, alloc, seat)?;
     let idle = engine.work(rt, seat, &Open, 0);
     engine.close(rt, seat, transaction);
@@ -87,6 +112,71 @@ pub(crate) fn way_of<U: Universe, R: Wait>(
         last,
         lines,
         idle,
-        gone,
+        gone: answered(gone),
     })
+}
+
+/// What a run of one seat comes to.
+pub(crate) struct Course<U: Universe> {
+    /// How many lines the journal has at first.
+    pub(crate) before: usize,
+    /// The version of the commit, where it is not refused.
+    pub(crate) made: Option<Version>,
+    pub(crate) way: Way<U>,
+    /// Whether a seat has a turn in the end.
+    pub(crate) taken: bool,
+}
+
+// (One function for all places that drop one.)
+impl<U: Universe> Drop for Course<U> {
+    fn drop(self) {
+        let Course {
+            before: _,
+            made: _,
+            way: _way,
+            taken: _,
+        } = self;
+    }
+}
+
+/// A commit on an engine of its own, and then the way of a promise for a key.
+pub(crate) fn course_of<U: Universe, R: Wait>(
+    rt: &R,
+    alloc: Global,
+    universe: U,
+    updater: &Updater<U>,
+    key: KeyRef<U>,
+) -> Result<Course<U>, NoMemory> {
+    let (engine, mut seat) = start(rt, alloc, universe, 1)?;
+    let before = engine.log(rt, alloc, &mut seat)?.len();
+    let made = engine.commit(rt, &mut seat, updater).ok();
+    let way = way_of(rt, alloc, &engine, &mut seat, key)?;
+    let taken = engine.is_taken();
+    Ok(Course {
+        before,
+        made,
+        way,
+        taken,
+    })
+}
+
+/// Asks for a key by one seat, lets another one work once, and waits; what the other one did, and what the promise has come to.
+pub(crate) fn waited<U: Universe, R: Wait>(
+    rt: &R,
+    engine: &Engine<U>,
+    zero: &mut Seat<U>,
+    one: &mut Seat<U>,
+    key: KeyRef<U>,
+) -> Result<(Worked, Came<U>), NoMemory>
+    requires zero { IsSeatOf engine.now zero.old × IsWriter zero.old }
+    requires one { IsSeatOf engine.now one.old }
+    ensures zero { IsSeatOf engine.now zero.new }
+    ensures one { IsSeatOf engine.now one.new }
+{
+    let transaction = engine.open(rt, zero)?;
+    let promise = engine.ask(rt, zero, &transaction, key)?;
+    let worked = engine.work(rt, one, &Open, 1);
+    let last = engine.wait(rt, zero, &promise, &Open, 0)?;
+    engine.leave(rt, zero, promise);
+    Ok((worked, settled(last)))
 }

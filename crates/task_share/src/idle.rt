@@ -58,19 +58,11 @@ fn take_idle<K: Eq + Hash + Drop, T: Drop>(
     let Some(place) = places.remove(&key) else {
         return None;
     };
-    let Some(found) = task_of(place) else {
+    let Some(found) = place.into_task() else {
         return None;
     };
     let (task, waits) = found;
     Some((key, task, waits))
-}
-
-/// The task of a place with what it waits for, where there is one.
-fn task_of<K: Eq + Hash + Drop, T: Drop>(place: Place<K, T>) -> Option<(T, IndexSet<Arc<K>>)>
-    ensures some { IfSome result (λ f. (place.task ≡ Some f.0) × (f.1.keys ≡ place.waits.keys)) }
-    ensures none { IfNone result (place.task ≡ None) }
-{
-    place.task.zip(Some(place.waits))
 }
 
 /// Takes one task out that has not ended and that nobody asks for, with what it waits for.

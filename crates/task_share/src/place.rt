@@ -1,5 +1,5 @@
 //! What a table keeps at a key.
-ghost use Rattle.std.specs.Prelude.{◌≡◌, ◌<◌, ◌≤◌, ◌++◌, true, map, length, is_some, vec_capacity};
+ghost use Rattle.std.specs.Prelude.{◌≡◌, ◌<◌, ◌≤◌, ◌++◌, Some, None, IfSome, IfNone, true, map, length, is_some, vec_capacity};
 ghost use Rattle.std.specs.Arc.{arc_value};
 ghost use Rattle.std.specs.Option.{option_to_list};
 ghost use Rattle.task_share.specs.Seen.{has_live};
@@ -13,7 +13,6 @@ use std::sync::Arc;
 /// The place of a key: its task, whether it has not ended, who asks for it, and what it waits for. A place may stand before its task does, as room.
 ///
 /// The place holds its key until the key goes to the candidates, so that a key may become one without memory.
-#[derive(Drop)]
 pub struct Place<K: Eq + Hash + Drop, T: Drop> {
     pub task: Option<T>,
     pub live: bool,
@@ -21,6 +20,38 @@ pub struct Place<K: Eq + Hash + Drop, T: Drop> {
     pub askers: IndexSet<Arc<K>>,
     pub waits: IndexSet<Arc<K>>,
     pub name: Option<Arc<K>>,
+}
+
+// (One function for all places that drop one: a derived drop is written out at each.)
+impl<K: Eq + Hash + Drop, T: Drop> Drop for Place<K, T> {
+    fn drop(self) {
+        let Place {
+            task: _task,
+            live: _,
+            promises: _promises,
+            askers: _askers,
+            waits: _waits,
+            name: _name,
+        } = self;
+    }
+}
+
+impl<K: Eq + Hash + Drop, T: Drop> Place<K, T> {
+    /// The task with what it waits for, where there is one.
+    pub fn into_task(self) -> Option<(T, IndexSet<Arc<K>>)>
+        ensures some { IfSome result (λ f. (self.task ≡ Some f.0) × (f.1.keys ≡ self.waits.keys)) }
+        ensures none { IfNone result (self.task ≡ None) }
+    {
+        let Place {
+            task,
+            live: _,
+            promises: _promises,
+            askers: _askers,
+            waits,
+            name: _name,
+        } = self;
+        task.zip(Some(waits))
+    }
 }
 
 /// Whether there is a task that has not ended.

@@ -203,9 +203,9 @@ impl<K: Eq + Hash + Drop, T: Drop> Table<K, T> {
         ensures err { OnErr result (KeepsAsks K.eq self.old self.new) }
         ensures count { ask_count self.new ≤ ask_count self.old + 1 }
     {
-        let wait = Wait::new(key, asker)?;
         self.reserve_asker(key)?;
         self.reserve_waits(asker, 1)?;
+        let wait = Wait::new(key, asker)?;
         self.add_wait(wait);
         Ok(())
     }

@@ -14,7 +14,7 @@ returns-then-not-branch g c =
     let old : met (arc_value c.args.next.now) ≡ true = subst (λ x. met x ≡ true) named (was_seen (met (arc_value c.in_ok-try_clone.field-0)) _ c.in_ok-insert.ensures.added c.if-not-branch.true) in
     record {
       marked = λ q. subst (λ x. is_met eq c.insert.new.self.keys q ≡ cond (eq x q) true (met q)) named (c.in_ok-insert.ensures.updates.0 (arc_with_value c.in_ok-try_clone.field-0 q));
-      stays = λ t. (refl, refl);
+      stays = λ t. (refl, c.in_ok-push.ensures.items);
       grows = λ f. absurd (let e : true ≡ false = sym old ∙ f in cc);
     }
 
@@ -28,5 +28,5 @@ returns g c =
     record {
       marked = λ q. subst (λ x. is_met eq c.insert.new.self.keys q ≡ cond (eq x q) true (met q)) named (c.in_ok-insert.ensures.updates.0 (arc_with_value c.in_ok-try_clone.field-0 q));
       stays = λ t. absurd (let e : true ≡ false = sym t ∙ new in cc);
-      grows = λ f. (ap (map arc_value) c.in_ok-push.ensures.items ∙ (map-append arc_value path (c.in_ok-try_clone-2.field-0 ∷ []) ∙ ap (λ x. map arc_value path ++ x ∷ []) c.in_ok-try_clone-2.ensures), c.in_ok-push-2.ensures.items);
+      grows = λ f. (ap (map arc_value) c.in_ok-push-2.ensures.items ∙ (map-append arc_value path (c.in_ok-try_clone-2.field-0 ∷ []) ∙ ap (λ x. map arc_value path ++ x ∷ []) c.in_ok-try_clone-2.ensures), c.in_ok-push-3.ensures.items ∙ ap (λ xs. xs ++ 0 ∷ []) c.in_ok-push.ensures.items);
     }

@@ -1,4 +1,4 @@
-use Rattle.std.proofs.Common.{◌≡◌, map, reverse, Some, None, ap, sym, ◌∙◌, subst, arith}
+use Rattle.std.proofs.Common.{◌≡◌, ◌+◌, ◌++◌, [], ◌∷◌, refl, map, reverse, Some, None, ap, sym, ◌∙◌, subst, arith}
 use Rattle.std.specs.Arc.{arc_value}
 use Rattle.task_share.specs.Seen.{asked_of}
 use Rattle.cycle_guard.specs.WaitCycle.{IsWaitCycle}
@@ -46,8 +46,8 @@ loop-count-preserved g c =
     let law = c.table_in_order.ensures.equality in
     let d = arc_value c.in-Some-wait_at.next.now in
     let next : next_wait eq c.args.table.now (reverse (map arc_value c.loop-count.path.items)) c.in-Some.count ≡ Some d = ap (λ xs. next_wait eq c.args.table.now (reverse (map arc_value xs)) c.in-Some.count) (sym c.deref.ensures.value) ∙ sym c.in-Some-wait_at.ensures.next in
-    (step_on eq law c.args.table.now (arc_value c.args.from.now) (arc_value c.args.to.now) c.loop-count.path.items c.go_on.new.path.items c.loop-count.passed.items c.pop.new.self.items c.push-in-Some.new.self.items c.go_on.new.passed.items c.in-Some.count d c.loop-count.seen.keys c.go_on.new.seen.keys
-    c.in-Some.ensures.items c.in_ok-push-2.ensures.items next (apart_by eq law d (arc_value c.args.from.now) c.if-eq.ensures) c.in_ok-go_on.ensures c.loop-count.invariant).0
+    (step_on eq law c.args.table.now (arc_value c.args.from.now) (arc_value c.args.to.now) c.loop-count.path.items c.go_on.new.path.items c.loop-count.passed.items c.pop.new.self.items (c.pop.new.self.items ++ (c.in-Some.count + 1) ∷ []) c.go_on.new.passed.items c.in-Some.count d c.loop-count.seen.keys c.go_on.new.seen.keys
+    c.in-Some.ensures.items refl next (apart_by eq law d (arc_value c.args.from.now) c.if-eq.ensures) c.in_ok-go_on.ensures c.loop-count.invariant).0
 
 pub loop-count-smaller : goal.loop-count-smaller
 loop-count-smaller g c =
@@ -55,8 +55,8 @@ loop-count-smaller g c =
     let law = c.table_in_order.ensures.equality in
     let d = arc_value c.in-Some-wait_at.next.now in
     let next : next_wait eq c.args.table.now (reverse (map arc_value c.loop-count.path.items)) c.in-Some.count ≡ Some d = ap (λ xs. next_wait eq c.args.table.now (reverse (map arc_value xs)) c.in-Some.count) (sym c.deref.ensures.value) ∙ sym c.in-Some-wait_at.ensures.next in
-    (step_on eq law c.args.table.now (arc_value c.args.from.now) (arc_value c.args.to.now) c.loop-count.path.items c.go_on.new.path.items c.loop-count.passed.items c.pop.new.self.items c.push-in-Some.new.self.items c.go_on.new.passed.items c.in-Some.count d c.loop-count.seen.keys c.go_on.new.seen.keys
-    c.in-Some.ensures.items c.in_ok-push-2.ensures.items next (apart_by eq law d (arc_value c.args.from.now) c.if-eq.ensures) c.in_ok-go_on.ensures c.loop-count.invariant).1
+    (step_on eq law c.args.table.now (arc_value c.args.from.now) (arc_value c.args.to.now) c.loop-count.path.items c.go_on.new.path.items c.loop-count.passed.items c.pop.new.self.items (c.pop.new.self.items ++ (c.in-Some.count + 1) ∷ []) c.go_on.new.passed.items c.in-Some.count d c.loop-count.seen.keys c.go_on.new.seen.keys
+    c.in-Some.ensures.items refl next (apart_by eq law d (arc_value c.args.from.now) c.if-eq.ensures) c.in_ok-go_on.ensures c.loop-count.invariant).1
 
 pub returns-clause-none : goal.returns-clause-none
 returns-clause-none g c = step_over g.K.PartialEq.eq c.table_in_order.ensures.equality c.args.table.now (arc_value c.args.from.now) (arc_value c.args.to.now) c.table_in_order.ensures.waits c.loop-count.path.items c.loop-count.passed.items (is_met g.K.PartialEq.eq c.loop-count.seen.keys) (let n = c.in_default.ensures.cases in omega arith) c.loop-count.invariant
