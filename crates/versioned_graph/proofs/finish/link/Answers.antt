@@ -1,5 +1,5 @@
 -- One key more is linked.
-use Rattle.std.proofs.Common.{◌≡◌, ◌≤◌, ◌||◌, ◌+◌, drop, length, sym, ap, ◌∙◌, refl, arith}
+use Rattle.std.proofs.Common.{◌≤◌, ◌||◌, ◌+◌, drop, length, sym, ap, ◌∙◌, refl, arith}
 use Rattle.std.specs.Arc.{arc_value}
 use Rattle.std.specs.List.{list_any}
 use Rattle.versioned_graph.proofs.LinkLemmas.{linked_none, linked_more, keys_left, batch_added}

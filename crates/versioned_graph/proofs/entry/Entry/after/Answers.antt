@@ -1,5 +1,5 @@
 -- What becomes of the entry.
-use Rattle.std.proofs.Common.{◌≡◌, ◌∙◌, ap, sym, nat_le, rules, arith}
+use Rattle.std.proofs.Common.{◌∙◌, ap, sym, nat_le, rules, arith}
 use Rattle.std.proofs.lemmas.Grind.{common_steps}
 use Rattle.std.specs.List.{list_any}
 use Rattle.versioned_graph.specs.Entries.{kept_of, joined}

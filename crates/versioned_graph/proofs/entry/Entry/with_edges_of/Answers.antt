@@ -1,5 +1,5 @@
 -- The keys of both sets.
-use Rattle.std.proofs.Common.{◌||◌, sym, ap, ◌∙◌, refl}
+use Rattle.std.proofs.Common.{◌||◌, sym, ap, ◌∙◌}
 use Rattle.std.specs.List.{list_any}
 use Rattle.versioned_graph.proofs.Sets.{any_map}
 use Rattle.versioned_graph.proofs.entry.Entry.with_edges_of.Goals as goal

@@ -1,7 +1,5 @@
-use Rattle.std.proofs.Common.{sym, ap, ◌∙◌}
+use Rattle.std.proofs.Common.{◌∙◌}
 use Rattle.std.specs.Arc.{arc_value}
-use Rattle.std.specs.Option.{option_copied}
-use Rattle.versioned_graph.specs.Edges.{deps_of}
 use Rattle.versioned_graph.proofs.store.Store.is_edge.Goals as goal
 
 pub returns-in-Some : goal.returns-in-Some

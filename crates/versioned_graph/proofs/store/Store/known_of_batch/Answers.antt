@@ -1,4 +1,3 @@
-use Rattle.std.specs.Arc.{arc_value}
 use Rattle.version_ranges.specs.Members.{contains}
 use Rattle.injected.specs.Seen.{cell_at}
 use Rattle.versioned_graph.specs.Entries.{entry_at, known, all_of_batch}

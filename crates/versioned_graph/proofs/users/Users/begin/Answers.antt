@@ -1,5 +1,5 @@
 -- The first user of a key.
-use Rattle.std.proofs.Common.{◌≡◌, map, ap, sym, ◌∙◌, Some, None, subst, refl, false}
+use Rattle.std.proofs.Common.{◌≡◌, map, ap, sym, ◌∙◌, Some, subst, refl, false}
 use Rattle.std.specs.Arc.{arc_value}
 use Rattle.versioned_graph.specs.Users.{set_of, users_of}
 use Rattle.versioned_graph.proofs.UsersLemmas.{set-has, set-other, now_in}
