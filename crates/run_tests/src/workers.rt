@@ -1,9 +1,10 @@
 //! Runs by several workers, with traces, and of the bulk script.
-use crate::scripts::{FIRST, FIRST_OUT, Row, first_other};
+use crate::scripts::{FIRST, FIRST_OUT, Row, first_other, status_of};
 use action_digest::Buck;
 use dice_engine::Engine;
 use dice_io::NoMemory;
-use dice_run::{Gate, MemorySink, MemorySource, Open, drive, run};
+use dice_run::{Gate, MemorySink, MemorySource, Open, drive};
+use script::Script;
 use std::alloc::Global;
 use std::sync::atomic::{AtomicBool, AtomicU64, Ordering};
 use std::sync::{Arc, Wait};
@@ -20,58 +21,71 @@ fn workers_change_nothing(rt: HostRuntime) -> Result<(), Fail> {
     Ok(())
 }
 
+const TRACES: [(&[&str], Row); 4] = [
+    (
+        &["dice", "run", "--workers", "0", "--trace"],
+        (
+            b"put a/BUCK 76\nwrite_file(name = \"u\", content = \"a\")\nwrite_file(name = \"w\", content = \"b\")\n\ncommit\nopen t\nask t r //a:w\nwait r\nput a/BUCK 76\nwrite_file(name = \"u\", content = \"c\")\nwrite_file(name = \"w\", content = \"b\")\n\ncommit\nopen s\nask s q //a:w\n",
+            0,
+            b"commit 1\nopen t 1\nr 1 03da25344a55dde4115d94d454d37d56e1b44ab7eadead40c654e96380bb66f1\ncommit 2\nopen s 2\nq 2 03da25344a55dde4115d94d454d37d56e1b44ab7eadead40c654e96380bb66f1\ntrace 22\ncommit 0 a/BUCK\nopen 0 1\nask 0 1 digest //a:w\nstart 1 digest //a:w new\nstart 1 action //a:w new\nstart 1 rule //a:w new\nstart 1 package //a new\nend 1 package //a\nend 1 rule //a:w\nend 1 action //a:w\nend 1 digest //a:w\ncommit 0 a/BUCK\nopen 0 2\nask 0 12 digest //a:w\nstart 2 package //a differs 1 source a/BUCK\nend 2 package //a\nstart 2 rule //a:w differs 1 package //a\nend 2 rule //a:w\nkeep 2 action //a:w 1\nkeep 2 digest //a:w 1\nclose 0 1\nclose 0 12\n",
+        ),
+    ),
+    (
+        &["dice", "run", "--workers", "0", "--trace"],
+        (
+            b"put a/BUCK 76\nwrite_file(name = \"u\", content = \"a\")\nwrite_file(name = \"w\", content = \"b\")\n\ncommit\nopen t\nask t r //a:w\nwait r\nput z/f 1\na\ncommit\nopen s\nask s q //a:w\n",
+            0,
+            b"commit 1\nopen t 1\nr 1 03da25344a55dde4115d94d454d37d56e1b44ab7eadead40c654e96380bb66f1\ncommit 2\nopen s 2\nq 2 03da25344a55dde4115d94d454d37d56e1b44ab7eadead40c654e96380bb66f1\ntrace 17\ncommit 0 a/BUCK\nopen 0 1\nask 0 1 digest //a:w\nstart 1 digest //a:w new\nstart 1 action //a:w new\nstart 1 rule //a:w new\nstart 1 package //a new\nend 1 package //a\nend 1 rule //a:w\nend 1 action //a:w\nend 1 digest //a:w\ncommit 0 z/f\nopen 0 2\nask 0 12 digest //a:w\nkeep 2 digest //a:w 1\nclose 0 1\nclose 0 12\n",
+        ),
+    ),
+    (
+        &["dice", "run", "--trace", "--workers", "0"],
+        (
+            b"put a/BUCK 55\nwrite_file(name = \"w\", out = \"w.txt\", content = \"abc\")\n\ncommit\nopen t\nask t r //a:w\ncancel r\n",
+            0,
+            b"commit 1\nopen t 1\nr 1 cancelled\ntrace 7\ncommit 0 a/BUCK\nopen 0 1\nask 0 1 digest //a:w\nstart 1 digest //a:w new\nleave 0 2\ndrop 1 digest //a:w\nclose 0 1\n",
+        ),
+    ),
+    (
+        &["dice", "bulk", "1"],
+        (
+            b"",
+            0,
+            b"bulk 1 requests 2 output 176 digest af9559c96c79e1dfd0e572b25c7c4c26a4f37a13d3e3579c835e156a4917a1c7\n",
+        ),
+    ),
+];
+
 #[test]
 fn traces_and_summaries(rt: HostRuntime) -> Result<(), Fail> {
-    let rows: [(&[&str], Row); 4] = [
-        (
-            &["dice", "run", "--workers", "0", "--trace"],
-            (
-                b"put a/BUCK 76\nwrite_file(name = \"u\", content = \"a\")\nwrite_file(name = \"w\", content = \"b\")\n\ncommit\nopen t\nask t r //a:w\nwait r\nput a/BUCK 76\nwrite_file(name = \"u\", content = \"c\")\nwrite_file(name = \"w\", content = \"b\")\n\ncommit\nopen s\nask s q //a:w\n",
-                0,
-                b"commit 1\nopen t 1\nr 1 03da25344a55dde4115d94d454d37d56e1b44ab7eadead40c654e96380bb66f1\ncommit 2\nopen s 2\nq 2 03da25344a55dde4115d94d454d37d56e1b44ab7eadead40c654e96380bb66f1\ntrace 22\ncommit 0 a/BUCK\nopen 0 1\nask 0 1 digest //a:w\nstart 1 digest //a:w new\nstart 1 action //a:w new\nstart 1 rule //a:w new\nstart 1 package //a new\nend 1 package //a\nend 1 rule //a:w\nend 1 action //a:w\nend 1 digest //a:w\ncommit 0 a/BUCK\nopen 0 2\nask 0 12 digest //a:w\nstart 2 package //a differs 1 source a/BUCK\nend 2 package //a\nstart 2 rule //a:w differs 1 package //a\nend 2 rule //a:w\nkeep 2 action //a:w 1\nkeep 2 digest //a:w 1\nclose 0 1\nclose 0 12\n",
-            ),
-        ),
-        (
-            &["dice", "run", "--workers", "0", "--trace"],
-            (
-                b"put a/BUCK 76\nwrite_file(name = \"u\", content = \"a\")\nwrite_file(name = \"w\", content = \"b\")\n\ncommit\nopen t\nask t r //a:w\nwait r\nput z/f 1\na\ncommit\nopen s\nask s q //a:w\n",
-                0,
-                b"commit 1\nopen t 1\nr 1 03da25344a55dde4115d94d454d37d56e1b44ab7eadead40c654e96380bb66f1\ncommit 2\nopen s 2\nq 2 03da25344a55dde4115d94d454d37d56e1b44ab7eadead40c654e96380bb66f1\ntrace 17\ncommit 0 a/BUCK\nopen 0 1\nask 0 1 digest //a:w\nstart 1 digest //a:w new\nstart 1 action //a:w new\nstart 1 rule //a:w new\nstart 1 package //a new\nend 1 package //a\nend 1 rule //a:w\nend 1 action //a:w\nend 1 digest //a:w\ncommit 0 z/f\nopen 0 2\nask 0 12 digest //a:w\nkeep 2 digest //a:w 1\nclose 0 1\nclose 0 12\n",
-            ),
-        ),
-        (
-            &["dice", "run", "--trace", "--workers", "0"],
-            (
-                b"put a/BUCK 55\nwrite_file(name = \"w\", out = \"w.txt\", content = \"abc\")\n\ncommit\nopen t\nask t r //a:w\ncancel r\n",
-                0,
-                b"commit 1\nopen t 1\nr 1 cancelled\ntrace 7\ncommit 0 a/BUCK\nopen 0 1\nask 0 1 digest //a:w\nstart 1 digest //a:w new\nleave 0 2\ndrop 1 digest //a:w\nclose 0 1\n",
-            ),
-        ),
-        (
-            &["dice", "bulk", "1"],
-            (
-                b"",
-                0,
-                b"bulk 1 requests 2 output 176 digest af9559c96c79e1dfd0e572b25c7c4c26a4f37a13d3e3579c835e156a4917a1c7\n",
-            ),
-        ),
-    ];
-    for (words, row) in rows {
+    for (words, row) in TRACES {
         assert_eq!(rt; first_other(&rt, rt.alloc(), words, b"", &[row])?, None);
     }
     Ok(())
 }
 
+/// What a script prints that is driven on an engine of its own, and the number of the seat that comes back.
+fn driven<R: Threads + Wait + Sync>(
+    rt: &R,
+    alloc: Global,
+    script: &Script,
+) -> Result<(Vec<u8>, u64), Fail> {
+    let universe = Arc::new(alloc, Buck::new(alloc)?)?;
+    let (engine, seat) = Engine::new(rt, alloc, universe, 1)?;
+    let (seat, out) = drive(rt, alloc, &engine, seat, script, false, 2, &Open);
+    let number = seat.number();
+    drop(seat);
+    Ok((out?, number))
+}
+
 #[test]
 fn a_script_is_driven_on_an_engine(rt: HostRuntime) -> Result<(), Fail> {
     let alloc = rt.alloc();
-    let universe = Arc::new(alloc, Buck::new(alloc)?)?;
-    let (engine, seat) = Engine::new(&rt, alloc, universe, 1)?;
     let Ok(script) = script::read(alloc, FIRST) else {
         return Ok(assert!(rt; false, "it is a script"));
     };
-    let (seat, out) = drive(&rt, alloc, &engine, seat, &script, false, 2, &Open);
-    assert!(rt; out?.as_slice() == FIRST_OUT && seat.number() == 0);
+    let (out, number) = driven(&rt, alloc, &script)?;
+    assert!(rt; out.as_slice() == FIRST_OUT && number == 0);
     Ok(())
 }
 
@@ -127,15 +141,16 @@ fn run_by_two<R: Threads + Wait + Sync>(
     alloc: Global,
     script: &[u8],
 ) -> Result<(u8, Vec<u8>, bool), NoMemory> {
-    let gate = Meeting::new();
+    let mut sink = MemorySink::new(alloc, 1_000, Vec::new(alloc), 4_000)?;
     let bytes = Vec::from_slice(alloc, script)?;
     let mut source = MemorySource::new(bytes, 1_000, Vec::new(alloc));
-    let mut sink = MemorySink::new(alloc, 1_000, Vec::new(alloc), 4_000)?;
-    let mut kept = None;
+    let gate = Meeting::new();
     let words = ["dice", "run", "--workers", "2"];
-    let status = run(rt, alloc, &words, &mut source, &mut sink, &gate, &mut kept);
+    let status = status_of(rt, alloc, &words, &mut source, &mut sink, &gate);
+    let met = gate.met.load(Ordering::Acquire);
+    drop(source);
     let out = Vec::from_slice(alloc, sink.bytes())?;
-    Ok((status.code(), out, gate.met.load(Ordering::Acquire)))
+    Ok((status, out, met))
 }
 
 const VERSIONS: &[u8] =
