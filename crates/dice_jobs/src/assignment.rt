@@ -195,9 +195,7 @@ fn copied<U: Universe>(answered: &Option<Arc<Trace<U>>>) -> Result<Option<Arc<Tr
 }
 
 /// The same earlier value again, shared.
-fn copied_earlier<U: Universe>(
-    earlier: &Option<Earlier<U>>,
-) -> Result<Option<Earlier<U>>, NoMemory>
+fn copied_earlier<U: Universe>(earlier: &Option<Earlier<U>>) -> Result<Option<Earlier<U>>, NoMemory>
     ensures { IfOk result (λ e. work_of e ≡ work_of earlier.now) }
 {
     match earlier {
