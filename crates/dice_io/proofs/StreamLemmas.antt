@@ -1,11 +1,11 @@
 -- What a sink gained and a source gave, piece by piece.
-use Rattle.std.proofs.Common.{Result, Ok, Err, OnErr, inl, inr, min, ◌≤◌, ◌<◌, ◌+◌, Some, None, [], refl, ◌≡◌, ◌-◌, ℕ, List, ◌++◌, length, take, drop, Option, sym, ap, ◌∙◌, append_assoc, arith}
+use Rattle.std.proofs.Common.{Result, Ok, Err, OnErr, min, ◌≤◌, ◌<◌, ◌+◌, Some, None, [], refl, ◌≡◌, ◌-◌, ℕ, List, ◌++◌, length, take, drop, Option, sym, ap, ◌∙◌, append_assoc, arith}
 use Rattle.std.proofs.lemmas.Grind.{common_steps}
 use Rattle.std.proofs.lemmas.List.{drop-drop, take-append-drop}
 use Rattle.std.proofs.lemmas.Option.{none-some, same_Some}
 use Rattle.std.proofs.Math.Seq.{take-add}
 use Rattle.std.specs.Io.KnownBytes.{Consumes, IsAtEnd}
-use Rattle.dice_io.specs.Streams.{Reads, ReadPart, ReadTo, Takes, Gained, GainedPart, Unchanged, Unread}
+use Rattle.dice_io.specs.Streams.{Reads, ReadPart, Takes, Gained, GainedPart, Unchanged, Unread}
 
 pub gained_more : {t u w : Option (List ℕ)} {bytes : List ℕ} {n : ℕ} (front : List ℕ) → Gained t u front → (h : Takes u w bytes n) → Gained t w (front ++ h.front)
 gained_more front g h after e =
@@ -92,21 +92,6 @@ read_more {bytes = bytes} told h all e =
 pub read_fits : {mid left' : Option (List ℕ)} {bytes into' : List ℕ} {most n : ℕ} (limit : ℕ) → Reads mid left' bytes into' most n → most ≤ limit - length bytes → length bytes ≤ limit
     → length into' ≤ limit
 read_fits limit h room few = rw h.appended (grind (arith, common_steps, h.counted, h.few))
-
--- no byte came, so nothing is left
-pub read_to_end : {left mid left' : Option (List ℕ)} {bytes into' : List ℕ} {most n : ℕ} (limit : ℕ) → Told left mid bytes → Reads mid left' bytes into' most n → n ≡ 0 → ReadTo left left' into' limit
-unfolding read_more
-read_to_end limit told h z all e =
-    let a = told all e in
-    let b = h.told a.0 a.1 in
-    let none : b.0 ≡ [] = grind (arith, common_steps, h.ended a.0 a.1 z, h.counted, b.2) in
-    let c = read_more told h all e in
-    (b.0, b.1, c.2, inl none)
-
-pub read_to_limit : {left left' : Option (List ℕ)} (bytes : List ℕ) {limit : ℕ} → Told left left' bytes → length bytes ≤ limit → limit ≤ length bytes → ReadTo left left' bytes limit
-read_to_limit bytes told few full all e =
-    let a = told all e in
-    (a.0, a.1, a.2, inr (omega arith))
 
 pub read_part : {left mid left' : Option (List ℕ)} (bytes : List ℕ) {limit : ℕ} → Told left mid bytes → length bytes ≤ limit → Unread mid left' → ReadPart left left' limit
 read_part bytes told few unread all e =
