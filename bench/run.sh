@@ -1,11 +1,17 @@
 #!/bin/sh
-# Times the program on scripts of its own making, by several numbers of workers. With hyperfine each time is hyperfine's mean, and
-# otherwise the least of five runs. Times are wall clock, in milliseconds, of the whole process.
+# Measures the program on scripts of its own making, and prints a table.
+#   bench/run.sh              builds the proved program first, if it is not there
+#   bench/run.sh PROGRAM      measures this one, for example a build that is not proved yet
+# Milliseconds by the wall clock, of the whole process: the least of five runs. Instructions, in millions, if `valgrind` is there;
+# they do not depend on the machine's load. Memory is the peak of the process, in MB.
 here=$(cd "$(dirname "$0")/.." && pwd) || exit 1
 work=$(mktemp -d) || exit 1
 trap 'rm -rf "$work"' EXIT
-"$here/dice" run </dev/null || exit 1
-dice="$here/crates/dice_cli/out/dice_cli"
+dice=$1
+if [ -z "$dice" ]; then
+    "$here/dice" run </dev/null || exit 1
+    dice="$here/crates/dice_cli/out/dice_cli"
+fi
 
 # one `write_file` in each of n packages, and a request for each
 packages() {
@@ -17,6 +23,20 @@ packages() {
         print "commit"
         print "open t"
         for (i = 0; i < n; i++) printf "ask t r%d //p%d:t\n", i, i
+    }'
+}
+
+# forty packages with target files of 100 KB, of each of which one target is asked for
+large_packages() {
+    awk 'BEGIN {
+        for (p = 0; p < 40; p++) {
+            text = ""
+            for (i = 0; i < 2000; i++) text = text sprintf("write_file(name = \"t%d\", content = \"%d %d\")\n", i, p, i)
+            printf "put p%d/BUCK %d\n%s\n", p, length(text), text
+        }
+        print "commit"
+        print "open t"
+        for (p = 0; p < 40; p++) printf "ask t r%d //p%d:t7\n", p, p
     }'
 }
 
@@ -60,29 +80,40 @@ own() {
     }'
 }
 
-# one of 1,000 targets in one file changes, and another one is asked for, or all are
+# one of n targets in one file changes, and another one is asked for, or all are
 one_file() {
-    awk -v all="$1" 'BEGIN {
+    awk -v n="$1" -v all="$2" 'BEGIN {
         for (round = 0; round < 2; round++) {
             text = ""
-            for (i = 0; i < 1000; i++) text = text sprintf("write_file(name = \"t%d\", content = \"%d\")\n", i, i == 7 ? round : 0)
+            for (i = 0; i < n; i++) text = text sprintf("write_file(name = \"t%d\", content = \"%d\")\n", i, i == 7 ? round : 0)
             printf "put a/BUCK %d\n%s\ncommit\nopen t%d\n", length(text), text, round
-            if (all) for (i = 0; i < 1000; i++) printf "ask t%d r%d-%d //a:t%d\n", round, round, i, i
+            if (all) for (i = 0; i < n; i++) printf "ask t%d r%d-%d //a:t%d\n", round, round, i, i
             else printf "ask t%d r%d //a:t8\nwait r%d\n", round, round, round
         }
     }'
 }
 
-# a chain of 2,000 targets in twenty packages, whose end changes
+# a chain of 2,000 targets in twenty packages, whose end changes; or under which the comment of a package changes
 chain() {
-    awk 'BEGIN {
-        for (g = 0; g < 20; g++) {
-            text = ""
-            for (i = g * 100; i < g * 100 + 100; i++)
-                text = text (i == 0 ? "export_file(name = \"t0\", src = \"s\")\n" : sprintf("filegroup(name = \"t%d\", srcs = [\"//g%d:t%d\"])\n", i, int((i - 1) / 100), i - 1))
-            printf "put g%d/BUCK %d\n%s\n", g, length(text), text
+    awk -v comment="$1" 'BEGIN {
+        for (round = 0; round < 2; round++) {
+            for (g = 0; g < (round ? 1 : 20); g++) {
+                text = comment ? "# " round "\n" : ""
+                for (i = g * 100; i < g * 100 + 100; i++)
+                    text = text (i == 0 ? "export_file(name = \"t0\", src = \"s\")\n" : sprintf("filegroup(name = \"t%d\", srcs = [\"//g%d:t%d\"])\n", i, int((i - 1) / 100), i - 1))
+                printf "put g%d/BUCK %d\n%s\n", g, length(text), text
+            }
+            printf "put g0/s 1\n%d\ncommit\nopen t%d\nask t%d r%d //g19:t1999\nwait r%d\n", comment ? 0 : round, round, round, round, round
         }
-        for (round = 0; round < 2; round++) printf "put g0/s 1\n%d\ncommit\nopen t%d\nask t%d r%d //g19:t1999\nwait r%d\n", round, round, round, round, round
+    }'
+}
+
+# a chain of n targets in one file
+chain_in_file() {
+    awk -v n="$1" 'BEGIN {
+        text = "export_file(name = \"t0\", src = \"s\")\n"
+        for (i = 1; i < n; i++) text = text sprintf("filegroup(name = \"t%d\", srcs = [\":t%d\"])\n", i, i - 1)
+        printf "put a/BUCK %d\n%s\nput a/s 1\n0\ncommit\nopen t\nask t r //a:t%d\n", length(text), text, n - 1
     }'
 }
 
@@ -105,60 +136,90 @@ history() {
     }'
 }
 
-# the least of five runs of a command over a script, in milliseconds
-least() {
-    script=$1
+# 4,000 paths of 208 bytes are put, and a target of each is asked for; all paths have one hash under the kit's default hasher, or
+# each has its own. (The hasher's seed is fixed, so the two spellings of a block of 16 bytes lead it to the same state.)
+paths() {
+    awk -v same="$1" 'BEGIN {
+        first = "QSXWrTL3UeBxYime"
+        a = "5YM1Zm3bo1Z3uCDT kkitt91wiJPu56IM xaF1OqKcud789Msg MKCWs0W9tklA62k- nGv0O0Cfnbd3l0.f 7H_iOX5DfPJ05S9b"
+        a = a " rfU7k1sZX13.s.f1 0DVAFLOzFa7HsIQI P-bYo6h4Y0-wzanR 1XjE.W_r-0lJtY9. 1-EqYd5.6yqxCF4t UPM4Pdq2kGt1WPyr"
+        b = ".X.Fel1_t09DJBFi XUcduvJXZtZe4y2b 9K0QFuj04NAX0IR4 TDUWqgcBmdzA4e_V -DxpasC7-ajsBs.7 7_fwBlbWfGs.8gnq"
+        b = b " Ob5Z-WWEe5SC5HB. Bd01marB4AQ8Xdlq cVbZV9r6jK-tCntP W_5c17RlK73lk940 b2Q0nNt8efe9tlub yPoc3gX1GGVf4SPq"
+        count = split(a, blocks)
+        split(b, others)
+        for (i = 0; i < 4000; i++) {
+            path[i] = first
+            rest = i
+            for (k = 1; k <= count; k++) {
+                path[i] = path[i] (same ? (rest % 2 ? others[k] : blocks[k]) : sprintf("%016d", k == 1 ? i : 0))
+                rest = int(rest / 2)
+            }
+            printf "put %s 1\n0\n", path[i]
+        }
+        print "commit"
+        print "open t"
+        for (i = 0; i < 4000; i++) printf "ask t r%d //a:%s\n", i, path[i]
+    }'
+}
+
+# a row of the table: what is measured, and the file of the script with the words of the program
+row() {
+    python3 - "$dice" "$@" <<'PYTHON'
+import os, re, shutil, subprocess, sys, time
+dice, what, script, *words = sys.argv[1:]
+
+def run(workers):
+    """Runs the program, and returns milliseconds and MB."""
+    with open(script) as source, open(os.devnull, "w") as sink:
+        begun = time.monotonic()
+        child = subprocess.Popen([dice, *words, "--workers", workers], stdin=source, stdout=sink)
+        _, status, used = os.wait4(child.pid, 0)
+    if status:
+        sys.exit(f"{what}: status {os.waitstatus_to_exitcode(status)}")
+    return 1000 * (time.monotonic() - begun), used.ru_maxrss / 1024
+
+def instructions():
+    """Counts the instructions of a run without workers, in millions."""
+    if not shutil.which("valgrind"):
+        return "–"
+    tool = ["valgrind", "--tool=callgrind", "--callgrind-out-file=/dev/null"]
+    with open(script) as source:
+        ran = subprocess.run([*tool, dice, *words, "--workers", "0"], stdin=source, stdout=subprocess.DEVNULL, stderr=subprocess.PIPE, text=True)
+    found = re.search(r"Collected : (\d+)", ran.stderr)
+    return f"{int(found[1]) / 1e6:,.0f}" if found else "–"
+
+alone = min(run("0") for _ in range(5))
+together = min(run("4") for _ in range(5))
+# (callgrind takes some fifty times as long)
+count = instructions() if alone[0] < 2500 else "–"
+print(f"| {what} | {alone[0]:.1f} | {together[0]:.1f} | {count} | {alone[1]:.0f} |", flush=True)
+PYTHON
+}
+
+# a row over a script that a function makes
+script() {
+    what=$1
     shift
-    best=
-    for _ in 1 2 3 4 5; do
-        start=$(date +%s%N)
-        "$@" <"$script" >/dev/null || exit 1
-        took=$((($(date +%s%N) - start) / 10000))
-        if [ -z "$best" ] || [ "$took" -lt "$best" ]; then best=$took; fi
-    done
-    awk -v n="$best" 'BEGIN { printf "%.2f", n / 100 }'
+    "$@" >"$work/script" || exit 1
+    row "$what" "$work/script" run || exit 1
 }
 
-timed() {
-    if command -v hyperfine >/dev/null 2>&1; then
-        script=$1
-        shift
-        hyperfine --warmup 1 --input "$script" --export-json "$work/times" "$*" >/dev/null 2>&1 || exit 1
-        awk -F: '/"mean"/ { printf "%.2f", $2 * 1000 }' "$work/times"
-    else
-        least "$@"
-    fi
-}
-
-packages 2000 >"$work/packages"
-leaf >"$work/leaf"
-own >"$work/own"
-one_file 0 >"$work/equal"
-one_file 1 >"$work/file"
-chain >"$work/chain"
-worst >"$work/worst"
+echo '| Script | ms | ms, 4 workers | M instructions | MB |'
+echo '|---|---|---|---|---|'
+for n in 100 1000 10000; do row "\`bulk $n\`" /dev/null bulk "$n" || exit 1; done
+script '2,000 packages of one target each, all asked' packages 2000
+script '40 packages with target files of 100 KB, one target of each asked' large_packages
+script 'one of 2,000 targets changed and asked, 2,000 times' own
+script 'the lowest of 2,000 targets changed, forty stand on it, 200 times' leaf
+script 'one of 1,000 targets in a file edited, an equal one asked' one_file 1000 0
+for n in 1000 5000; do script "one of $n targets in a file edited, all asked" one_file "$n" 1; done
+script 'a chain of 2,000 targets in 20 packages whose end changed' chain ''
+script 'such a chain, and a comment of its lowest package changed' chain 1
+for n in 1000 5000 10000; do script "a chain of $n targets in one file" chain_in_file "$n"; done
+script 'a script of 4 MiB of puts, transactions and requests' worst
 for n in 1000 4000 20000; do
-    history "$n" 2 >"$work/two$n"
-    history "$n" "$n" >"$work/new$n"
+    script "one path of two contents in turn, asked $n times" history "$n" 2
+    script "one path of new contents, asked $n times" history "$n" "$n"
 done
-: >"$work/none"
-for workers in 0 1 4; do
-    printf 'packages 2000, workers %s: %s ms\n' "$workers" "$(timed "$work/packages" "$dice" run --workers "$workers")"
-done
-for n in 100 1000 10000; do
-    for workers in 0 4; do
-        printf 'bulk %s, workers %s: %s ms\n' "$n" "$workers" "$(timed "$work/none" "$dice" bulk "$n" --workers "$workers")"
-    done
-done
-for workers in 0 4; do
-    printf 'one target of 2000 changed and asked, 2000 times, workers %s: %s ms\n' "$workers" "$(timed "$work/own" "$dice" run --workers "$workers")"
-    printf 'one leaf of 2000 changed and asked, 200 times, workers %s: %s ms\n' "$workers" "$(timed "$work/leaf" "$dice" run --workers "$workers")"
-    printf 'a file edited whose asked target is equal, workers %s: %s ms\n' "$workers" "$(timed "$work/equal" "$dice" run --workers "$workers")"
-    printf 'one of 1000 targets in one file edited, all asked, workers %s: %s ms\n' "$workers" "$(timed "$work/file" "$dice" run --workers "$workers")"
-    printf 'a chain of 2000 whose end changed, workers %s: %s ms\n' "$workers" "$(timed "$work/chain" "$dice" run --workers "$workers")"
-    printf 'a script of 4 MiB of puts, transactions and requests, workers %s: %s ms\n' "$workers" "$(timed "$work/worst" "$dice" run --workers "$workers")"
-    for n in 1000 4000 20000; do
-        printf 'one path of two contents changed and asked %s times, workers %s: %s ms\n' "$n" "$workers" "$(timed "$work/two$n" "$dice" run --workers "$workers")"
-        printf 'one path of new contents changed and asked %s times, workers %s: %s ms\n' "$n" "$workers" "$(timed "$work/new$n" "$dice" run --workers "$workers")"
-    done
-done
+script '4,000 paths with hashes of their own' paths ''
+script '4,000 paths with one hash' paths 1
