@@ -19,7 +19,7 @@ pub use cycle::labels_of_cycle;
 pub use fault::Fault;
 pub use fronts::{ActionKey, DigestKey, PackageKey, RuleKey, SourceKey};
 pub use key::Key;
-pub use laws::{cycles_are_of_labels, keys_are_settled};
+pub use laws::{cycles_are_of_labels, keys_are_settled, labels_in_full, packages_by_grammar};
 pub use package_file::PackageFile;
 pub use rule::Rule;
 pub use run::Run;
