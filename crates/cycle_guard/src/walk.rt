@@ -12,6 +12,9 @@ use std::hash::Hash;
 use std::sync::Arc;
 use task_share::{Table, table_in_order};
 
+/// How many tasks a walk mostly meets at most.
+const ROOM: usize = 56;
+
 /// Whether a chain of waits leads from the task of one key to that of another. Each task is looked up at most once.
 pub(crate) fn leads_to<K: Eq + Hash + Drop, T: Drop>(
     alloc: Global,
@@ -22,7 +25,7 @@ pub(crate) fn leads_to<K: Eq + Hash + Drop, T: Drop>(
     ensures { IfOk result (λ b. (b ≡ true) ↔ Leads (asked_of K.eq table.now) (arc_value start.now) (arc_value end.now)) }
 {
     table_in_order(table);
-    let mut seen = HashSet::new(alloc);
+    let mut seen = HashSet::with_capacity(alloc, ROOM)?;
     let mut todo = Vec::new(alloc);
     todo.push(Arc::try_clone(start)?)?;
     while let Some(key) = todo.pop() {

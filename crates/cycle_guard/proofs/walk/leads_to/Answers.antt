@@ -10,8 +10,8 @@ use Rattle.cycle_guard.proofs.walk.leads_to.Goals as goal
 pub loop-key-init : goal.loop-key-init
 loop-key-init g c =
     let eq = g.K.PartialEq.eq in
-    walk_begins eq c.table_in_order.ensures.equality c.args.table.now c.table_in_order.ensures.waits (arc_value c.args.start.now) (λ q. list_any (λ a. eq q (arc_value a)) c.new-seen.result.keys) (map arc_value c.push.new.self.items)
-    (λ q. ap (list_any (λ a. eq q (arc_value a))) c.new-seen.ensures.empty)
+    walk_begins eq c.table_in_order.ensures.equality c.args.table.now c.table_in_order.ensures.waits (arc_value c.args.start.now) (λ q. list_any (λ a. eq q (arc_value a)) c.in_ok-seen.seen.keys) (map arc_value c.push.new.self.items)
+    (λ q. ap (list_any (λ a. eq q (arc_value a))) c.in_ok-seen.ensures.empty)
     (ap (map arc_value) (c.in_ok-push.ensures.items ∙ ap (λ xs. xs ++ c.in_ok-try_clone.field-0 ∷ []) c.new-todo.ensures.items) ∙ ap (λ k. k ∷ []) c.in_ok-try_clone.ensures)
 
 pub loop-key-smaller : goal.loop-key-smaller
