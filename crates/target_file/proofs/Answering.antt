@@ -1,4 +1,6 @@
 -- The contents of a text are those of the grammar.
+use Rattle.target_file.specs.Spelling.{no_token}
+use Rattle.target_file.proofs.Spelling.{read_tokens}
 use Rattle.std.proofs.Common.{◌≡◌, ◌<◌, ◌≤◌, ◌+◌, ◌^◌, ◌∙◌, ◌↔◌, sym, ap, refl, subst, inl, inr, ℕ, zero, suc, Bool, true, false, if◌then◌else◌, List, [], ◌∷◌, ◌++◌, append_assoc, append-nil, length, length-append, map, Option, Some, None, arith}
 use Rattle.std.proofs.lemmas.Bool.{cases_eq}
 use Rattle.target_file.specs.declared.table.Rule.TheVariants.{WriteFile}
@@ -75,7 +77,7 @@ one_list : (text : List ℕ) (xs ys : List Call) → IsWritten text xs → IsWri
 one_list text xs ys f g =
     let a = accepted WriteFile f.made_of xs f.calls_are f.each f.once in
     let b = accepted WriteFile g.made_of ys g.calls_are g.each g.once in
-    let e : Some f.made_of ≡ Some g.made_of = sym f.tokens_are ∙ g.tokens_are in
+    let e : Some f.made_of ≡ Some g.made_of = sym (read_tokens text f.made_of f.tokens_are) ∙ read_tokens text g.made_of g.tokens_are in
     let t : f.made_of ≡ g.made_of = cc in
     let r : Runs (first WriteFile) f.made_of b.end = subst (λ (x : List Token). Runs (first WriteFile) x b.end) (sym t) b.runs in
     sym a.calls_are ∙ ap (λ (x : State). x.calls) (one_run f.made_of (first WriteFile) a.end b.end a.runs r) ∙ b.calls_are
@@ -100,7 +102,7 @@ ended [] = none refl
 ended (x ∷ xs) = consed x xs (ended xs)
 
 empty_lives : IsDead [] → ⊥
-empty_lives d = d [] [] (record { made_of = []; tokens_are = refl; calls_are = refl; each = tt; once = tt })
+empty_lives d = d [] [] (record { made_of = []; tokens_are = no_token; calls_are = refl; each = tt; once = tt })
 
 -- where no prefix is the shortest dead one, none is dead
 end_lives : (n : ℕ) (text front back : List ℕ) → ((before : List ℕ) (b : ℕ) → IsShortestDead text before b → ⊥) → text ≡ front ++ back → length front ≤ n → IsDead front → Ended front → ⊥

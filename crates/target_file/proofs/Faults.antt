@@ -1,10 +1,10 @@
 -- Dead prefixes, live prefixes, and the line of a fault.
-use Rattle.std.proofs.Common.{◌≡◌, ◌<◌, ◌+◌, ◌∙◌, sym, ap, refl, subst, inl, inr, ℕ, Bool, true, false, List, [], ◌∷◌, ◌++◌, append_assoc, append-nil, Option, Some, None, nat_eq, length, ◌||◌}
+use Rattle.std.proofs.Common.{◌≡◌, ◌<◌, ◌+◌, ◌∙◌, sym, ap, refl, subst, ℕ, true, false, List, [], ◌∷◌, ◌++◌, append_assoc, append-nil, Option, Some, None, nat_eq, length, ◌||◌}
 use Rattle.std.specs.Option.{option_and_then}
 use Rattle.std.specs.List.{AllByRecursion}
 use Rattle.target_file.specs.declared.table.Rule.{Rule}
 use Rattle.target_file.specs.declared.place.Place.TheVariants as at
-use Rattle.target_file.specs.Tokens.{Token, Word, Text, Mark, Mode, Between, Comment, InWord, InText, Escape, Scan, next, next_in, scan, start, ended, tokens, is_blank, is_mark, is_quote, is_letter}
+use Rattle.target_file.specs.Tokens.{Token, Word, Text, Mark, Mode, Between, Comment, InWord, InText, Escape, Scan, next_in, scan, start, ended, tokens, is_letter}
 use Rattle.target_file.specs.Calls.{Call, AreCalls}
 use Rattle.target_file.specs.Files.{names, IsWritten, IsDead}
 use Rattle.target_file.specs.Machine.{State, Runs, first}
@@ -14,10 +14,9 @@ use Rattle.target_file.proofs.Complete.{accepted}
 use Rattle.target_file.proofs.Fresh.{doubled}
 use Rattle.target_file.proofs.Live.{live, IsPlain, is_plain}
 use Rattle.target_file.proofs.Prefixes.{scan_append, extends}
+use Rattle.target_file.proofs.Spelling.{at_line, off, letter_next, mark_next, read_tokens, spelled_tokens}
 use Rattle.target_file.specs.Code.{IsOpen}
-use borrow.Author.Tests.{eqb-true}
 use Rattle.lists.proofs.Options.{chained}
-use Rattle.std.proofs.lemmas.Bool.{cases_Bool}
 
 ended_more : (m : Mode) (ts out : List Token) → ended m ts ≡ Some out → (more : List Token) × (out ≡ ts ++ more)
 ended_more Between ts out e = let h : ts ≡ out = cc in ([], sym h ∙ sym (append-nil ts))
@@ -33,7 +32,7 @@ Stuck r ts = (more : List Token) (e : State) → Runs (first r) (ts ++ more) e �
 -- a byte that no text may have here
 pub dead_byte : (p : List ℕ) → scan start p ≡ None → IsDead p
 dead_byte p h more calls f =
-    let a = chained (λ s. ended s.mode s.tokens) (scan start (p ++ more)) f.made_of f.tokens_are in
+    let a = chained (λ s. ended s.mode s.tokens) (scan start (p ++ more)) f.made_of (read_tokens (p ++ more) f.made_of f.tokens_are) in
     let b : option_and_then (λ t. scan t more) (scan start p) ≡ Some a.0 = sym (scan_append p more start) ∙ a.1 in
     let c : option_and_then (λ t. scan t more) None ≡ Some a.0 = subst (λ (o : Option Scan). option_and_then (λ t. scan t more) o ≡ Some a.0) h b in
     cc
@@ -41,7 +40,7 @@ dead_byte p h more calls f =
 -- a token that no file may have here
 pub dead_token : (r : Rule) (p : List ℕ) (s : Scan) → scan start p ≡ Some s → Stuck r s.tokens → IsDead p
 dead_token r p s h k more calls f =
-    let a = chained (λ s. ended s.mode s.tokens) (scan start (p ++ more)) f.made_of f.tokens_are in
+    let a = chained (λ s. ended s.mode s.tokens) (scan start (p ++ more)) f.made_of (read_tokens (p ++ more) f.made_of f.tokens_are) in
     let b : option_and_then (λ t. scan t more) (scan start p) ≡ Some a.0 = sym (scan_append p more start) ∙ a.1 in
     let c : scan s more ≡ Some a.0 = subst (λ (o : Option Scan). option_and_then (λ t. scan t more) o ≡ Some a.0) h b in
     let d = extends more s a.0 c in
@@ -69,7 +68,7 @@ file_of r text ts e h k t =
     let f = spelled_run ts [] (first r) e (spelled_first r) k in
     let b : f.back ≡ [] = top_back e.place e f.back t f.here in
     let w : ts ≡ f.front = f.tokens_are ∙ ap (λ (z : List Token). f.front ++ z) b ∙ append-nil f.front in
-    record { made_of = ts; tokens_are = h; calls_are = subst (λ (z : List Token). AreCalls z e.calls) (sym w) f.calls_are; each = f.each; once = f.once }
+    record { made_of = ts; tokens_are = spelled_tokens text ts h; calls_are = subst (λ (z : List Token). AreCalls z e.calls) (sym w) f.calls_are; each = f.each; once = f.once }
 
 -- how plain tokens are written
 abbrev pub written : Token → List ℕ
@@ -81,37 +80,10 @@ abbrev pub all_written : List Token → List ℕ
 all_written [] = []
 all_written (t ∷ ts) = written t ++ all_written ts
 
-abbrev at_line : List Token → ℕ → Scan
-at_line ts line = record { tokens = ts; mode = Between; line = line }
-
--- a byte that passes the test is no byte that fails it
-off : (P : ℕ → Bool) (b n : ℕ) → P b ≡ true → P n ≡ false → nat_eq b n ≡ false
-off P b n h k = elim (cases_Bool (nat_eq b n)) [
-  | inl t ↦ let e : P n ≡ true = subst (λ (m : ℕ). P m ≡ true) (eqb-true b n t) h in cc
-  | inr f ↦ f
-]
-
-no_blank : (P : ℕ → Bool) (b : ℕ) → P b ≡ true → P 32 ≡ false → P 9 ≡ false → P 13 ≡ false → P 10 ≡ false → is_blank b ≡ false
-no_blank P b h p q r s =
-    let a = off P b 32 h p in let c = off P b 9 h q in let d = off P b 13 h r in let e = off P b 10 h s in rw (a, c, d, e) refl
-
-no_mark : (b : ℕ) → is_letter b ≡ true → is_mark b ≡ false
-no_mark b h =
-    let a = off is_letter b 40 h refl in let c = off is_letter b 41 h refl in let d = off is_letter b 91 h refl in
-    let e = off is_letter b 93 h refl in let f = off is_letter b 44 h refl in let g = off is_letter b 61 h refl in rw (a, c, d, e, f, g) refl
-
-no_quote : (b : ℕ) → is_letter b ≡ true → is_quote b ≡ false
-no_quote b h = let a = off is_letter b 34 h refl in let c = off is_letter b 39 h refl in rw (a, c) refl
-
 line_end : (b : ℕ) → is_plain b ≡ true → (nat_eq b 10 || nat_eq b 13) ≡ false
 line_end b h = let a = off is_plain b 10 h refl in let c = off is_plain b 13 h refl in rw (a, c) refl
 
--- the first letter of a word, and the others
-first_letter : (ts : List Token) (line b : ℕ) → is_letter b ≡ true → next (at_line ts line) b ≡ Some (record { tokens = ts; mode = InWord line (b ∷ []); line = line })
-first_letter ts line b h =
-    let a = no_blank is_letter b h refl refl refl refl in let c = off is_letter b 35 h refl in let d = no_mark b h in let e = no_quote b h in
-    rw (a, c, d, e, h) refl
-
+-- the letters of a word behind the first
 word_scan : (bs : List ℕ) (ts : List Token) (line : ℕ) (w rest : List ℕ) → AllByRecursion (λ b. is_letter b ≡ true) bs →
     scan (record { tokens = ts; mode = InWord line w; line = line }) (bs ++ 32 ∷ rest) ≡ scan (at_line (ts ++ Word line (w ++ bs) ∷ []) line) rest
 word_scan [] ts line w rest h = ap (λ (x : List ℕ). scan (at_line (ts ++ Word line x ∷ []) line) rest) (sym (append-nil w))
@@ -126,20 +98,16 @@ text_scan (b ∷ x) ts line y rest h =
     let a = off is_plain b 34 h.0 refl in let c = off is_plain b 92 h.0 refl in let d = line_end b h.0 in
     rw (d, a, c) (text_scan x ts line (y ++ b ∷ []) rest h.1 ∙ ap (λ (z : List ℕ). scan (at_line (ts ++ Text z ∷ []) line) rest) (append_assoc y (b ∷ []) x))
 
-mark_scan : (ts : List Token) (line m : ℕ) → is_mark m ≡ true → next (at_line ts line) m ≡ Some (at_line (ts ++ Mark m ∷ []) line)
-mark_scan ts line m h =
-    let a = no_blank is_mark m h refl refl refl refl in let c = off is_mark m 35 h refl in rw (a, c, h) refl
-
 one_written : (t : Token) (ts : List Token) (line : ℕ) (rest : List ℕ) → IsPlain line t → scan (at_line ts line) (written t ++ rest) ≡ scan (at_line (ts ++ t ∷ []) line) rest
 one_written (Word l []) ts line rest p = absurd p
 one_written (Word l (b ∷ bs)) ts line rest p =
-    ap (λ (o : Option Scan). option_and_then (λ t. scan t ((bs ++ 32 ∷ []) ++ rest)) o) (first_letter ts line b p.1.0)
+    ap (λ (o : Option Scan). option_and_then (λ t. scan t ((bs ++ 32 ∷ []) ++ rest)) o) (letter_next ts line b p.1.0)
     ∙ ap (scan (record { tokens = ts; mode = InWord line (b ∷ []); line = line })) (append_assoc bs (32 ∷ []) rest)
     ∙ word_scan bs ts line (b ∷ []) rest p.1.1
     ∙ ap (λ (n : ℕ). scan (at_line (ts ++ Word n (b ∷ bs) ∷ []) line) rest) (sym p.0)
 one_written (Text x) ts line rest p =
     ap (scan (record { tokens = ts; mode = InText 34 []; line = line })) (append_assoc x (34 ∷ []) rest) ∙ text_scan x ts line [] rest p
-one_written (Mark m) ts line rest p = ap (λ (o : Option Scan). option_and_then (λ t. scan t rest) o) (mark_scan ts line m p)
+one_written (Mark m) ts line rest p = ap (λ (o : Option Scan). option_and_then (λ t. scan t rest) o) (mark_next ts line m p)
 
 -- what is written is read back
 written_read : (more ts : List Token) (line : ℕ) → AllByRecursion (IsPlain line) more → scan (at_line ts line) (all_written more) ≡ Some (at_line (ts ++ more) line)

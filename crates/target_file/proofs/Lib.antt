@@ -1,3 +1,4 @@
+pub mod Spelling
 pub mod Runs
 pub mod Locations
 pub mod Having

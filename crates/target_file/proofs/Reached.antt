@@ -12,6 +12,7 @@ use Rattle.target_file.proofs.Runs.{one_run, runs_split, runs_join}
 use Rattle.target_file.proofs.Complete.{accepted}
 use Rattle.target_file.proofs.Fresh.{doubled}
 use Rattle.target_file.proofs.Prefixes.{scan_append, shift, blank, next_front}
+use Rattle.target_file.proofs.Spelling.{read_tokens}
 use Rattle.target_file.proofs.Faults.{IsLive, dead_byte, dead_token, stuck, live_prefix, file_of}
 use Rattle.target_file.proofs.Lines.{told, told_end, dead_text}
 use Rattle.target_file.specs.Code.{Refuses, IsOpen, IsEnd}
@@ -174,7 +175,7 @@ file_ends (Escape q x) r ts made m e h k g t = cc
 pub end_only : (r : Rule) (text : List ℕ) (s : Scan) (m : State) (calls : List Call) → Reached r text s m → IsWritten text calls → IsEnd s m × (calls ≡ m.calls)
 end_only r text s m calls h f =
     let a = accepted r f.made_of calls f.calls_are f.each f.once in
-    let x = file_ends s.mode r s.tokens f.made_of m a.end h.runs (sym (tokens_end r text s m h) ∙ f.tokens_are) a.runs a.top in
+    let x = file_ends s.mode r s.tokens f.made_of m a.end h.runs (sym (tokens_end r text s m h) ∙ read_tokens text f.made_of f.tokens_are) a.runs a.top in
     ((x.0, ap (λ (z : State). z.place) x.1 ∙ a.top), sym a.calls_are ∙ ap (λ (z : State). z.calls) (sym x.1))
 
 -- A text that ends elsewhere is bad on the line of its end.

@@ -7,6 +7,8 @@ use Rattle.target_file.specs.Tokens.{Token, Word, Text, Mark}
 use Rattle.target_file.specs.Calls.{One, Call}
 use Rattle.target_file.specs.Files.{IsWritten, IsDead, IsBad}
 use Rattle.target_file.specs.Targets.{IsFile}
+use Rattle.target_file.specs.Spelling.{no_token}
+use Rattle.target_file.proofs.Spelling.{spelled_tokens}
 use Rattle.target_file.specs.Rows.{w_text, w_file, g_text, g_file}
 use Rattle.target_file.specs.Contents.{contents}
 use Rattle.target_file.proofs.Answering.{file_by, bad_by}
@@ -16,7 +18,7 @@ use Rattle.buck_label.proofs.PathLemmas.{one_segment}
 
 -- the empty file
 pub empty_file : IsFile [] []
-empty_file = record { calls = []; written = record { made_of = []; tokens_are = refl; calls_are = refl; each = tt; once = tt }; means = refl }
+empty_file = record { calls = []; written = record { made_of = []; tokens_are = no_token; calls_are = refl; each = tt; once = tt }; means = refl }
 
 w_path : IsPath (codes "w")
 w_path = one_segment (codes "w") (record { some = λ e. cc; each = (refl, tt); no_dot = λ e. cc; no_dots = λ e. cc }) (omega arith)
@@ -32,7 +34,7 @@ w_written =
     let inner : List Token = name ++ Mark 44 ∷ content in
     record {
       made_of = Word 1 (codes "write_file") ∷ Mark 40 ∷ (inner ++ Mark 41 ∷ []);
-      tokens_are = refl;
+      tokens_are = spelled_tokens (codes "write_file(name='w',content='a')") (Word 1 (codes "write_file") ∷ Mark 40 ∷ (inner ++ Mark 41 ∷ [])) refl;
       calls_are = (
         Word 1 (codes "write_file") ∷ Mark 40 ∷ (inner ++ Mark 41 ∷ []),
         [],

@@ -2,7 +2,8 @@
 use Rattle.std.specs.Prelude.{◌≡◌, ◌+◌, ℕ, List, [], ◌∷◌, ◌++◌, map, Option, Some, None}
 use Rattle.std.specs.List.{AllByRecursion}
 use Rattle.buck_label.specs.Paths.{IsPath}
-use Rattle.target_file.specs.Tokens.{Token, tokens}
+use Rattle.target_file.specs.Tokens.{Token}
+use Rattle.target_file.specs.Spelling.{IsTokens}
 use Rattle.target_file.specs.Table.{form_of, needed}
 use Rattle.target_file.specs.Strings.{IsSource, IsCommand}
 use Rattle.target_file.specs.Calls.{Value, One, Many, Argument, Call, AreCalls}
@@ -51,7 +52,7 @@ names (c ∷ cs) = names_in c.arguments ++ names cs
 -- The bytes are a target file, and these are its calls.
 pub record IsWritten (text : List ℕ) (calls : List Call) : Type 0 where
   pub made_of : List Token
-  pub tokens_are : tokens text ≡ Some made_of
+  pub tokens_are : IsTokens text 1 made_of
   pub calls_are : AreCalls made_of calls
   pub each : AllByRecursion IsFine calls
   pub once : AreDistinct (names calls)

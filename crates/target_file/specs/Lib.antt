@@ -1,4 +1,5 @@
 pub mod Tokens
+pub mod Spelling
 pub mod Table
 pub mod Strings
 pub mod Calls

@@ -9,6 +9,8 @@ ghost use Rattle.target_file.specs.Strings.{locations};
 ghost use Rattle.target_file.specs.declared.table.Attribute.{Attribute};
 ghost use Rattle.target_file.specs.declared.table.Rule.{Rule};
 ghost use Rattle.target_file.specs.Contents.{Holds, Fails, contents};
+ghost use Rattle.target_file.specs.Spelling.{IsTokens};
+ghost use Rattle.target_file.specs.Tokens.{Token, tokens};
 ghost use Rattle.lists.specs.Lists.{AreDistinct, Has};
 
 /// The contents of a text, which are one value, are those of the grammar: a text is a file, and then one list
@@ -16,6 +18,11 @@ ghost use Rattle.lists.specs.Lists.{AreDistinct, Has};
 pub fn contents_by_grammar()
     ensures file { (text : List ℕ) (file : List Located) → length text < 2 ^ 64 → (contents text ≡ Holds file) ↔ IsFile text file }
     ensures bad { (text : List ℕ) (line : ℕ) → length text < 2 ^ 64 → (contents text ≡ Fails line) ↔ IsBad text line }
+{}
+
+/// The tokens of a text, which are one list at most, are those that the grammar spells it by.
+pub fn tokens_by_grammar()
+    ensures { (text : List ℕ) (ts : List Token) → (tokens text ≡ Some ts) ↔ IsTokens text 1 ts }
 {}
 
 /// What does not count in a call: the order of its attributes, and whether a default is written out. And no two

@@ -27,7 +27,7 @@ pub use command::Command;
 pub use fault::FileFault;
 pub use file::{File, Located};
 pub use label_text::LabelText;
-pub use laws::{calls_by_meaning, contents_by_grammar, worked_texts};
+pub use laws::{calls_by_meaning, contents_by_grammar, tokens_by_grammar, worked_texts};
 pub use reading::read;
 pub use source::{Source, Sources};
 pub use target::Target;
