@@ -171,7 +171,7 @@ pub fn ask_batch<U: Universe>(
         Err(refused) => return Err((refused, step)),
     };
     let Some(parked) = step.into_parked() else {
-        return Ok(());
+        unreachable!();
     };
     take_up::<U>(desk, tasks, graph, version, &key, parked, plan);
     Ok(())
@@ -211,6 +211,6 @@ fn plan_step<U: Universe>(
             )?;
             Ok((key, plan))
         }
-        _ => Err(NoMemory),
+        _ => unreachable!(),
     }
 }

@@ -71,16 +71,16 @@ fn next_of<U: Universe>(
     ensures { IfOk result (IsAnswered U.Key.eq U.meaning cells.now version (arc_value key.now) (arc_value value.now) tasks.now (arc_value asker.now)) }
 {
     let Some(task) = tasks.task(asker) else {
-        return Err(NoMemory);
+        unreachable!();
     };
     let Some(batch) = task.batch() else {
-        return Err(NoMemory);
+        unreachable!();
     };
     let mut answers = Answers::new(alloc);
     let keys = batch.keys();
     for asked in keys {
         let Some(answer) = answer_of::<U>(universe, cells, tasks, version, key, value, asked) else {
-            return Err(NoMemory);
+            unreachable!();
         };
         answers.push(Arc::try_clone(answer)?)?;
     }

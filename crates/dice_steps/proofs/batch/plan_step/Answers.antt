@@ -3,8 +3,8 @@ use Rattle.dice_steps.proofs.AskedLemmas.{next_asked}
 use Rattle.dice_steps.proofs.BatchLemmas.{stood}
 use Rattle.dice_steps.proofs.batch.plan_step.Goals as goal
 
-pub returns-in_ok-plan-in-Asks-clause-next : goal.returns-in_ok-plan-in-Asks-clause-next
-returns-in_ok-plan-in-Asks-clause-next g c ks wants =
+pub returns-clause-next : goal.returns-clause-next
+returns-clause-next g c ks wants =
     let eq = g.U.Key.PartialEq.eq in
     let m = g.U.Universe.meaning in
     let a = c.args.step.now.job in

@@ -1,4 +1,4 @@
-use Rattle.std.proofs.Common.{◌≡◌, ◌∙◌, sym, ap, subst, length}
+use Rattle.std.proofs.Common.{◌≡◌, ◌∙◌, true, false, sym, ap, subst, length}
 use Rattle.std.specs.Arc.{arc_value}
 use Rattle.std.specs.List.{AllZip}
 use Rattle.std.proofs.lemmas.Option.{same_Some}
@@ -6,15 +6,27 @@ use Rattle.std.proofs.lemmas.Result.{IfOk-weaker}
 use Rattle.core_laws.specs.Tasks.{IsWaiting, waits_for}
 use Rattle.dice_tasks.specs.Helds.{Held, FollowsOn, held_of}
 use Rattle.dice_steps.specs.Wokens.{IsAnswer, IsAnswered}
-use Rattle.dice_steps.proofs.WokenLemmas.{zip_next, all_taken, answered_so}
+use Rattle.dice_steps.proofs.WokenLemmas.{among, zip_next, all_taken, answered_so}
 use Rattle.dice_steps.proofs.woken.next_of.Goals as goal
 use Rattle.lists.proofs.Each.{zip_length}
+use Rattle.lists.specs.Lists.{Has}
 
 pub loop-asked-preserved : goal.loop-asked-preserved
 loop-asked-preserved g c =
     let R = IsAnswer g.U.Key.PartialEq.eq g.U.Universe.meaning c.args.cells.now c.args.version (arc_value c.args.key.now) (arc_value c.args.value.now) c.args.tasks.now in
     zip_next R arc_value c.keys-keys.result.now c.loop-asked.asked-index c.asked-item.result c.loop-asked.answers c.push.new.self (arc_value c.in_ok-try_clone.field-0) c.loop-asked-test.true c.asked-item.is c.loop-asked.invariant
     (subst (R (arc_value c.asked-item.result)) (sym c.in_ok-try_clone.ensures) c.in-Some-answer_of.ensures.answer) c.in_ok-push.ensures.ok
+
+-- each key of the batch has an answer
+pub unreachable-requires-in_default-answer_of : goal.unreachable-requires-in_default-answer_of
+unreachable-requires-in_default-answer_of g c =
+    let w = c.requires.waits in
+    let q = arc_value c.asked-item.result in
+    let is : c.in-Some.task.now ≡ held_of w.job (IsWaiting w.keys) = same_Some _ _ (c.in-Some.ensures ∙ c.requires.held) in
+    let keys = same_Some _ _ (c.in-Some-batch.ensures ∙ ap (λ (z : Held g.row.U-Key.Denot g.row.U-Value.Denot). waits_for z.standing) is) in
+    let among_keys = subst (λ ks. Has ks q) (c.keys-keys.ensures ∙ keys) (among arc_value c.keys-keys.result.now c.loop-asked.asked-index c.asked-item.result c.loop-asked-test.true c.asked-item.is) in
+    let none : false ≡ true = c.in_default-answer_of.ensures.some (c.requires.answers q among_keys) in
+    cc
 
 pub next-requires-after_bounds : goal.next-requires-after_bounds
 next-requires-after_bounds g c κs within =
