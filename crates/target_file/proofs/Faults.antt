@@ -85,13 +85,13 @@ abbrev at_line : List Token → ℕ → Scan
 at_line ts line = record { tokens = ts; mode = Between; line = line }
 
 -- a byte that passes the test is no byte that fails it
-off : (P : ℕ → Bool) (b n : ℕ) → P b ≡ true → P n ≡ false → nat_eq b n ≡ false
+pub off : (P : ℕ → Bool) (b n : ℕ) → P b ≡ true → P n ≡ false → nat_eq b n ≡ false
 off P b n h k = elim (cases_Bool (nat_eq b n)) [
   | inl t ↦ let e : P n ≡ true = subst (λ (m : ℕ). P m ≡ true) (eqb-true b n t) h in cc
   | inr f ↦ f
 ]
 
-no_blank : (P : ℕ → Bool) (b : ℕ) → P b ≡ true → P 32 ≡ false → P 9 ≡ false → P 13 ≡ false → P 10 ≡ false → is_blank b ≡ false
+pub no_blank : (P : ℕ → Bool) (b : ℕ) → P b ≡ true → P 32 ≡ false → P 9 ≡ false → P 13 ≡ false → P 10 ≡ false → is_blank b ≡ false
 no_blank P b h p q r s =
     let a = off P b 32 h p in let c = off P b 9 h q in let d = off P b 13 h r in let e = off P b 10 h s in rw (a, c, d, e) refl
 
@@ -107,7 +107,7 @@ line_end : (b : ℕ) → is_plain b ≡ true → (nat_eq b 10 || nat_eq b 13) �
 line_end b h = let a = off is_plain b 10 h refl in let c = off is_plain b 13 h refl in rw (a, c) refl
 
 -- the first letter of a word, and the others
-first_letter : (ts : List Token) (line b : ℕ) → is_letter b ≡ true → next (at_line ts line) b ≡ Some (record { tokens = ts; mode = InWord line (b ∷ []); line = line })
+pub first_letter : (ts : List Token) (line b : ℕ) → is_letter b ≡ true → next (at_line ts line) b ≡ Some (record { tokens = ts; mode = InWord line (b ∷ []); line = line })
 first_letter ts line b h =
     let a = no_blank is_letter b h refl refl refl refl in let c = off is_letter b 35 h refl in let d = no_mark b h in let e = no_quote b h in
     rw (a, c, d, e, h) refl
