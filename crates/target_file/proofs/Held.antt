@@ -1,5 +1,5 @@
 -- The invariant of the loop over the bytes.
-use Rattle.std.proofs.Common.{◌≡◌, ◌<◌, ◌≤◌, ◌+◌, ◌*◌, ◌^◌, ◌∙◌, sym, ap, refl, subst, ℕ, List, [], ◌∷◌, ◌++◌, inl, inr, nat_eq, Some, length, length-append, arith}
+use Rattle.std.proofs.Common.{◌≡◌, ◌<◌, ◌≤◌, ◌+◌, ◌*◌, ◌^◌, ◌∙◌, sym, ap, refl, subst, ℕ, List, [], ◌∷◌, ◌++◌, inl, inr, nat_eq, Some, length, length-append, append_assoc, append-nil, arith}
 use Rattle.std.proofs.Common.{suc, take, drop, get_or, add-one, drop-cons}
 use Rattle.std.proofs.Math.Seq.{take-suc, take-length}
 use Rattle.std.proofs.lemmas.List.{take-append-drop}
@@ -8,7 +8,7 @@ use Rattle.target_file.specs.Tokens.{Scan, start, next}
 use Rattle.target_file.specs.Files.{names, IsBad, IsWritten}
 use Rattle.target_file.specs.Calls.{Call}
 use Rattle.target_file.specs.Machine.{State, first}
-use Rattle.target_file.specs.Code.{Refuses, Takes, IsEnd}
+use Rattle.target_file.specs.Code.{bare, Refuses, Takes, Ran, Stops, Breaks, Fails, IsEnd}
 use Rattle.target_file.proofs.Fresh.{doubled}
 use Rattle.target_file.proofs.Prefixes.{blank, shift}
 use Rattle.target_file.proofs.Reached.{Reached, took, bad_byte, bad_end, good_end, end_only, reached_first}
@@ -49,6 +49,17 @@ held_more p b s t m e n h k =
       few = omega arith;
     }
 
+-- bytes that are taken one after the other
+pub held_ran : (p bs : List ℕ) (s t : Scan) (m e : State) → length (p ++ bs) < 2 ^ 64 → Held p s m → Ran s bs m t e → Held (p ++ bs) t e
+held_ran p [] s t m e n h r =
+    subst (λ (q : List ℕ). Held q t e) (sym (append-nil p)) (subst (λ (x : Scan). Held p x e) (sym r.0) (subst (λ (x : State). Held p s x) (sym r.1) h))
+held_ran p (b ∷ bs) s t m e n h r =
+    let l = length-append p (b ∷ bs) in
+    let a : (p ++ b ∷ []) ++ bs ≡ p ++ b ∷ bs = append_assoc p (b ∷ []) bs in
+    let k : length ((p ++ b ∷ []) ++ bs) < 2 ^ 64 = let i = ap length a in omega arith in
+    let g : Held (p ++ b ∷ []) (bare r.0 r.1) r.2 = held_more p b s (bare r.0 r.1) m r.2 (omega arith) h r.3 in
+    subst (λ (q : List ℕ). Held q t e) a (held_ran (p ++ b ∷ []) bs (bare r.0 r.1) t r.2 e k g r.4)
+
 pub held_bad : (text p rest : List ℕ) (b : ℕ) (s : Scan) (m : State) → text ≡ p ++ b ∷ rest → Held p s m → Refuses s b m → IsBad text s.line
 held_bad text p rest b s m e h k =
     let r = bad_byte WriteFile text p rest h.scan m b e h.reached (subst (λ (x : Scan). Refuses x b m) (sym h.bare) k) in
@@ -64,6 +75,23 @@ same_end a s m e h = subst (λ (x : Scan). IsEnd x m) e h
 pub held_end_bad : (text : List ℕ) (s : Scan) (m : State) → Held text s m → (IsEnd s m → ⊥) → IsBad text s.line
 held_end_bad text s m h k =
     subst (IsBad text) (ap (λ (x : Scan). x.line) h.bare) (bad_end WriteFile text h.scan m h.reached (λ i. k (same_end h.scan s m h.bare i)))
+
+-- where no file goes on
+stopped : (text p bs : List ℕ) (s : Scan) (m : State) (line : ℕ) → length text < 2 ^ 64 → text ≡ p ++ bs → Held p s m → Stops s bs m line → IsBad text line
+stopped text p bs s m line n e h g =
+    let w : text ≡ (p ++ g.front) ++ g.byte ∷ g.back = e ∙ ap (λ (x : List ℕ). p ++ x) g.bytes_are ∙ sym (append_assoc p g.front (g.byte ∷ g.back)) in
+    let l : length text ≡ length (p ++ g.front) + length (g.byte ∷ g.back) = ap length w ∙ length-append (p ++ g.front) (g.byte ∷ g.back) in
+    held_bad text (p ++ g.front) g.back g.byte (bare g.mode line) g.state w (held_ran p g.front s (bare g.mode line) m g.state (omega arith) h g.ran) g.refused
+
+broken : (text p bs : List ℕ) (s : Scan) (m : State) (line : ℕ) → length text < 2 ^ 64 → text ≡ p ++ bs → Held p s m → Breaks s bs m line → IsBad text line
+broken text p bs s m line n e h g =
+    let l : length (p ++ bs) < 2 ^ 64 = let i = ap length e in omega arith in
+    let k : Held text (bare g.mode line) g.state = subst (λ (x : List ℕ). Held x (bare g.mode line) g.state) (sym e) (held_ran p bs s (bare g.mode line) m g.state l h g.ran) in
+    held_end_bad text (bare g.mode line) g.state k (λ i. g.inside i.0)
+
+pub held_fails : (text p bs : List ℕ) (s : Scan) (m : State) (line : ℕ) → length text < 2 ^ 64 → text ≡ p ++ bs → Held p s m → Fails s bs m line → IsBad text line
+held_fails text p bs s m line n e h (inl g) = stopped text p bs s m line n e h g
+held_fails text p bs s m line n e h (inr g) = broken text p bs s m line n e h g
 
 pub held_file : (text : List ℕ) (s : Scan) (m : State) → Held text s m → IsEnd s m → IsWritten text m.calls × ((others : List Call) → IsWritten text others → others ≡ m.calls)
 held_file text s m h k = (

@@ -10,6 +10,7 @@ pub mod Prefixes
 pub mod Faults
 pub mod Lines
 pub mod Taking
+pub mod Going
 pub mod Counting
 pub mod Held
 pub mod Numbers

@@ -41,7 +41,7 @@ pub mark_next : (ts : List Token) (line m : ℕ) → is_mark m ≡ true → next
 mark_next ts line m h =
     let a = no_blank is_mark m h refl refl refl refl in let c = off is_mark m 35 h refl in rw (a, c, h) refl
 
-quote_next : (ts : List Token) (line q : ℕ) → is_quote q ≡ true → next (at_line ts line) q ≡ Some (in_mode ts (InText q []) line)
+pub quote_next : (ts : List Token) (line q : ℕ) → is_quote q ≡ true → next (at_line ts line) q ≡ Some (in_mode ts (InText q []) line)
 quote_next ts line q h =
     let a = no_blank is_quote q h refl refl refl refl in let c = off is_quote q 35 h refl in
     let d = no_mark is_quote q h refl refl refl refl refl refl in rw (a, c, d, h) refl

@@ -15,6 +15,7 @@ mod mode;
 mod names;
 mod place;
 mod progress;
+mod quoted;
 mod reader;
 mod reading;
 mod source;

@@ -1,21 +1,20 @@
-//! A file, read byte by byte.
-ghost use Rattle.std.specs.Prelude.{◌≡◌, ◌≢◌, ◌↔◌, ◌<◌, ◌^◌, ◌+◌, ℕ, List, [], ◌∷◌, ◌++◌, map, false, true, IfOk, Some, None};
-ghost use Rattle.target_file.specs.Tokens.{is_blank, is_mark, is_quote, is_letter, escaped, Word, Text, start};
-ghost use Rattle.target_file.specs.Machine.{first};
-ghost use Rattle.target_file.specs.Tokens as token;
+//! A file, read token by token.
+ghost use Rattle.std.specs.Prelude.{◌≡◌, ◌≢◌, ◌≤◌, ◌<◌, ◌+◌, ◌^◌, ◌↔◌, ◌∷◌, [], take, get_or, length, map, false, true, IfOk, Some};
 ghost use Rattle.std.specs.List.{AllByRecursion};
+ghost use Rattle.target_file.specs.Tokens.{is_blank, is_mark, is_quote, is_letter, start};
+ghost use Rattle.target_file.specs.Machine.{first};
 ghost use Rattle.target_file.specs.Files.{IsFine};
 ghost use Rattle.target_file.specs.Targets.{located};
-ghost use Rattle.target_file.specs.Code.{state_of, scan_of, Took, IsEnd};
+ghost use Rattle.target_file.specs.Code.{state_of, scan_of, Goes, Took, IsEnd};
 
 use crate::fault::NoMemory;
 use crate::file::File;
 use crate::mode::Mode;
 use crate::place::Place;
 use crate::progress::Progress;
+use crate::quoted::quoted;
 use crate::table::Rule;
 use std::alloc::Global;
-use std::mem::replace;
 
 /// Where a reader of a file stands.
 #[derive(Drop)]
@@ -23,7 +22,6 @@ pub struct Reader {
     alloc: Global,
     mode: Mode,
     pub line: u64,
-    bytes: Vec<u8>,
     pub progress: Progress,
 }
 
@@ -51,16 +49,32 @@ fn is_letter(byte: u8) -> bool
     matches!(byte, b'a'..=b'z' | b'_')
 }
 
-fn escaped(byte: u8) -> Option<u8>
-    ensures { result ≡ escaped byte }
+/// How many letters stand in front.
+fn letters(rest: &[u8]) -> usize
+    ensures fits { result ≤ length rest.now }
+    ensures each { AllByRecursion (λ b. is_letter b ≡ true) (take result rest.now) }
+    ensures end { result < length rest.now → is_letter (get_or rest.now result 0) ≡ false }
 {
-    match byte {
-        b'\\' | b'"' | b'\'' => Some(byte),
-        b'n' => Some(b'\n'),
-        b't' => Some(b'\t'),
-        b'r' => Some(b'\r'),
-        _ => None,
+    for i in 0..rest.len() {
+        if !is_letter(rest[i]) {
+            return i;
+        }
     }
+    rest.len()
+}
+
+/// How many bytes of a comment stand in front.
+fn before_line_feed(rest: &[u8]) -> usize
+    ensures fits { result ≤ length rest.now }
+    ensures none { AllByRecursion (λ b. b ≢ 10) (take result rest.now) }
+    ensures end { result < length rest.now → get_or rest.now result 0 ≡ 10 }
+{
+    for i in 0..rest.len() {
+        if rest[i] == b'\n' {
+            return i;
+        }
+    }
+    rest.len()
 }
 
 impl Reader {
@@ -73,7 +87,6 @@ impl Reader {
             alloc,
             mode: Mode::Between,
             line: 1,
-            bytes: Vec::new(alloc),
             progress: Progress::new(alloc),
         }
     }
@@ -98,22 +111,74 @@ impl Reader {
         )
     }
 
-    /// Takes a byte; false where no file goes on with it.
-    pub fn take(&mut self, byte: u8) -> Result<bool, NoMemory>
-        requires { self.old.line < 2 ^ 63 }
-        ensures { IfOk result (λ ok. Took (scan_of self.old) byte (state_of self.old.progress) ok (scan_of self.new) (state_of self.new.progress)) }
+    /// Takes what stands in front, and says how many bytes that is; `None` where no file goes on so.
+    pub fn take(&mut self, rest: &[u8]) -> Result<Option<usize>, NoMemory>
+        requires some { 0 < length rest.now }
+        requires line { self.old.line < 2 ^ 63 }
+        ensures { IfOk result (λ o. Goes (scan_of self.old) rest.now (state_of self.old.progress) o (scan_of self.new) (state_of self.new.progress)) }
     {
         match self.mode {
-            Mode::Between => self.between(byte),
-            Mode::Comment => Ok(self.in_comment(byte)),
-            Mode::Word(line) => self.in_word(line, byte),
-            Mode::Text(quote) => self.in_text(quote, byte),
-            Mode::Escape(quote) => self.in_escape(quote, byte),
+            Mode::Between => self.between(rest),
+            Mode::Comment => Ok(Some(self.comment(rest))),
         }
     }
 
-    /// A byte between tokens.
-    fn between(&mut self, byte: u8) -> Result<bool, NoMemory>
+    /// Takes what is left of a comment.
+    fn comment(&mut self, rest: &[u8]) -> usize
+        requires some { 0 < length rest.now }
+        requires mode { self.old.mode ≡ Mode.Comment }
+        requires line { self.old.line < 2 ^ 63 }
+        ensures { Goes (scan_of self.old) rest.now (state_of self.old.progress) (Some result) (scan_of self.new) (state_of self.new.progress) }
+    {
+        let end = before_line_feed(rest);
+        if end == rest.len() {
+            return end;
+        }
+        self.line += 1;
+        self.mode = Mode::Between;
+        end + 1
+    }
+
+    /// Takes a word with what stands behind it, or what stands in front.
+    fn between(&mut self, rest: &[u8]) -> Result<Option<usize>, NoMemory>
+        requires some { 0 < length rest.now }
+        requires mode { self.old.mode ≡ Mode.Between }
+        requires line { self.old.line < 2 ^ 63 }
+        ensures { IfOk result (λ o. Goes (scan_of self.old) rest.now (state_of self.old.progress) o (scan_of self.new) (state_of self.new.progress)) }
+    {
+        let end = letters(rest);
+        if end == 0 {
+            return self.other(rest[0], &rest[1..]);
+        }
+        if end == rest.len() || !self.progress.word(self.line, &rest[..end])? {
+            return Ok(None);
+        }
+        match self.other(rest[end], &rest[end + 1..])? {
+            Some(taken) => Ok(Some(end + taken)),
+            None => Ok(None),
+        }
+    }
+
+    /// Takes a blank, a mark or a string, or begins a comment.
+    fn other(&mut self, byte: u8, behind: &[u8]) -> Result<Option<usize>, NoMemory>
+        requires no_letter { is_letter byte ≡ false }
+        requires mode { self.old.mode ≡ Mode.Between }
+        requires line { self.old.line < 2 ^ 63 }
+        ensures { IfOk result (λ o. Goes (scan_of self.old) (byte ∷ behind.now) (state_of self.old.progress) o (scan_of self.new) (state_of self.new.progress)) }
+    {
+        if is_quote(byte) {
+            return self.string(byte, behind);
+        }
+        if self.one(byte)? {
+            return Ok(Some(1));
+        }
+        Ok(None)
+    }
+
+    /// Takes a blank or a mark, or begins a comment.
+    fn one(&mut self, byte: u8) -> Result<bool, NoMemory>
+        requires no_letter { is_letter byte ≡ false }
+        requires no_quote { is_quote byte ≡ false }
         requires mode { self.old.mode ≡ Mode.Between }
         requires line { self.old.line < 2 ^ 63 }
         ensures { IfOk result (λ ok. Took (scan_of self.old) byte (state_of self.old.progress) ok (scan_of self.new) (state_of self.new.progress)) }
@@ -132,93 +197,21 @@ impl Reader {
             let ok = self.progress.mark(byte)?;
             return Ok(ok);
         }
-        self.begin(byte)
+        Ok(false)
     }
 
-    /// The first byte of a string or of a word.
-    fn begin(&mut self, byte: u8) -> Result<bool, NoMemory>
+    /// Takes a string whose quote stands before `behind`.
+    fn string(&mut self, quote: u8, behind: &[u8]) -> Result<Option<usize>, NoMemory>
+        requires quote { is_quote quote ≡ true }
         requires mode { self.old.mode ≡ Mode.Between }
-        requires no_blank { is_blank byte ≡ false }
-        requires no_comment { byte ≢ 35 }
-        requires no_mark { is_mark byte ≡ false }
-        ensures { IfOk result (λ ok. Took (scan_of self.old) byte (state_of self.old.progress) ok (scan_of self.new) (state_of self.new.progress)) }
+        ensures { IfOk result (λ o. Goes (scan_of self.old) (quote ∷ behind.now) (state_of self.old.progress) o (scan_of self.new) (state_of self.new.progress)) }
     {
-        self.bytes.clear();
-        if is_quote(byte) {
-            self.mode = Mode::Text(byte);
-            return Ok(true);
-        }
-        if !is_letter(byte) {
-            return Ok(false);
-        }
-        self.bytes.push(byte)?;
-        self.mode = Mode::Word(self.line);
-        Ok(true)
-    }
-
-    /// A byte of a comment.
-    fn in_comment(&mut self, byte: u8) -> bool
-        requires mode { self.old.mode ≡ Mode.Comment }
-        requires line { self.old.line < 2 ^ 63 }
-        ensures { Took (scan_of self.old) byte (state_of self.old.progress) result (scan_of self.new) (state_of self.new.progress) }
-    {
-        if byte == b'\n' {
-            self.line += 1;
-            self.mode = Mode::Between;
-        }
-        true
-    }
-
-    /// A byte of a word, or behind it.
-    fn in_word(&mut self, line: u64, byte: u8) -> Result<bool, NoMemory>
-        requires mode { self.old.mode ≡ Mode.Word line }
-        requires line { self.old.line < 2 ^ 63 }
-        ensures { IfOk result (λ ok. Took (scan_of self.old) byte (state_of self.old.progress) ok (scan_of self.new) (state_of self.new.progress)) }
-    {
-        if is_letter(byte) {
-            self.bytes.push(byte)?;
-            return Ok(true);
-        }
-        if !self.progress.word(line, &self.bytes)? {
-            return Ok(false);
-        }
-        self.mode = Mode::Between;
-        let ok = self.between(byte)?;
-        Ok(ok)
-    }
-
-    /// A byte of a string.
-    fn in_text(&mut self, quote: u8, byte: u8) -> Result<bool, NoMemory>
-        requires { self.old.mode ≡ Mode.Text quote }
-        ensures { IfOk result (λ ok. Took (scan_of self.old) byte (state_of self.old.progress) ok (scan_of self.new) (state_of self.new.progress)) }
-    {
-        if byte == b'\n' || byte == b'\r' {
-            return Ok(false);
-        }
-        if byte == quote {
-            let text = replace(&mut self.bytes, Vec::new(self.alloc));
-            self.mode = Mode::Between;
-            let ok = self.progress.text(text)?;
-            return Ok(ok);
-        }
-        if byte == b'\\' {
-            self.mode = Mode::Escape(quote);
-            return Ok(true);
-        }
-        self.bytes.push(byte)?;
-        Ok(true)
-    }
-
-    /// A byte behind a backslash.
-    fn in_escape(&mut self, quote: u8, byte: u8) -> Result<bool, NoMemory>
-        requires { self.old.mode ≡ Mode.Escape quote }
-        ensures { IfOk result (λ ok. Took (scan_of self.old) byte (state_of self.old.progress) ok (scan_of self.new) (state_of self.new.progress)) }
-    {
-        let Some(meant) = escaped(byte) else {
-            return Ok(false);
+        let Some((text, end)) = quoted(self.alloc, quote, behind)? else {
+            return Ok(None);
         };
-        self.bytes.push(meant)?;
-        self.mode = Mode::Text(quote);
-        Ok(true)
+        if self.progress.text(text)? {
+            return Ok(Some(end + 2));
+        }
+        Ok(None)
     }
 }

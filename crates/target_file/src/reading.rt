@@ -17,11 +17,12 @@ pub fn read(alloc: Global, bytes: &[u8]) -> Result<File, FileFault>
     ensures value { IsAnswer (contents bytes.now) result }
 {
     let mut reader = Reader::new(alloc);
-    for byte in bytes {
+    let mut at = 0;
+    while at < bytes.len() {
         let line = reader.line;
-        match reader.take(*byte) {
-            Ok(true) => {}
-            Ok(false) => return Err(FileFault::Bad { line }),
+        match reader.take(&bytes[at..]) {
+            Ok(Some(taken)) => at += taken,
+            Ok(None) => return Err(FileFault::Bad { line }),
             Err(_) => return Err(FileFault::NoMemory),
         }
     }
