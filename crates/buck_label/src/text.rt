@@ -8,7 +8,7 @@ ghost use Rattle.buck_label.specs.Texts.{hash_of, hash_of_equal};
 
 use std::alloc::{AllocError, Global};
 use std::cmp::Ordering;
-use std::hash::{FoldHasher, Hash, Hasher};
+use std::hash::{DefaultHasher, Hash, Hasher};
 use std::marker::Model;
 use std::sync::Arc;
 
@@ -16,6 +16,9 @@ use std::sync::Arc;
 ///
 /// A clone copies no byte, equality of unlike texts mostly looks at the hashes alone, and hashing
 /// takes constant time. The order is that of the bytes.
+///
+/// The hash is SipHash-1-3, whose state is wide: blocks of a text that lead it to one state are not
+/// written down as for a hasher of 64 bits, so whoever picks the texts cannot give them one hash.
 #[derive(Drop)]
 pub struct Text {
     shared: Arc<Hashed>,
@@ -42,7 +45,7 @@ impl Model for Text {
 fn hash_of(bytes: &[u8]) -> u64
     ensures { result ≡ hash_of bytes.now }
 {
-    let mut hasher = FoldHasher::default();
+    let mut hasher = DefaultHasher::new();
     hasher.write(bytes);
     hasher.finish()
 }

@@ -1,9 +1,8 @@
 -- A set of texts as the test for them.
-use Rattle.std.specs.Prelude.{ℕ, Bool, List}
-use Rattle.std.specs.BTreeSet.{contains}
-use Rattle.std.specs.Cmp.Lexicographic.{slice_cmp}
-use Rattle.std.specs.Ordering.{nat_cmp}
+use Rattle.std.specs.Prelude.{ℕ, Bool, List, nat_eq}
+use Rattle.std.specs.HashSet.{contains}
+use Rattle.std.specs.Cmp.Lexicographic.{pointwise}
 use Rattle.script.specs.declared.names.Names.{Names}
 
 abbrev pub has : Names → List ℕ → Bool
-has n q = contains (slice_cmp nat_cmp) n.texts q
+has n q = contains (pointwise nat_eq) n.texts q

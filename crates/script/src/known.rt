@@ -1,8 +1,8 @@
 //! What is known of the lines so far, and the tests of the next one.
-ghost use Rattle.std.specs.Prelude.{◌≡◌, ◌≤◌, ◌<◌, length, IfOk};
+ghost use Rattle.std.specs.Prelude.{◌≡◌, ◌≤◌, ◌<◌, length, true, Some, IfOk};
 ghost use Rattle.script.specs.Past.{nothing, fate_of, is_given_up};
 ghost use Rattle.script.specs.Faults.{puts, drops, commits, opens, asks, acts, waits, cancels, closes};
-ghost use Rattle.script.specs.Known.{past_of};
+ghost use Rattle.script.specs.Known.{past_of, with_path, with_request};
 ghost use Rattle.script.specs.Seen.{form_seen};
 ghost use Rattle.script.specs.Taking.{IsUntouched, IsPutRead, IsRequestRead, IsTaken, IsLineTaken, IsTested, in_open, fresh};
 
@@ -61,29 +61,31 @@ impl Known {
         matches!(self.fate_of(name), Some(Fate::Cancelled))
     }
 
-    /// A path that is put or dropped, tested in order: path, twice.
-    fn untouched(&self, alloc: Global, path: &[u8]) -> Result<Path, Stop>
-        ensures { IsUntouched (past_of self.now) path.now result }
+    /// Notes a path that is put or dropped, tested in order: path, twice.
+    fn touch(&mut self, alloc: Global, path: &[u8]) -> Result<Path, Stop>
+        ensures tested { IsUntouched (past_of self.old) path.now result }
+        ensures noted { IfOk result (λ p. past_of self.new ≡ with_path p (past_of self.old)) }
     {
         let path = read_path(alloc, path)?;
-        if self.touched.has(path.as_text()) {
+        if !self.touched.add(path.as_text())? {
             return Err(Stop::Fault(Word::Twice));
         }
         Ok(path)
     }
 
-    /// The operands of a put, tested in order: path, twice, number, count.
+    /// Notes the operands of a put, tested in order: path, twice, number, count.
     fn put_operands(
-        &self,
+        &mut self,
         alloc: Global,
         path: &[u8],
         number: &[u8],
         behind: &[u8],
     ) -> Result<(Path, usize), Stop>
-        ensures tested { IsPutRead (past_of self.now) path.now number.now behind.now result }
+        ensures tested { IsPutRead (past_of self.old) path.now number.now behind.now result }
+        ensures noted { IfOk result (λ r. past_of self.new ≡ with_path r.0 (past_of self.old)) }
         ensures fits { IfOk result (λ r. r.1 ≤ length behind.now) }
     {
-        let path = self.untouched(alloc, path)?;
+        let path = self.touch(alloc, path)?;
         match small_number(number) {
             None => Err(Stop::Fault(Word::Number)),
             Some(count) if is_enough(count, behind) => Ok((path, count)),
@@ -103,7 +105,6 @@ impl Known {
     {
         let (path, count) = self.put_operands(alloc, path, number, behind)?;
         let bytes = Text::from_slice(alloc, &behind[..count])?;
-        self.touched.add(path.as_text())?;
         let taken = past_byte(behind, count);
         Ok((Line::Put(path, bytes), taken))
     }
@@ -119,23 +120,32 @@ impl Known {
         Ok(name)
     }
 
-    /// The name of a new request, tested in order: name, taken.
-    fn free_name(&self, alloc: Global, name: &[u8]) -> Result<Name, Stop>
-        ensures { IsTested (fresh (past_of self.now) name.now) name.now result }
+    /// Notes a new request in a transaction that is open, its name tested in order: name, taken.
+    fn note_request(&mut self, alloc: Global, name: &[u8], transaction: &Name) -> Result<Name, Stop>
+        requires { (past_of self.old).opened transaction.now ≡ Some true }
+        ensures tested { IsTested (fresh (past_of self.old) name.now) name.now result }
+        ensures noted { IfOk result (λ n. past_of self.new ≡ with_request n transaction.now (past_of self.old)) }
     {
         let name = read_name(alloc, name)?;
-        if self.requests.get(name.as_text()).is_some() {
+        if !self.requests.add(name.as_text(), transaction.as_text())? {
             return Err(Stop::Fault(Word::Taken));
         }
         Ok(name)
     }
 
-    /// The operands of a request, tested in order: the transaction, its name, the label.
-    fn request(&self, alloc: Global, t: &[u8], name: &[u8], label: &[u8]) -> Result<Request, Stop>
-        ensures { IsRequestRead (past_of self.now) t.now name.now label.now result }
+    /// Notes the operands of a request, tested in order: the transaction, its name, the label.
+    fn request(
+        &mut self,
+        alloc: Global,
+        t: &[u8],
+        name: &[u8],
+        label: &[u8],
+    ) -> Result<Request, Stop>
+        ensures tested { IsRequestRead (past_of self.old) t.now name.now label.now result }
+        ensures noted { IfOk result (λ r. past_of self.new ≡ with_request r.name r.transaction (past_of self.old)) }
     {
         let transaction = self.open_transaction(alloc, t)?;
-        let name = self.free_name(alloc, name)?;
+        let name = self.note_request(alloc, name, &transaction)?;
         let label = read_label(alloc, label)?;
         Ok(Request {
             transaction,
@@ -153,8 +163,7 @@ impl Known {
         ensures taken { IsTaken (past_of self.old) (drops path.now) behind.now result (past_of self.new) }
         ensures fits { IfOk result (λ r. r.1 ≤ length behind.now) }
     {
-        let path = self.untouched(alloc, path)?;
-        self.touched.add(path.as_text())?;
+        let path = self.touch(alloc, path)?;
         Ok((Line::Drop(path), 0))
     }
 
@@ -171,10 +180,9 @@ impl Known {
         ensures fits { IfOk result (λ r. r.1 ≤ length behind.now) }
     {
         let name = read_name(alloc, t)?;
-        if self.transactions.is_open(name.as_text()).is_some() {
+        if !self.transactions.open(name.as_text())? {
             return Err(Stop::Fault(Word::Taken));
         }
-        self.transactions.set(name.as_text(), true)?;
         Ok((Line::Open(name), 0))
     }
 
@@ -190,8 +198,6 @@ impl Known {
         ensures fits { IfOk result (λ r. r.1 ≤ length behind.now) }
     {
         let request = self.request(alloc, t, name, label)?;
-        self.requests
-            .add(request.name.as_text(), request.transaction.as_text())?;
         Ok((Line::Ask(request), 0))
     }
 
@@ -207,8 +213,6 @@ impl Known {
         ensures fits { IfOk result (λ r. r.1 ≤ length behind.now) }
     {
         let request = self.request(alloc, t, name, label)?;
-        self.requests
-            .add(request.name.as_text(), request.transaction.as_text())?;
         Ok((Line::Action(request), 0))
     }
 
@@ -249,7 +253,7 @@ impl Known {
         ensures fits { IfOk result (λ r. r.1 ≤ length behind.now) }
     {
         let name = self.open_transaction(alloc, t)?;
-        self.transactions.set(name.as_text(), false)?;
+        self.transactions.close(name.as_text());
         Ok((Line::Close(name), 0))
     }
 

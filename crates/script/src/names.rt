@@ -1,17 +1,17 @@
 //! Sets of texts.
-ghost use Rattle.std.specs.Prelude.{◌≡◌, OnOk};
+ghost use Rattle.std.specs.Prelude.{◌≡◌, OnOk, IfOk, not};
 ghost use Rattle.script.specs.Past.{no_texts, adding};
 ghost use Rattle.script.specs.Names.{has};
 
 use buck_label::Text;
 use std::alloc::{AllocError, Global};
-use std::collections::BTreeSet;
+use std::collections::HashSet;
 
-/// A set of texts, which contracts see as the test `has`. A look-up takes logarithmic time,
-/// whatever the texts are: an ordered set, since whoever writes a script picks its names.
+/// A set of texts, which contracts see as the test `has`. A look-up takes constant time: whoever
+/// writes a script picks its names, but not the hashes that the texts keep.
 #[derive(Drop)]
 pub(crate) struct Names {
-    texts: BTreeSet<Text>,
+    texts: HashSet<Text>,
 }
 
 impl Names {
@@ -19,20 +19,15 @@ impl Names {
         ensures { has result ≡ no_texts }
     {
         Names {
-            texts: BTreeSet::new(alloc),
+            texts: HashSet::new(alloc),
         }
     }
 
-    pub(crate) fn has(&self, text: &Text) -> bool
-        ensures { result ≡ has self.now text.now }
+    /// Adds a text, and tells whether it is a new one.
+    pub(crate) fn add(&mut self, text: &Text) -> Result<bool, AllocError>
+        ensures is_new { IfOk result (λ is_new. is_new ≡ not (has self.old text.now)) }
+        ensures added { OnOk result (has self.new ≡ adding text.now (has self.old)) }
     {
-        self.texts.contains(text)
-    }
-
-    pub(crate) fn add(&mut self, text: &Text) -> Result<(), AllocError>
-        ensures { OnOk result (has self.new ≡ adding text.now (has self.old)) }
-    {
-        self.texts.insert(text.try_clone()?)?;
-        Ok(())
+        Ok(self.texts.insert(text.try_clone()?)?)
     }
 }

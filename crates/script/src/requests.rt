@@ -1,12 +1,12 @@
 //! The requests that were made.
-ghost use Rattle.std.specs.Prelude.{◌≡◌, OnOk, IfSome, IfNone, Some, None};
+ghost use Rattle.std.specs.Prelude.{◌≡◌, OnOk, IfOk, IfSome, IfNone, Some, None, is_none};
 ghost use Rattle.script.specs.Past.{no_entries, with_entry, made_in, settling};
 ghost use Rattle.script.specs.Known.{requests_at};
 
 use crate::fate::Fate;
 use buck_label::Text;
 use std::alloc::{AllocError, Global};
-use std::collections::BTreeMap;
+use std::collections::HashMap;
 
 /// A request.
 #[derive(Drop)]
@@ -17,11 +17,10 @@ pub(crate) struct Asked {
     pub(crate) fate: Fate,
 }
 
-/// The requests by name, with what was noted of each. A look-up takes logarithmic time, whatever
-/// the names are: an ordered map, since whoever writes a script picks its names.
+/// The requests by name, with what was noted of each.
 #[derive(Drop)]
 pub(crate) struct Requests {
-    asked: BTreeMap<Text, Asked>,
+    asked: HashMap<Text, Asked>,
 }
 
 impl Requests {
@@ -29,7 +28,7 @@ impl Requests {
         ensures { requests_at result ≡ no_entries }
     {
         Requests {
-            asked: BTreeMap::new(alloc),
+            asked: HashMap::new(alloc),
         }
     }
 
@@ -40,16 +39,16 @@ impl Requests {
         self.asked.get(name)
     }
 
-    /// Adds a request that nobody has waited for.
-    pub(crate) fn add(&mut self, name: &Text, transaction: &Text) -> Result<(), AllocError>
-        ensures { OnOk result (requests_at self.new ≡ with_entry name.now (made_in transaction.now) (requests_at self.old)) }
+    /// Adds a request that nobody has waited for, and tells whether its name is a new one.
+    pub(crate) fn add(&mut self, name: &Text, transaction: &Text) -> Result<bool, AllocError>
+        ensures is_new { IfOk result (λ is_new. is_new ≡ is_none (requests_at self.old name.now)) }
+        ensures added { OnOk result (requests_at self.new ≡ with_entry name.now (made_in transaction.now) (requests_at self.old)) }
     {
         let asked = Asked {
             transaction: transaction.try_clone()?,
             fate: Fate::Pending,
         };
-        self.asked.insert(name.try_clone()?, asked)?;
-        Ok(())
+        Ok(self.asked.insert(name.try_clone()?, asked)?.is_none())
     }
 
     /// Notes what has become of a request, if one has this name.

@@ -58,7 +58,7 @@ impl Script {
     }
 
     /// Whether the script cancels the request of this name: by `cancel`, or by the `close` of its
-    /// transaction before a `wait`. It takes logarithmic time.
+    /// transaction before a `wait`. It takes two look-ups.
     pub fn is_cancelled(&self, name: &Name) -> bool
         ensures { result ≡ is_cancelled self.now name.now }
     {
@@ -130,7 +130,7 @@ fn lines_of(alloc: Global, bytes: &[u8]) -> Result<(Vec<Line>, Known), Broken>
 ///
 /// `TooLong` is tested first. A `Fault` names the first line with a fault and the first test
 /// that fails there, the operands from left to right. The time is that of a walk over the bytes,
-/// and of a few look-ups in ordered maps for each line, `close` among them.
+/// and of a few look-ups in hash maps for each line, `close` among them.
 pub fn read(alloc: Global, bytes: &[u8]) -> Result<Script, ScriptRefusal>
     ensures { IsRead bytes.now result }
 {

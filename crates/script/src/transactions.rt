@@ -1,17 +1,16 @@
 //! The transactions that were opened.
-ghost use Rattle.std.specs.Prelude.{◌≡◌, OnOk};
+ghost use Rattle.std.specs.Prelude.{◌≡◌, OnOk, IfOk, is_none, true, false, Some};
 ghost use Rattle.script.specs.Past.{no_entries, with_entry};
 ghost use Rattle.script.specs.Known.{transactions_at};
 
 use buck_label::Text;
 use std::alloc::{AllocError, Global};
-use std::collections::BTreeMap;
+use std::collections::HashMap;
 
-/// The transactions by name, with whether each is open still. A look-up takes logarithmic time,
-/// as in `Requests`.
+/// The transactions by name, with whether each is open still.
 #[derive(Drop)]
 pub(crate) struct Transactions {
-    standing: BTreeMap<Text, bool>,
+    standing: HashMap<Text, bool>,
 }
 
 impl Transactions {
@@ -19,7 +18,7 @@ impl Transactions {
         ensures { transactions_at result ≡ no_entries }
     {
         Transactions {
-            standing: BTreeMap::new(alloc),
+            standing: HashMap::new(alloc),
         }
     }
 
@@ -30,11 +29,22 @@ impl Transactions {
         self.standing.get(name).copied()
     }
 
-    /// Notes that the transaction is open, or that it is closed.
-    pub(crate) fn set(&mut self, name: &Text, is_open: bool) -> Result<(), AllocError>
-        ensures { OnOk result (transactions_at self.new ≡ with_entry name.now is_open (transactions_at self.old)) }
+    /// Notes that the transaction is open, and tells whether its name is a new one.
+    pub(crate) fn open(&mut self, name: &Text) -> Result<bool, AllocError>
+        ensures is_new { IfOk result (λ is_new. is_new ≡ is_none (transactions_at self.old name.now)) }
+        ensures opened { OnOk result (transactions_at self.new ≡ with_entry name.now true (transactions_at self.old)) }
     {
-        self.standing.insert(name.try_clone()?, is_open)?;
-        Ok(())
+        Ok(self.standing.insert(name.try_clone()?, true)?.is_none())
+    }
+
+    /// Notes that a transaction that is open is closed.
+    pub(crate) fn close(&mut self, name: &Text)
+        requires { transactions_at self.old name.now ≡ Some true }
+        ensures { transactions_at self.new ≡ with_entry name.now false (transactions_at self.old) }
+    {
+        let Some(is_open) = self.standing.get_mut(name) else {
+            unreachable!()
+        };
+        *is_open = false;
     }
 }

@@ -14,6 +14,6 @@ returns-clause-taken c =
     let h : IsName c.args.t.now = search rules in
     let f : transactions_at k.transactions c.args.t.now ≡ None = search rules in
     let g : transactions_at k.transactions c.in_ok-name.name ≡ None = search rules in
-    let a : transactions_at c.set.new.self ≡ with_entry c.in_ok-name.name true (transactions_at k.transactions) = search rules in
+    let a : transactions_at c.open.new.self ≡ with_entry c.in_ok-name.name true (transactions_at k.transactions) = search rules in
     open_taken (past_of k) _ c.args.t.now c.in_ok-name.name c.args.behind.now e h f
-    (opened_past (has k.touched) (transactions_at k.transactions) (transactions_at c.set.new.self) (requests_at k.requests) c.in_ok-name.name g a)
+    (opened_past (has k.touched) (transactions_at k.transactions) (transactions_at c.open.new.self) (requests_at k.requests) c.in_ok-name.name g a)
