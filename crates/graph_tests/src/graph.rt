@@ -293,6 +293,22 @@ fn a_finish_marks_the_versions_that_its_dependency_knows(rt: HostRuntime) -> Res
     Ok(())
 }
 
+const AWAY: [Call; 6] = [
+    SET,
+    Call::Commit(2, 1, 6),
+    // Cell 1 is 5 again.
+    Call::Commit(3, 1, 5),
+    Call::Finish(KEY, 3, TEN, Place::Cell(1), 5),
+    Call::NoMatch(KEY, 1),
+    Call::Look(KEY, 3, Seen::Match(TEN, 3)),
+];
+
+#[test]
+fn a_finish_marks_no_version_beyond_a_change(rt: HostRuntime) -> Result<(), Fail> {
+    assert!(rt; first_other(rt.alloc(), &AWAY)? == None);
+    Ok(())
+}
+
 const LATER: [Call; 7] = [
     SET,
     FINISHED,

@@ -39,8 +39,8 @@ fn put(
     Ok(true)
 }
 
-/// A version, the value there, and the versions that have this value.
-type Row = (u64, u64, &'static [RangeRow]);
+/// A version, the value there, the versions that have this value, and those of them round it without another value between.
+type Row = (u64, u64, &'static [RangeRow], RangeRow);
 
 /// The number of the first row that says otherwise.
 fn first_other(
@@ -49,9 +49,13 @@ fn first_other(
     rows: &[Row],
 ) -> Result<Option<usize>, NoMemory> {
     for i in 0..rows.len() {
-        let (version, value, ranges) = rows[i];
+        let (version, value, ranges, round) = rows[i];
         let found = cells.ranges_of(version, key)?;
-        if **cells.at(version, key) != Value::Number(value) || !lists(&found, ranges) {
+        let next = cells.range_round(version, key)?;
+        if **cells.at(version, key) != Value::Number(value)
+            || !lists(&found, ranges)
+            || !lists(&next, &[round])
+        {
             return Ok(Some(i));
         }
     }
@@ -59,20 +63,23 @@ fn first_other(
 }
 
 const ROWS: [Row; 10] = [
-    (0, 0, &[(0, Some(1)), (7, Some(9))]),
-    (1, 1, &[(1, Some(3)), (6, Some(7))]),
-    (2, 1, &[(1, Some(3)), (6, Some(7))]),
-    (3, 2, &[(3, Some(4)), (9, None)]),
-    (5, 3, &[(4, Some(6))]),
-    (6, 1, &[(1, Some(3)), (6, Some(7))]),
-    (7, 0, &[(0, Some(1)), (7, Some(9))]),
-    (8, 0, &[(0, Some(1)), (7, Some(9))]),
-    (9, 2, &[(3, Some(4)), (9, None)]),
-    (12, 2, &[(3, Some(4)), (9, None)]),
+    (0, 0, &[(0, Some(1)), (7, Some(9))], (0, Some(1))),
+    (1, 1, &[(1, Some(3)), (6, Some(7))], (1, Some(3))),
+    (2, 1, &[(1, Some(3)), (6, Some(7))], (1, Some(3))),
+    (3, 2, &[(3, Some(4)), (9, None)], (3, Some(4))),
+    (5, 3, &[(4, Some(6))], (4, Some(6))),
+    (6, 1, &[(1, Some(3)), (6, Some(7))], (6, Some(7))),
+    (7, 0, &[(0, Some(1)), (7, Some(9))], (7, Some(9))),
+    (8, 0, &[(0, Some(1)), (7, Some(9))], (7, Some(9))),
+    (9, 2, &[(3, Some(4)), (9, None)], (9, None)),
+    (12, 2, &[(3, Some(4)), (9, None)], (9, None)),
 ];
 
 /// The rows of a key that is never set.
-const UNSET: [Row; 2] = [(5, 0, &[(0, None)]), (9, 0, &[(0, None)])];
+const UNSET: [Row; 2] = [
+    (5, 0, &[(0, None)], (0, None)),
+    (9, 0, &[(0, None)], (0, None)),
+];
 
 /// Sets the key's values; whether each version was above those before it. Room is made for the key in between.
 fn set_all(alloc: Global, cells: &mut Cells<Tiny>, key: &Arc<Place>) -> Result<bool, NoMemory> {

@@ -1,7 +1,8 @@
 pub mod Histories
-pub mod Numbered
 pub mod Lookups
+pub mod Numbered
 pub mod Walks
+pub mod Rounds
 pub mod Maps
 pub mod Orders
 pub mod LogLemmas

@@ -1,5 +1,5 @@
 -- The number of a value that is looked up, against the number of a set.
-use Rattle.std.proofs.Common.{◌≡◌, ◌<◌, ◌+◌, ℕ, zero, suc, Bool, true, false, cond, List, [], ◌∷◌, Option, Some, refl, ap, sym, ◌∙◌, subst, inl, inr, arith}
+use Rattle.std.proofs.Common.{◌≡◌, ◌<◌, ◌+◌, ℕ, zero, suc, Bool, true, false, cond, List, [], ◌∷◌, Option, Some, None, eqb-true, refl, ap, sym, ◌∙◌, subst, inl, inr, arith}
 use Rattle.std.specs.Prelude.{slice_get, nat_eq}
 use Rattle.std.specs.Arc.{arc_value}
 use Rattle.std.specs.declared.sync.Arc.{Arc}
@@ -17,7 +17,7 @@ each_at P [] n x h e = cc
 each_at P (y ∷ ys) zero x h e = let same : y ≡ x = cc in subst P same h.0
 each_at P (y ∷ ys) (suc n) x h e = each_at P ys n x h.1 e
 
-as_number : (m n : ℕ) → m ≡ n → nat_eq m n ≡ true
+pub as_number : (m n : ℕ) → m ≡ n → nat_eq m n ≡ true
 as_number m n e = grind (arith, nat_tests)
 
 other_number : (m n : ℕ) → (m ≡ n → ⊥) → nat_eq m n ≡ false
@@ -76,3 +76,11 @@ module _ {V B : Type 0} (eq : V → V → Bool) (laws : IsEquality eq) (w : V) (
   pub agrees : (o : Option ℕ) → o ≡ position (λ k. eq w (arc_value k)) xs → IsDistinct (equal_at eq) xs → (n : ℕ) (x : Arc V B) → slice_get xs n ≡ Some x → option_eq nat_eq o (Some n) ≡ eq (arc_value x) w
   agrees o i d n x e =
       ap (λ q. option_eq nat_eq q (Some n)) i ∙ (found_number (equal_at eq) (λ k. eq w (arc_value k)) linked_by xs n x d e ∙ flips w (arc_value x))
+
+  -- the value that a number names is found there
+  pub position_of : IsDistinct (equal_at eq) xs → (n : ℕ) (x : Arc V B) → slice_get xs n ≡ Some x → w ≡ arc_value x → position (λ k. eq w (arc_value k)) xs ≡ Some n
+  position_of d n x e s = by_test (position (λ k. eq w (arc_value k)) xs) (found_number (equal_at eq) (λ k. eq w (arc_value k)) linked_by xs n x d e ∙ (ap (eq w) (sym s) ∙ laws.itself w))
+    where
+      by_test : (o : Option ℕ) → option_eq nat_eq o (Some n) ≡ true → o ≡ Some n
+      by_test None h = cc
+      by_test (Some m) h = ap Some (eqb-true m n h)

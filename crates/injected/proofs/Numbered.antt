@@ -1,14 +1,17 @@
 -- Sets that name their values by number, place by place.
-use Rattle.std.proofs.Common.{◌≡◌, ◌≤◌, ◌<◌, ◌-◌, ℕ, zero, suc, Bool, true, false, cond, leb, List, [], ◌∷◌, ◌++◌, length, get_or, Option, Some, refl, ap, sym, ◌∙◌, subst, arith}
+use Rattle.std.proofs.Common.{◌≡◌, ◌≤◌, ◌<◌, ◌-◌, ℕ, zero, suc, Bool, true, false, cond, leb, List, [], ◌∷◌, ◌++◌, length, get_or, Option, Some, refl, ap, sym, ◌∙◌, subst, inl, inr, arith}
 use Rattle.std.specs.Prelude.{slice_get, nat_eq}
 use Rattle.std.specs.Arc.{arc_value}
 use Rattle.std.specs.declared.sync.Arc.{Arc}
 use Rattle.std.specs.Option.{option_eq}
-use Rattle.std.proofs.lemmas.Bool.{leb-false}
+use Rattle.std.proofs.lemmas.Bool.{leb-false, cases_lt}
 use Rattle.std.proofs.lemmas.List.{append_assoc}
 use Rattle.std.proofs.Common.{length-append}
 use Rattle.injected.specs.History.{value_at, newest_of, FirstAbove, IsRising}
-use Rattle.injected.specs.Numbers.{pick, sets_of, tests, AllNumbered}
+use Rattle.injected.specs.Numbers.{pick, sets_of, tests, AllNumbered, AreBegun, equal_at}
+use Rattle.injected.proofs.Lookups.{position_of}
+use Rattle.std.specs.List.{IsDistinct, position}
+use Rattle.dice_key.specs.Lawful.{IsEquality}
 use Rattle.injected.proofs.Histories.{value_here, value_before, newest_here}
 use Rattle.lists.proofs.Places.{get_longer}
 
@@ -57,13 +60,6 @@ module _ {V B : Type 0} (xs : List (Arc V B)) where
       let first : s.0 < t.0 = subst (FirstAbove s.0) e h.0 in
       (first, rising_numbers (t ∷ ss) n.1 h.1)
 
-  -- where no version lies at or below v
-  pub value_of_none : (x : V) (ss : List (ℕ × ℕ)) (v : ℕ) → AllNumbered (length xs) ss → IsRising (sets_of xs ss) → ((k : ℕ) (d : ℕ × ℕ) → k < length ss → leb (get_or ss k d).0 v ≡ false) → x ≡ value_at x (sets_of xs ss) v
-  value_of_none x ss v n r f =
-      let d : ℕ × ℕ = (0, 0) in
-      let size = length-sets ss n in
-      sym (value_before x (sets_of xs ss) v (0, x) r (λ l. subst (λ w. v < w) (sym (version_at ss n 0 d (0, x) (omega arith))) (leb-false (get_or ss 0 d).0 v (f 0 d (omega arith)))))
-
   -- where the first k versions lie at or below v, and no other
   pub value_of_last : (a : V) (ss : List (ℕ × ℕ)) (k v : ℕ) (d : ℕ × ℕ) (x : Arc V B) → AllNumbered (length xs) ss → IsRising (sets_of xs ss) → 0 < k → k ≤ length ss → (get_or ss (k - 1) d).0 ≤ v → (k < length ss → v < (get_or ss k d).0) → slice_get xs (get_or ss (k - 1) d).1 ≡ Some x → arc_value x ≡ value_at a (sets_of xs ss) v
   value_of_last a ss k v d x n r p l low high e =
@@ -80,6 +76,25 @@ module _ {V B : Type 0} (xs : List (Arc V B)) where
       let last : length ss - 1 < length ss = omega arith in
       let at = place ss n (length ss - 1) d (0, a) x last e in
       sym (here ∙ (ap (λ i. (get_or (sets_of xs ss) (i - 1) (0, a)).1) size ∙ ap (λ (s : ℕ × V). s.1) at))
+
+-- where the first k versions lie at or below v, and no other: the number behind them is the place of the value at v among the values
+module _ {V B : Type 0} (xs : List (Arc V B)) (ss : List (ℕ × ℕ)) (named : AllNumbered (length xs) ss) (rising : IsRising (sets_of xs ss)) (a : V) (v k : ℕ) (begun : AreBegun v ss k) where
+  pub value_of_begun : k ≡ 0 → a ≡ value_at a (sets_of xs ss) v
+  value_of_begun e = sym (value_before a (sets_of xs ss) v (0, a) rising (λ l.
+      let many = length-sets xs ss named in
+      let first : v < (get_or ss 0 (0, 0)).0 = subst (λ n. v < (get_or ss n (0, 0)).0) e (begun.high (0, 0) (omega arith)) in
+      subst (λ n. v < n) (sym (version_at xs ss named 0 (0, 0) (0, a) (omega arith))) first))
+
+  pub number_of_begun : (eq : V → V → Bool) → IsEquality eq → IsDistinct (equal_at eq) xs → (o : Option ℕ) → (k ≡ 0 → o ≡ position (λ b. eq a (arc_value b)) xs) → ((d : ℕ × ℕ) → 0 < k → o ≡ Some (get_or ss (k - 1) d).1)
+      → o ≡ position (λ b. eq (value_at a (sets_of xs ss) v) (arc_value b)) xs
+  number_of_begun eq laws d o none last = elim (cases_lt 0 k) as (λ _. o ≡ position (λ b. eq (value_at a (sets_of xs ss) v) (arc_value b)) xs) [
+    | inl i ↦
+        let within : k - 1 < length ss = (let l = begun.bound in omega arith) in
+        let x = got xs (get_or ss (k - 1) (0, 0)).1 (numbered_at xs ss named (k - 1) (0, 0) within) in
+        let value = value_of_last xs a ss k v (0, 0) x.0 named rising i begun.bound (begun.low (0, 0) i) (begun.high (0, 0)) x.1 in
+        last (0, 0) i ∙ sym (position_of eq laws (value_at a (sets_of xs ss) v) xs d (get_or ss (k - 1) (0, 0)).1 x.0 x.1 (sym value))
+    | inr i ↦ (let e : k ≡ 0 = omega arith in none e ∙ ap (λ w. position (λ b. eq w (arc_value b)) xs) (value_of_begun e))
+  ]
 
 pub all_push : (m n : ℕ) (ss : List (ℕ × ℕ)) (s : ℕ × ℕ) → m ≤ n → AllNumbered m ss → s.1 < n → AllNumbered n (ss ++ s ∷ [])
 all_push m n [] s l h k = (k, tt)

@@ -1,5 +1,5 @@
 -- Sets that name their values by number: that of a value is its place among the values of the key.
-use Rattle.std.specs.Prelude.{ℕ, ◌<◌, ◌≤◌, Bool, List, [], ◌∷◌, ◌++◌, length, map, nat_eq, Option, Some, None, slice_get}
+use Rattle.std.specs.Prelude.{ℕ, ◌<◌, ◌≤◌, ◌-◌, Bool, List, [], ◌∷◌, ◌++◌, length, map, nat_eq, Option, Some, None, slice_get, slice_index_or}
 use Rattle.std.specs.Option.{option_eq}
 use Rattle.std.specs.List.{IsDistinct}
 use Rattle.std.specs.Arc.{arc_value}
@@ -23,6 +23,16 @@ module _ {V B : Type 0} where
 -- the sets, each with whether its number is n
 abbrev pub tests : Option ℕ → List (ℕ × ℕ) → List (ℕ × Bool)
 tests n ss = map (λ s. (s.0, option_eq nat_eq n (Some s.1))) ss
+
+-- whether the number of a set is n
+abbrev pub names : Option ℕ → ℕ × ℕ → Bool
+names n s = option_eq nat_eq n (Some s.1)
+
+-- the first k sets lie at version v or below it, and the others above it
+pub record AreBegun (v : ℕ) (ss : List (ℕ × ℕ)) (k : ℕ) : Type 0 where
+  pub bound : k ≤ length ss
+  pub low : (d : ℕ × ℕ) → 0 < k → (slice_index_or ss (k - 1) d).0 ≤ v
+  pub high : (d : ℕ × ℕ) → k < length ss → v < (slice_index_or ss k d).0
 
 -- each number is below n
 abbrev pub AllNumbered : ℕ → List (ℕ × ℕ) → Type 0

@@ -6,6 +6,7 @@ ghost use Rattle.std.specs.Option.{option_copied};
 ghost use Rattle.dice_key.specs.Lawful.{IsEquality};
 ghost use Rattle.version_ranges.specs.Members.{contains, is_open};
 ghost use Rattle.injected.specs.History.{AllBelow, IsRising};
+ghost use Rattle.injected.specs.Rounds.{stays};
 ghost use Rattle.injected.specs.Seen.{named, sets_in, room_in, sets_at, room_at, cell_at, newest_at, Writes};
 
 use crate::history::{History, always};
@@ -139,6 +140,18 @@ impl<U: Universe> Cells<U> {
         let absent = self.universe.absent(key);
         let wanted = history.at(absent, version);
         history.ranges_with(self.alloc, absent, wanted)
+    }
+
+    /// The versions round this one up to which the key's value stays as it is there, and as it was from there back. The cost is a
+    /// look-up, and logarithmic in the number of the key's sets where no two next to one another are to the same value.
+    pub fn range_round(&self, version: u64, key: &Arc<U::Key>) -> Result<Ranges, NoMemory>
+        ensures { IfOk result (λ r. (w : ℕ) → contains r w ≡ stays U.Value.eq (λ u. cell_at U.Key.eq U.meaning self.now u (arc_value key.now)) version w) }
+    {
+        laws_of::<U>();
+        let Some(history) = self.history(key) else {
+            return always(self.alloc);
+        };
+        history.range_round(self.alloc, self.universe.absent(key), version)
     }
 
     /// The greatest version at which anything was set; 0 if nothing was.

@@ -21,6 +21,8 @@ use Rattle.versioned_graph.specs.Sound.{IsOpenAt, IsTrue, IsRecorded, IsTailed, 
 use Rattle.versioned_graph.proofs.Asked.{asked_in_trace, is_asked_of}
 use Rattle.versioned_graph.proofs.Bools.{all_map, HasKey, all_at}
 use Rattle.versioned_graph.proofs.MarkLemmas.{marked_true, trace_true}
+use Rattle.injected.specs.Rounds.{stays}
+use Rattle.injected.proofs.Rounds.{stays_longer}
 use Rattle.versioned_graph.proofs.Tails.{more_edges, written_tailed}
 use Rattle.std.proofs.lemmas.List.{take_all}
 
@@ -89,11 +91,13 @@ module _ {K V : Type 0} (eq : K → K → Bool) (m : Meaning K V) (law : IsLawfu
           by_eq true r = (tailed_ones d f p).tail w r hw u hu
           by_eq false r = absurd (let z = eqb-true w v r in omega arith)
 
-      by_kinds : (kd : Kind) → if_injected kd (veq (at w d) (at v d)) (known_by m veq (es d) v a w) ≡ true → if_injected kd (veq (at u d) (at v d)) (known_by m veq (es d) v a u) ≡ true
-      by_kinds Injected q =
-          let s : take u C ≡ take w C = take_all u C hu ∙ sym (take_all w C (omega arith)) in
-          let t : at u d ≡ at w d = holds u d ∙ (ap (last_value_of (eq d) (m.absent d)) s ∙ sym (holds w d)) in
-          rw t q
+      by_kinds : (kd : Kind) → if_injected kd (stays veq (λ z. at z d) v w) (known_by m veq (es d) v a w) ≡ true → if_injected kd (stays veq (λ z. at z d) v u) (known_by m veq (es d) v a u) ≡ true
+      by_kinds Injected q = stays_longer veq (λ z. at z d) (length C) v w u hv hw hu settled q
+        where
+          settled : (z : ℕ) → length C ≤ z → at z d ≡ at (length C) d
+          settled z h =
+              let s : take z C ≡ take (length C) C = take_all z C h ∙ sym (take_all (length C) C (omega arith)) in
+              holds z d ∙ (ap (last_value_of (eq d) (m.absent d)) s ∙ sym (holds (length C) d))
       by_kinds Computed q = by_entry (es d) refl q
       by_kinds Projection q = by_entry (es d) refl q
 
@@ -109,7 +113,7 @@ module _ {K V : Type 0} (eq : K → K → Bool) (m : Meaning K V) (law : IsLawfu
           by_eq true r = (f, p, (tailed_ones d f p).tail w r hw)
           by_eq false r = absurd (let z = eqb-true w v r in omega arith)
 
-      by_kinds : (kd : Kind) → m.kind d ≡ kd → if_injected kd (veq (at w d) (at v d)) (known_by m veq (es d) v a w) ≡ true → (f : Kept K V) × (es d ≡ Some f) × IsOpenAt (length C) f.ranges
+      by_kinds : (kd : Kind) → m.kind d ≡ kd → if_injected kd (stays veq (λ z. at z d) v w) (known_by m veq (es d) v a w) ≡ true → (f : Kept K V) × (es d ≡ Some f) × IsOpenAt (length C) f.ranges
       by_kinds Injected p q = absurd (c p)
       by_kinds Computed p q = by_entry (es d) refl q
       by_kinds Projection p q = by_entry (es d) refl q

@@ -13,6 +13,8 @@ use Rattle.dice_model.proofs.Traces.{trace_value}
 use Rattle.dice_model.proofs.Alike.{same_answers}
 use Rattle.versioned_graph.specs.Entries.{Kept, if_injected, all_of_batch, all_of, known_by, known, marked}
 use Rattle.versioned_graph.specs.Sound.{IsTrue, Holds}
+use Rattle.injected.specs.Rounds.{stays}
+use Rattle.injected.proofs.Rounds.{stays_there}
 use Rattle.std.proofs.lemmas.Bool.{and_parts, cases_Bool, not-true, or_cases}
 
 module _ {K V : Type 0} (eq : K → K → Bool) (m : Meaning K V) (law : IsLawful m) (veq : V → V → Bool) (same : AreSame veq)
@@ -31,9 +33,9 @@ module _ {K V : Type 0} (eq : K → K → Bool) (m : Meaning K V) (law : IsLawfu
         | inr t ↦ (let r : nat_eq w v ≡ true = rw t at q in subst (λ n. HasValue eq m C n d a) (sym (eqb-true w v r)) i)
       ]
 
-      by_kinds : (kd : Kind) → m.kind d ≡ kd → if_injected kd (veq (at w d) (at v d)) (known_by m veq (es d) v a w) ≡ true → HasValue eq m C w d a
+      by_kinds : (kd : Kind) → m.kind d ≡ kd → if_injected kd (stays veq (λ u. at u d) v w) (known_by m veq (es d) v a w) ≡ true → HasValue eq m C w d a
       by_kinds Injected p q =
-          let s : at w d ≡ at v d = same (at w d) (at v d) q in
+          let s : at w d ≡ at v d = same (at w d) (at v d) (stays_there veq (λ u. at u d) v w q) in
           let t : input eq m C w d ≡ a = sym (holds w d) ∙ (s ∙ (holds v d ∙ one_value eq m C v d (input eq m C v d) a (input_value v d p) i)) in
           subst (HasValue eq m C w d) t (input_value w d p)
       by_kinds Computed p q = by_entry (es d) refl q

@@ -9,6 +9,7 @@ use Rattle.dice_key.specs.declared.universe.Kind.{Kind}
 use Rattle.dice_key.specs.declared.universe.Kind.TheVariants.{Injected, Computed, Projection}
 use Rattle.version_ranges.specs.declared.half_open.Range.{Range}
 use Rattle.version_ranges.specs.Members.{contains}
+use Rattle.injected.specs.Rounds.{stays}
 
 -- an entry as it is stored; with the keys from which an edge to its key is recorded
 pub record Stored (K V : Type 0) : Type 0 where
@@ -67,10 +68,10 @@ module _ {K V : Type 0} (m : Meaning K V) (veq : V → V → Bool) where
   known_by None v a w = nat_eq w v
   known_by (Some e) v a w = cond (veq e.value a) (e.ranges w) (nat_eq w v)
 
-  -- whether version w is known for a dependency that was answered with a at v: of an injected one the versions at which its
-  -- input is that at v
+  -- whether version w is known for a dependency that was answered with a at v: of an injected one the versions round v up to which
+  -- its input stays as it is there
   abbrev pub known : (ℕ → K → V) → (K → Option (Kept K V)) → ℕ → ℕ → K → V → Bool
-  known at es v w d a = if_injected (m.kind d) (veq (at w d) (at v d)) (known_by (es d) v a w)
+  known at es v w d a = if_injected (m.kind d) (stays veq (λ u. at u d) v w) (known_by (es d) v a w)
 
   -- whether a finish at v with value x and trace A marks version w: v itself, and, where the value is not transient, the versions
   -- that are known for every dependency

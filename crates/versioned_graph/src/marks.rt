@@ -86,7 +86,7 @@ impl<U: Universe> Store<U> {
         ensures { IfOk result (λ r. (w : ℕ) → contains r w ≡ (contains ranges w && known U.meaning U.Value.eq (cell_at U.Key.eq U.meaning cells.now) (entry_at U.Key.eq self.now) version w (arc_value dep.now) (arc_value answer.now))) }
     {
         match self.universe.kind(dep) {
-            Kind::Injected => both(ranges, &cells.ranges_of(version, dep)?),
+            Kind::Injected => both(ranges, &cells.range_round(version, dep)?),
             Kind::Computed | Kind::Projection => {
                 known_by_entry(self.alloc, self.entry(dep), version, answer, ranges)
             }
