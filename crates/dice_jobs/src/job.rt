@@ -67,7 +67,7 @@ impl<U: Universe> Job<U> {
         ensures { result ≡ record { name = name; answered = []; work = Computes } }
     {
         Job {
-            assignment: Assignment::new(alloc, name, None),
+            assignment: Assignment::begins(alloc, name),
             ready: Ready::Begin,
         }
     }
@@ -77,8 +77,9 @@ impl<U: Universe> Job<U> {
         ensures { IfOk result (λ j. j ≡ record { name = name; answered = []; work = work_of (Some earlier) }) }
     {
         let check = Check::new(Arc::try_clone(&earlier.trace)?);
+        let assignment = Assignment::checks(alloc, name, earlier)?;
         Ok(Job {
-            assignment: Assignment::new(alloc, name, Some(earlier)),
+            assignment,
             ready: Ready::Check(check),
         })
     }
