@@ -34,7 +34,7 @@ ended (ending.Differs d) = Changed (arc_value d)
 
 -- what ends a step of a run that stands here is its next move
 abbrev pub RunEnds : {U K V R : Type 0} → Meaning K V → (R → Running K V) → Running K V → Ending U K V R → Type 0
-RunEnds m running p (ending.Asks ks (Run r)) = (running r ≡ p) × (next_of m p ≡ Asks ks)
+RunEnds m running p (ending.Asks ks (Run r)) = (running r.value ≡ p) × (next_of m p ≡ Asks ks)
 RunEnds m running p (ending.Asks ks (Check c)) = ⊥
 RunEnds m running p (ending.Done x) = next_of m p ≡ Ends (arc_value x)
 RunEnds m running p ending.Same = ⊥
@@ -43,7 +43,7 @@ RunEnds m running p (ending.Differs d) = ⊥
 -- what ends a step of this check is what it finds
 abbrev pub Found : {U K V R : Type 0} → (V → V → Bool) → Checked K V → Ending U K V R → Type 0
 Found eq c (ending.Asks ks (Run r)) = ⊥
-Found eq c (ending.Asks ks (Check d)) = (d ≡ c) × (finding eq c.trace c.fed ≡ Wants ks)
+Found eq c (ending.Asks ks (Check d)) = (d.value ≡ c) × (finding eq c.trace c.fed ≡ Wants ks)
 Found eq c (ending.Done x) = ⊥
 Found eq c ending.Same = finding eq c.trace c.fed ≡ IsSame
 Found {V = V} eq c (ending.Differs d) = (x : V) × (y : V) × (finding eq c.trace c.fed ≡ HasChanged (arc_value d) x y)
@@ -55,16 +55,16 @@ pub record CheckEnds {U K V R : Type 0} (eq : V → V → Bool) (c : Checked K V
 module _ {U K V R : Type 0} (m : Meaning K V) (eq : V → V → Bool) (running : R → Running K V) where
   -- a run, or a check, that goes on with this job when these keys are answered
   abbrev pub GoesWith : Assigned K V → List K → Course U K V R → Type 0
-  GoesWith a ks (Run r) = (a.work ≡ Computes) × (running r ≡ stand_of a) × (m.next a.name.key a.answered a.name.version ≡ Asks ks)
-  GoesWith a ks (Check c) = HasTrace a.work c.trace × (c.fed ≡ values_of a.answered) × (finding eq c.trace c.fed ≡ Wants ks)
+  GoesWith a ks (Run r) = (a.work ≡ Computes) × (running r.value ≡ stand_of a) × (m.next a.name.key a.answered a.name.version ≡ Asks ks)
+  GoesWith a ks (Check c) = HasTrace a.work c.value.trace × (c.value.fed ≡ values_of a.answered) × (finding eq c.value.trace c.value.fed ≡ Wants ks)
 
   -- what the job goes on with is ready for it: at its beginning; or when the answers to the batch last asked are at hand, which
   -- are the last that the job was answered
   abbrev pub IsReady : Assigned K V → Ready U K V R → Type 0
   IsReady a ready.Begin = (a.work ≡ Computes) × (a.answered ≡ []) × (m.kind a.name.key ≢ Injected)
-  IsReady a (ready.Resume r xs) = (a.work ≡ Computes) × Takes (next_of m (running r)) (length xs) × (resumed m (running r) xs ≡ stand_of a)
-  IsReady a (ready.Check c) = HasTrace a.work c.trace × (c.fed ≡ values_of a.answered)
-  IsReady a (ready.Feed c xs) = HasTrace a.work c.trace × IsWantingOf (length xs) (finding eq c.trace c.fed) × (c.fed ++ xs ∷ [] ≡ values_of a.answered)
+  IsReady a (ready.Resume r xs) = (a.work ≡ Computes) × Takes (next_of m (running r.value)) (length xs) × (resumed m (running r.value) xs ≡ stand_of a)
+  IsReady a (ready.Check c) = HasTrace a.work c.value.trace × (c.value.fed ≡ values_of a.answered)
+  IsReady a (ready.Feed c xs) = HasTrace a.work c.value.trace × IsWantingOf (length xs) (finding eq c.value.trace c.value.fed) × (c.value.fed ++ xs ∷ [] ≡ values_of a.answered)
 
   -- a step that wants keys has what goes on when they are answered
   abbrev pub GoesOn : Assigned K V → Ending U K V R → Type 0

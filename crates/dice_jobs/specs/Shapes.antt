@@ -5,6 +5,8 @@ use Rattle.std.specs.declared.sync.Arc.{Arc}
 use Rattle.dice_key.specs.Meaning.{Answered}
 use Rattle.dice_jobs.specs.Jobs.{Work, Computes, Checks}
 use Rattle.dice_jobs.specs.declared.assignment.Earlier.{Earlier}
+use Rattle.dice_jobs.specs.declared.assignment.Progress.{Progress}
+use Rattle.dice_jobs.specs.declared.assignment.Progress.TheVariants as progress
 
 -- the batches of a trace; none where there is no trace
 abbrev pub batches_in : {K V A : Type 0} → Option (Arc (List (Answered K V)) A) → List (Answered K V)
@@ -15,3 +17,14 @@ batches_in (Some t) = arc_value t
 abbrev pub work_of : {U K V R : Type 0} → Option (Earlier U K V R) → Work K V
 work_of None = Computes
 work_of (Some e) = Checks (arc_value e.value) (arc_value e.trace) e.base
+
+-- what is done, and the batches that were answered so far
+abbrev pub answers_in : {U K V R : Type 0} → Progress U K V R → List (Answered K V)
+answers_in progress.Begins = []
+answers_in (progress.Runs t) = arc_value t
+answers_in (progress.Checks c) = batches_in (arc_value c).answered
+
+abbrev pub work_in : {U K V R : Type 0} → Progress U K V R → Work K V
+work_in progress.Begins = Computes
+work_in (progress.Runs t) = Computes
+work_in (progress.Checks c) = work_of (Some (arc_value c).earlier)

@@ -3,7 +3,7 @@ ghost use Rattle.std.specs.Prelude.{◌≡◌, [], length, IfOk, IsTrue, ◌↔�
 ghost use Rattle.std.specs.Option.{option_copied};
 ghost use Rattle.std.specs.Arc.{arc_value};
 ghost use Rattle.dice_jobs.specs.Jobs.{answered_more, Computes};
-ghost use Rattle.dice_jobs.specs.Shapes.{batches_in, work_of};
+ghost use Rattle.dice_jobs.specs.Shapes.{answers_in, batches_in, work_in, work_of};
 
 use crate::name::JobName;
 use dep_recorder::Trace;
@@ -27,8 +27,25 @@ pub struct Earlier<U: Universe> {
 pub struct Assignment<U: Universe> {
     alloc: Global,
     name: JobName<U>,
+    progress: Progress<U>,
+}
+
+/// What is done, and how far it has come. Copies of an assignment share it.
+#[derive(Drop)]
+pub(crate) enum Progress<U: Universe> {
+    /// The key's value is computed, and nothing is answered yet.
+    Begins,
+    /// The key's value is computed, and these batches are answered.
+    Runs(Arc<Trace<U>>),
+    /// An earlier value is checked.
+    Checks(Arc<Checking<U>>),
+}
+
+/// An earlier value that is checked, and the batches that were answered so far.
+#[derive(Drop)]
+pub(crate) struct Checking<U: Universe> {
+    earlier: Earlier<U>,
     answered: Option<Arc<Trace<U>>>,
-    earlier: Option<Earlier<U>>,
 }
 
 // (One function for all places that drop one: a derived drop is written out at each.)
@@ -37,8 +54,7 @@ impl<U: Universe> Drop for Assignment<U> {
         let Assignment {
             alloc: _,
             name: _name,
-            answered: _answered,
-            earlier: _earlier,
+            progress: _progress,
         } = self;
     }
 }
@@ -48,22 +64,37 @@ impl<U: Universe> Model for Assignment<U> {
 
     ghost Value = { Assigned U.Key U.Value };
 
-    ghost use Rattle.dice_jobs.specs.Shapes.{batches_in, work_of};
+    ghost use Rattle.dice_jobs.specs.Shapes.{answers_in, work_in};
 
-    ghost view = { λ a. record { name = a.name; answered = batches_in a.answered; work = work_of a.earlier } };
+    ghost view = { λ a. record { name = a.name; answered = answers_in a.progress; work = work_in a.progress } };
 }
 
 impl<U: Universe> Assignment<U> {
-    /// Nothing is answered yet. It takes no memory.
-    pub(crate) fn new(alloc: Global, name: JobName<U>, earlier: Option<Earlier<U>>) -> Assignment<U>
-        ensures { result ≡ record { name = name; answered = []; work = work_of earlier } }
+    /// The key's value is computed, and nothing is answered yet. It takes no memory.
+    pub(crate) fn begins(alloc: Global, name: JobName<U>) -> Assignment<U>
+        ensures { result ≡ record { name = name; answered = []; work = Computes } }
     {
         Assignment {
             alloc,
             name,
-            answered: None,
-            earlier,
+            progress: Progress::Begins,
         }
+    }
+
+    /// An earlier value is checked, and nothing is answered yet.
+    pub(crate) fn checks(
+        alloc: Global,
+        name: JobName<U>,
+        earlier: Earlier<U>,
+    ) -> Result<Assignment<U>, NoMemory>
+        ensures { IfOk result (λ a. a ≡ record { name = name; answered = []; work = work_of (Some earlier) }) }
+    {
+        let progress = check_of(alloc, earlier, None)?;
+        Ok(Assignment {
+            alloc,
+            name,
+            progress,
+        })
     }
 
     /// Where memory is taken from.
@@ -85,8 +116,7 @@ impl<U: Universe> Assignment<U> {
         let Assignment {
             alloc: _,
             name,
-            answered: _answered,
-            earlier: _earlier,
+            progress: _progress,
         } = self;
         name
     }
@@ -95,14 +125,14 @@ impl<U: Universe> Assignment<U> {
     pub fn earlier(&self) -> Option<&Earlier<U>>
         ensures { work_of (option_copied result) ≡ self.now.work }
     {
-        self.earlier.as_ref()
+        earlier_of(&self.progress)
     }
 
     /// The batches that were answered so far, as a trace. It is shared, not copied.
     pub fn answered(&self) -> Result<Arc<Trace<U>>, NoMemory>
         ensures { IfOk result (λ t. arc_value t ≡ self.now.answered) }
     {
-        match &self.answered {
+        match answers_of(&self.progress) {
             Some(trace) => Ok(Arc::try_clone(trace)?),
             None => Ok(Arc::new(self.alloc, Trace::new(self.alloc))?),
         }
@@ -112,21 +142,12 @@ impl<U: Universe> Assignment<U> {
     pub fn try_clone(&self) -> Result<Assignment<U>, NoMemory>
         ensures { IfOk result (λ a. a ≡ self.now) }
     {
-        let answered = copied(&self.answered)?;
-        self.with_answered(answered)
-    }
-
-    /// The same name and work, with these answered batches.
-    fn with_answered(&self, answered: Option<Arc<Trace<U>>>) -> Result<Assignment<U>, NoMemory>
-        ensures { IfOk result (λ a. a ≡ record { name = self.now.name; answered = batches_in answered; work = self.now.work }) }
-    {
         let name = self.name.try_clone()?;
-        let earlier = copied_earlier(&self.earlier)?;
+        let progress = copied(&self.progress)?;
         Ok(Assignment {
             alloc: self.alloc,
             name,
-            answered,
-            earlier,
+            progress,
         })
     }
 
@@ -142,7 +163,13 @@ impl<U: Universe> Assignment<U> {
     {
         let trace = self.extended_trace(batch, answers)?;
         let answered = Arc::new(self.alloc, trace)?;
-        self.with_answered(Some(answered))
+        let name = self.name.try_clone()?;
+        let progress = with_answered(self.alloc, &self.progress, answered)?;
+        Ok(Assignment {
+            alloc: self.alloc,
+            name,
+            progress,
+        })
     }
 
     /// The trace of the answered batches, with one more.
@@ -154,7 +181,7 @@ impl<U: Universe> Assignment<U> {
         requires { length answers.now ≡ length batch.now }
         ensures { IfOk result (λ t. t ≡ (answered_more self.now batch.now answers.now).answered) }
     {
-        match &self.answered {
+        match answers_of(&self.progress) {
             Some(trace) => trace.extended(self.alloc, batch, answers),
             None => Trace::new(self.alloc).extended(self.alloc, batch, answers),
         }
@@ -166,8 +193,59 @@ impl<U: Universe> Assignment<U> {
         ensures { IsTrue result ↔ (self.now ≡ other.now) }
     {
         self.name.is_same(&other.name)
-            && are_same_batches(&self.answered, &other.answered)
-            && are_same_work(&self.earlier, &other.earlier)
+            && are_same_batches(&self.progress, &other.progress)
+            && are_same_work(&self.progress, &other.progress)
+    }
+}
+
+/// A check of this value, with these answered batches.
+fn check_of<U: Universe>(
+    alloc: Global,
+    earlier: Earlier<U>,
+    answered: Option<Arc<Trace<U>>>,
+) -> Result<Progress<U>, NoMemory>
+    ensures answers { IfOk result (λ p. answers_in p ≡ batches_in answered) }
+    ensures work { IfOk result (λ p. work_in p ≡ work_of (Some earlier)) }
+{
+    let checking = Arc::new(alloc, Checking { earlier, answered })?;
+    Ok(Progress::Checks(checking))
+}
+
+/// The same work, with these answered batches.
+fn with_answered<U: Universe>(
+    alloc: Global,
+    progress: &Progress<U>,
+    answered: Arc<Trace<U>>,
+) -> Result<Progress<U>, NoMemory>
+    ensures answers { IfOk result (λ p. answers_in p ≡ arc_value answered) }
+    ensures work { IfOk result (λ p. work_in p ≡ work_in progress.now) }
+{
+    match progress {
+        Progress::Checks(of) => check_of(alloc, of.earlier.try_clone()?, Some(answered)),
+        _ => Ok(Progress::Runs(answered)),
+    }
+}
+
+/// The same work and answered batches again, shared.
+fn copied<U: Universe>(progress: &Progress<U>) -> Result<Progress<U>, NoMemory>
+    ensures answers { IfOk result (λ p. answers_in p ≡ answers_in progress.now) }
+    ensures work { IfOk result (λ p. work_in p ≡ work_in progress.now) }
+{
+    match progress {
+        Progress::Begins => Ok(Progress::Begins),
+        Progress::Runs(trace) => Ok(Progress::Runs(Arc::try_clone(trace)?)),
+        Progress::Checks(checking) => Ok(Progress::Checks(Arc::try_clone(checking)?)),
+    }
+}
+
+/// The answered batches, where there are any.
+fn answers_of<U: Universe>(progress: &Progress<U>) -> Option<&Arc<Trace<U>>>
+    ensures { batches_in (option_copied result) ≡ answers_in progress.now }
+{
+    match progress {
+        Progress::Begins => None,
+        Progress::Runs(trace) => Some(trace),
+        Progress::Checks(checking) => checking.answered.as_ref(),
     }
 }
 
@@ -184,31 +262,21 @@ impl<U: Universe> Earlier<U> {
     }
 }
 
-/// The same batches again, shared.
-fn copied<U: Universe>(answered: &Option<Arc<Trace<U>>>) -> Result<Option<Arc<Trace<U>>>, NoMemory>
-    ensures { IfOk result (λ t. batches_in t ≡ batches_in answered.now) }
+/// The earlier value that is checked, where one is.
+fn earlier_of<U: Universe>(progress: &Progress<U>) -> Option<&Earlier<U>>
+    ensures { work_of (option_copied result) ≡ work_in progress.now }
 {
-    match answered {
-        Some(trace) => Ok(Some(Arc::try_clone(trace)?)),
-        None => Ok(None),
+    match progress {
+        Progress::Checks(checking) => Some(&checking.earlier),
+        _ => None,
     }
 }
 
-/// The same earlier value again, shared.
-fn copied_earlier<U: Universe>(earlier: &Option<Earlier<U>>) -> Result<Option<Earlier<U>>, NoMemory>
-    ensures { IfOk result (λ e. work_of e ≡ work_of earlier.now) }
+/// Whether the same batches have the same answers.
+fn are_same_batches<U: Universe>(a: &Progress<U>, b: &Progress<U>) -> bool
+    ensures { IsTrue result ↔ (answers_in a.now ≡ answers_in b.now) }
 {
-    match earlier {
-        Some(earlier) => Ok(Some(earlier.try_clone()?)),
-        None => Ok(None),
-    }
-}
-
-/// Whether these are the same batches with the same answers.
-fn are_same_batches<U: Universe>(a: &Option<Arc<Trace<U>>>, b: &Option<Arc<Trace<U>>>) -> bool
-    ensures { IsTrue result ↔ (batches_in a.now ≡ batches_in b.now) }
-{
-    match (a, b) {
+    match (answers_of(a), answers_of(b)) {
         (None, None) => true,
         (Some(one), None) | (None, Some(one)) => one.len() == 0,
         (Some(one), Some(other)) => one.is_same(other),
@@ -216,11 +284,11 @@ fn are_same_batches<U: Universe>(a: &Option<Arc<Trace<U>>>, b: &Option<Arc<Trace
 }
 
 /// Whether both compute, or both check the same value with the same trace and base.
-fn are_same_work<U: Universe>(a: &Option<Earlier<U>>, b: &Option<Earlier<U>>) -> bool
-    ensures { IsTrue result ↔ (work_of a.now ≡ work_of b.now) }
+fn are_same_work<U: Universe>(a: &Progress<U>, b: &Progress<U>) -> bool
+    ensures { IsTrue result ↔ (work_in a.now ≡ work_in b.now) }
 {
     laws_of::<U>();
-    match (a, b) {
+    match (earlier_of(a), earlier_of(b)) {
         (None, None) => true,
         (Some(one), Some(other)) => {
             one.base == other.base && *one.value == *other.value && one.trace.is_same(&other.trace)

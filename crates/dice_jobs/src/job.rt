@@ -23,11 +23,11 @@ pub(crate) enum Ready<U: Universe> {
     /// A run begins.
     Begin,
     /// The run goes on with the answers to the batch that it last asked.
-    Resume(U::Run, Answers<U::Value>),
+    Resume(Box<U::Run>, Answers<U::Value>),
     /// The check begins.
-    Check(Check<U>),
+    Check(Box<Check<U>>),
     /// The check goes on with the answers to the batch that it wanted.
-    Feed(Check<U>, Answers<U::Value>),
+    Feed(Box<Check<U>>, Answers<U::Value>),
 }
 
 /// A piece of work for a key at a version that is done outside the core: one step of a run, or of a check of an earlier value.
@@ -67,7 +67,7 @@ impl<U: Universe> Job<U> {
         ensures { result ≡ record { name = name; answered = []; work = Computes } }
     {
         Job {
-            assignment: Assignment::new(alloc, name, None),
+            assignment: Assignment::begins(alloc, name),
             ready: Ready::Begin,
         }
     }
@@ -76,9 +76,10 @@ impl<U: Universe> Job<U> {
     pub fn check(alloc: Global, name: JobName<U>, earlier: Earlier<U>) -> Result<Job<U>, NoMemory>
         ensures { IfOk result (λ j. j ≡ record { name = name; answered = []; work = work_of (Some earlier) }) }
     {
-        let check = Check::new(Arc::try_clone(&earlier.trace)?);
+        let check = Box::new(alloc, Check::new(Arc::try_clone(&earlier.trace)?))?;
+        let assignment = Assignment::checks(alloc, name, earlier)?;
         Ok(Job {
-            assignment: Assignment::new(alloc, name, Some(earlier)),
+            assignment,
             ready: Ready::Check(check),
         })
     }
@@ -123,7 +124,7 @@ fn ending_of<U: Universe>(
     ensures { IfOk result (λ e. IsEnding U.meaning U.Value.eq U.running assignment.now e) }
 {
     match ready {
-        Ready::Begin => begun(universe, assignment.name()),
+        Ready::Begin => begun(assignment.alloc(), universe, assignment.name()),
         Ready::Resume(run, answers) => resumed(universe, run, &answers),
         Ready::Check(check) => checked(assignment.alloc(), check),
         Ready::Feed(mut check, answers) => {
@@ -134,42 +135,40 @@ fn ending_of<U: Universe>(
 }
 
 /// The first move of a run.
-fn begun<U: Universe>(universe: &U, name: &JobName<U>) -> Result<Ending<U>, NoMemory>
+fn begun<U: Universe>(alloc: Global, universe: &U, name: &JobName<U>) -> Result<Ending<U>, NoMemory>
     requires { U.meaning.kind name.now.key ≢ Injected }
     ensures { IfOk result (λ e. RunEnds U.meaning U.running (record { key = name.now.key; version = name.now.version; answered = [] }) e) }
 {
     let (run, step) = universe.begin(name.key(), name.version())?;
-    Ok(moved(run, step))
+    match step {
+        Move::Ask(batch) => {
+            let run = Box::new(alloc, run)?;
+            Ok(Ending::Asks(batch, Course::Run(run)))
+        }
+        Move::Done(value) => Ok(Ending::Done(value)),
+    }
 }
 
 /// The next move of a run.
 fn resumed<U: Universe>(
     universe: &U,
-    run: U::Run,
+    run: Box<U::Run>,
     answers: &Answers<U::Value>,
 ) -> Result<Ending<U>, NoMemory>
-    requires { Takes (next_of U.meaning (U.running run)) (length answers.now) }
-    ensures { IfOk result (λ e. RunEnds U.meaning U.running (resumed U.meaning (U.running run) answers.now) e) }
+    requires { Takes (next_of U.meaning (U.running run.value)) (length answers.now) }
+    ensures { IfOk result (λ e. RunEnds U.meaning U.running (resumed U.meaning (U.running run.value) answers.now) e) }
 {
     let mut run = run;
-    let step = universe.resume(&mut run, answers)?;
-    Ok(moved(run, step))
-}
-
-/// A run with its move.
-fn moved<U: Universe>(run: U::Run, step: Move<U::Key, U::Value>) -> Ending<U>
-    requires { IsStep step (next_of U.meaning (U.running run)) }
-    ensures { RunEnds U.meaning U.running (U.running run) result }
-{
+    let step = universe.resume(&mut *run, answers)?;
     match step {
-        Move::Ask(batch) => Ending::Asks(batch, Course::Run(run)),
-        Move::Done(value) => Ending::Done(value),
+        Move::Ask(batch) => Ok(Ending::Asks(batch, Course::Run(run))),
+        Move::Done(value) => Ok(Ending::Done(value)),
     }
 }
 
 /// What a check finds.
-fn checked<U: Universe>(alloc: Global, check: Check<U>) -> Result<Ending<U>, NoMemory>
-    ensures { IfOk result (λ e. CheckEnds U.Value.eq check e) }
+fn checked<U: Universe>(alloc: Global, check: Box<Check<U>>) -> Result<Ending<U>, NoMemory>
+    ensures { IfOk result (λ e. CheckEnds U.Value.eq check.value e) }
 {
     match check.next() {
         Next::Want(wanted) => {

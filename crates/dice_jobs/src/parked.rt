@@ -11,8 +11,8 @@ use std::marker::Model;
 /// What goes on when a batch is answered: a run, or a check.
 #[derive(Drop)]
 pub(crate) enum Course<U: Universe> {
-    Run(U::Run),
-    Check(Check<U>),
+    Run(Box<U::Run>),
+    Check(Box<Check<U>>),
 }
 
 /// A job between two steps: it waits for the answers to a batch.
