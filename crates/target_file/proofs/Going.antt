@@ -4,7 +4,7 @@ use Rattle.std.proofs.lemmas.List.{take-append-drop, length-take-le, length-drop
 use Rattle.std.proofs.Math.Seq.{take-append-add, take-append_seam, take-length}
 use Rattle.target_file.specs.declared.table.Rule.TheVariants.{WriteFile}
 use Rattle.std.specs.List.{AllByRecursion}
-use Rattle.target_file.specs.Tokens.{Word, Text, Mode, Between, Comment, InWord, InText, Escape, Scan, next, is_mark, is_quote, is_letter, escaped}
+use Rattle.target_file.specs.Tokens.{Word, Text, Mode, Between, Comment, InWord, InText, Escape, Scan, next, is_quote, is_letter, escaped}
 use Rattle.target_file.specs.Machine.{State, Steps, first}
 use Rattle.target_file.specs.Code.{bare, Stepped, Refuses, Takes, Took, Ran, Went, Stops, Fails, is_special, Means, IsBroken, HasNoEnd, Quoted}
 use Rattle.target_file.specs.Files.{IsBad}
