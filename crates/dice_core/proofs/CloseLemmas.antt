@@ -12,10 +12,9 @@ use Rattle.journal.specs.declared.event.Told.{Told}
 use Rattle.journal.specs.declared.event.Told.TheVariants.{Close, Drop}
 use Rattle.journal.specs.Events.{Opened, Asking, is_for, one_if, open_at, open_count, live_at, ended_at}
 use Rattle.versioned_graph.specs.Entries.{Stored}
-use Rattle.core_laws.specs.Tasks.{Standing, Works, Ended, Task, goes_on, is_going}
 use Rattle.core_laws.specs.Stands.{VersionStands}
 use Rattle.core_laws.specs.Promises.{is_promise_in, nobody}
-use Rattle.core_laws.specs.Desk.{World, Rests, AreAll, with_version, is_out, out_in}
+use Rattle.core_laws.specs.Desk.{World, Rests, AreAll, with_version, is_out}
 use Rattle.core_laws.proofs.Counts.{all_alike}
 use Rattle.core_laws.proofs.Empties.{idle}
 use Rattle.core_laws.proofs.StepsAsks.{closed_stand}

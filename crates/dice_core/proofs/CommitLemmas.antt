@@ -1,5 +1,5 @@
 -- The first fault among the keys of a commit, and what is set so far.
-use Rattle.std.proofs.Common.{◌≡◌, ◌<◌, ◌+◌, ◌⊎◌, inl, inr, ℕ, max, Bool, true, false, cond, List, [], ◌∷◌, ◌++◌, length, get_or, take, drop, Some, None, refl, sym, ap, ◌∙◌, subst, arith, append_assoc, append-nil}
+use Rattle.std.proofs.Common.{◌≡◌, ◌<◌, ◌+◌, inl, inr, ℕ, max, Bool, true, false, cond, List, [], ◌∷◌, ◌++◌, length, get_or, take, drop, Some, None, refl, sym, ap, ◌∙◌, subst, arith, append_assoc, append-nil}
 use Rattle.std.specs.Arc.{arc_value}
 use Rattle.std.specs.declared.sync.Arc.{Arc}
 use Rattle.std.specs.List.{AllByRecursion}
@@ -16,7 +16,6 @@ use Rattle.dice_core.specs.Commits.{Fault, NotInjected, Twice, key_of, AreSettab
 use Rattle.dice_key.proofs.KeySets.{turned_is, unequal}
 use Rattle.lists.proofs.Distinct.{distinct_after, distinct_before, distinct_end}
 use Rattle.lists.proofs.Each.{all_end, all_middle}
-use Rattle.lists.proofs.Members.{has_last, has_right}
 use Rattle.lists.specs.Lists.{AreDistinct, Has}
 use Rattle.dice_model.proofs.Inputs.{lookup_unset}
 

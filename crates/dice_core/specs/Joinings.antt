@@ -1,5 +1,5 @@
 -- Keys that are asked for, with one version in hand.
-use Rattle.std.specs.Prelude.{◌≡◌, ◌⊎◌, ℕ, Bool, true, false, cond, List, [], ◌∷◌, ◌++◌, ◌+◌, length, Some}
+use Rattle.std.specs.Prelude.{◌≡◌, ◌⊎◌, ℕ, Bool, false, cond, List, [], ◌∷◌, ◌++◌, ◌+◌, length, Some}
 use Rattle.std.specs.Option.{option_map}
 use Rattle.dice_key.specs.Meaning.{Meaning}
 use Rattle.dice_key.specs.declared.universe.Kind.TheVariants.{Injected}
@@ -11,7 +11,7 @@ use Rattle.journal.specs.Events.{Opened, open_at}
 use Rattle.versioned_graph.specs.Edges.{is_edge}
 use Rattle.versioned_graph.specs.Entries.{Stored, entry_at, seen_at}
 use Rattle.versioned_graph.specs.Looks.{Look, Matches, Computes, Checks, look}
-use Rattle.core_laws.specs.Tasks.{Ended, WithValue}
+use Rattle.core_laws.specs.Tasks.{WithValue}
 use Rattle.core_laws.specs.Desk.{World}
 use Rattle.dice_tasks.specs.Entries.{started_for}
 use Rattle.dice_tasks.specs.Helds.{Held, held_ended}

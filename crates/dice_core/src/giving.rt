@@ -148,6 +148,6 @@ fn end_or_differ<U: Universe>(
         (Report::Differs(dep), Some(earlier)) => {
             differs::<U>(alloc, desk, tasks, owed, version, key, step, earlier, dep)
         }
-        _ => Err(NoMemory),
+        _ => unreachable!(),
     }
 }

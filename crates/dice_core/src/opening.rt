@@ -112,13 +112,13 @@ pub(crate) fn ask_in<U: Universe>(
 {
     laws_of::<U>();
     let Some(session) = sessions.session(tx) else {
-        return Err(NoMemory);
+        unreachable!();
     };
     let version = session.version();
     sessions.reserve_ask(tx)?;
     let owed = sessions.owed();
     let Some(tasks) = versions.get_mut(&version) else {
-        return Err(NoMemory);
+        unreachable!();
     };
     let index = ask_key::<U>(
         alloc, universe, graph, desk, tasks, owed, version, &key, by, tx,

@@ -1,15 +1,36 @@
-use Rattle.std.proofs.Common.{◌≡◌, ◌+◌, nat_eq, reverse, Some, refl, sym, ap, ◌∙◌, subst}
+use Rattle.std.proofs.Common.{◌≡◌, ◌+◌, nat_eq, reverse, true, false, Some, None, is_some, refl, sym, ap, ◌∙◌, subst}
 use Rattle.std.specs.Prelude.{IsSome}
 use Rattle.std.specs.Map.{lookup}
-use Rattle.std.specs.Option.{option_copied, option_copied_mut}
+use Rattle.std.specs.Option.{option_copied, option_copied_mut, option_map}
 use Rattle.std.specs.Arc.{arc_value}
 use Rattle.std.proofs.lemmas.List.{length-reverse}
 use Rattle.dice_core.specs.Sessions.{opened_of, session_at}
 use Rattle.dice_core.specs.Cores.{world_of}
-use Rattle.dice_core.proofs.JobsLemmas.{table_found}
+use Rattle.journal.specs.Events.{open_at}
+use Rattle.dice_core.proofs.JobsLemmas.{table_found, none_found}
 use Rattle.dice_core.proofs.SessionLemmas.{fresh_ask, same_stands}
-use Rattle.dice_core.proofs.TurnLemmas.{session_open, hand_open, asked_in_stands, asked_turned}
+use Rattle.dice_core.proofs.TurnLemmas.{opened_some, session_open, hand_open, asked_in_stands, asked_turned}
 use Rattle.dice_core.proofs.opening.ask_in.Goals as goal
+
+-- an open transaction has its session
+pub unreachable-requires : goal.unreachable-requires
+unreachable-requires g c =
+    let R = reverse c.args.desk.now.events in
+    let none : session_at c.args.sessions.now c.args.tx ≡ None = sym c.session.ensures ∙ ap option_copied c.in_default.is in
+    let shut : open_at R c.args.tx ≡ None = sym (c.requires.stands.1.sessions.transactions c.args.tx) ∙ ap (option_map opened_of) none in
+    let clash : false ≡ true = sym (ap is_some shut) ∙ c.requires.opened in
+    cc
+
+-- and its version has a table
+pub unreachable-requires-in_default-get_mut : goal.unreachable-requires-in_default-get_mut
+unreachable-requires-in_default-get_mut g c =
+    let r = c.requires.stands in
+    let ts = c.args.versions.now.entries in
+    let v = c.version-version.result in
+    let known : session_at c.args.sessions.now c.args.tx ≡ Some c.in-Some.session.now = sym c.session.ensures ∙ ap option_copied c.in-Some.is in
+    let w = session_open (reverse c.args.desk.now.events) c.args.sessions.now c.args.tx c.in-Some.session.now v r.1.sessions known c.version-version.ensures in
+    let none : lookup (nat_eq v) ts ≡ None = sym c.get_mut.ensures.value ∙ ap option_copied_mut c.in_default-get_mut.is in
+    absurd (none_found ts v none (r.1.tabled v (opened_some g.U.Key.PartialEq.eq c.laws_of.ensures.keys g.U.Universe.meaning c.laws_of.ensures.lawful c.args.desk.now ts c.args.graph.now r.0 c.args.sessions.now r.1 v c.args.tx (opened_of c.in-Some.session.now) w.0 w.1)))
 
 pub ask_key-requires-clause-hand : goal.ask_key-requires-clause-hand
 ask_key-requires-clause-hand g c κs within =
