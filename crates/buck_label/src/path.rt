@@ -1,7 +1,7 @@
 //! Paths.
 ghost use Rattle.std.specs.Prelude.{◌≡◌, ◌↔◌, ◌≤◌, ℕ, Bool, true, List, [], IsTrue, IfOk, IsErrOf, drop, length};
 ghost use Rattle.buck_label.specs.Paths.{is_segment_byte, IsPathText, IsPath};
-ghost use Rattle.buck_label.specs.Machine.{path_from, after};
+ghost use Rattle.buck_label.specs.Machine.{path_from, after, is_simple};
 ghost use Rattle.buck_label.specs.declared.path.Refused.TheVariants.{NoMemory};
 ghost use Rattle.std.specs.Prelude.{Some, nat_eq, refl};
 ghost use Rattle.std.specs.Ordering.{nat_cmp};
@@ -57,9 +57,30 @@ fn after(segment: Segment, byte: u8) -> Segment
     }
 }
 
+fn is_simple(byte: u8) -> bool
+    ensures { result ≡ is_simple byte }
+{
+    matches!(byte, b'a'..=b'z' | b'0'..=b'9')
+}
+
+/// Whether the bytes are small letters and digits alone, as those of most segments are.
+fn is_simple_word(bytes: &[u8]) -> bool
+    ensures { result ≡ true → path_from Segment.Empty bytes.now ≡ Segment.Good }
+{
+    for i in 0..bytes.len() {
+        if !is_simple(bytes[i]) {
+            return false;
+        }
+    }
+    !bytes.is_empty()
+}
+
 fn segment_of(bytes: &[u8]) -> Segment
     ensures { result ≡ path_from Segment.Empty bytes.now }
 {
+    if is_simple_word(bytes) {
+        return Segment::Good;
+    }
     let mut segment = Segment::Empty;
     for byte in bytes {
         segment = after(segment, *byte);

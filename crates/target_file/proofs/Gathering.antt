@@ -2,7 +2,6 @@
 use Rattle.std.proofs.Common.{◌≡◌, ◌<◌, ◌+◌, ◌-◌, ◌∙◌, sym, ap, refl, subst, ℕ, zero, suc, Bool, true, false, if◌then◌else◌, nat_eq, map, List, [], ◌∷◌, ◌++◌, append_assoc, length, take, drop, get_or, Option, Some, None, arith}
 use Rattle.std.specs.List.{AllByRecursion, starts_with}
 use Rattle.std.specs.Option.{option_or}
-use Rattle.std.specs.declared.vec.Vec.{Vec}
 use Rattle.std.proofs.lemmas.List.{at_drop_more, drop-drop, take_rest, take_more, map-append}
 use Rattle.buck_label.specs.Paths.{IsPath}
 use Rattle.target_file.specs.declared.table.Rule.{Rule}
@@ -10,7 +9,7 @@ use Rattle.target_file.specs.declared.table.Attribute.{Attribute}
 use Rattle.target_file.specs.declared.table.Attribute.TheVariants.{Name}
 use Rattle.target_file.specs.declared.table.Form.TheVariants as form
 use Rattle.target_file.specs.declared.call.Argument as code
-use Rattle.target_file.specs.Seen.{texts_of, value_of, arguments_of}
+use Rattle.target_file.specs.Seen.{value_of, arguments_of}
 use Rattle.target_file.specs.Table.{same_attribute, form_of}
 use Rattle.target_file.specs.Strings.{IsSource, IsCommand, IsLocated, opener, before_close, locations}
 use Rattle.target_file.specs.Calls.{Value, One, Many, Argument}
@@ -42,23 +41,21 @@ given_miss a xs more x e n =
     ap (λ (r : List code.Argument). given a (arguments_of r)) e ∙ miss (value_of x.value) (given a (arguments_of more)) (same_attribute a x.attribute) (same_says a x.attribute) n
 
 -- a string of a list of sources
-pub source_at : {A : Type 0} (xs : List (Vec ℕ A)) (k : ℕ) (x : Vec ℕ A) → AllByRecursion IsSource (texts_of xs) → k < length xs → x ≡ get_or xs k x → IsSource x.items
+pub source_at : (xs : List (List ℕ)) (k : ℕ) (x : List ℕ) → AllByRecursion IsSource xs → k < length xs → x ≡ get_or xs k x → IsSource x
 source_at [] k x h l e = absurd (omega arith)
-source_at (y ∷ xs) zero x h l e = subst (λ (z : Vec ℕ _). IsSource z.items) (sym e) h.0
+source_at (y ∷ xs) zero x h l e = subst IsSource (sym e) h.0
 source_at (y ∷ xs) (suc k) x h l e = source_at xs k x h.1 (omega arith) e
 
 -- one string more of a list
-pub texts_more : {A : Type 0} (xs : List (Vec ℕ A)) (k : ℕ) (x : Vec ℕ A) (old new : List (List ℕ)) (text : List ℕ) → k < length xs → x ≡ get_or xs k x →
-    old ≡ texts_of (take k xs) → text ≡ x.items → new ≡ old ++ text ∷ [] → new ≡ texts_of (take (k + 1) xs)
-texts_more xs k x old new text h e o t n =
-    let all : texts_of (take (k + 1) xs) ≡ texts_of (take k xs) ++ (get_or xs k x).items ∷ [] = ap texts_of (take_more xs k x h) ∙ map-append (λ (v : Vec ℕ _). v.items) (take k xs) (get_or xs k x ∷ []) in
-    n ∙ ap (λ (y : List ℕ). old ++ y ∷ []) (t ∙ ap (λ (v : Vec ℕ _). v.items) e) ∙ ap (λ (ys : List (List ℕ)). ys ++ (get_or xs k x).items ∷ []) o ∙ sym all
+pub texts_more : (xs : List (List ℕ)) (k : ℕ) (x : List ℕ) (old new : List (List ℕ)) → k < length xs → x ≡ get_or xs k x → old ≡ take k xs → new ≡ old ++ x ∷ [] → new ≡ take (k + 1) xs
+texts_more xs k x old new h e o n =
+    n ∙ ap (λ (y : List ℕ). old ++ y ∷ []) e ∙ ap (λ (ys : List (List ℕ)). ys ++ get_or xs k x ∷ []) o ∙ sym (take_more xs k x h)
 
-pub sources_more : {A : Type 0} (xs : List (Vec ℕ A)) (k : ℕ) (x : Vec ℕ A) (old new : List Source) (text : List ℕ) → k < length xs → x ≡ get_or xs k x →
-    old ≡ map source_of (texts_of (take k xs)) → text ≡ x.items → new ≡ old ++ source_of text ∷ [] → new ≡ map source_of (texts_of (take (k + 1) xs))
-sources_more xs k x old new text h e o t n =
-    let all : texts_of (take k xs) ++ text ∷ [] ≡ texts_of (take (k + 1) xs) = texts_more xs k x (texts_of (take k xs)) (texts_of (take k xs) ++ text ∷ []) text h e refl t refl in
-    n ∙ ap (λ (ys : List Source). ys ++ source_of text ∷ []) o ∙ sym (map-append source_of (texts_of (take k xs)) (text ∷ [])) ∙ ap (map source_of) all
+pub sources_more : (xs : List (List ℕ)) (k : ℕ) (x : List ℕ) (old new : List Source) → k < length xs → x ≡ get_or xs k x →
+    old ≡ map source_of (take k xs) → new ≡ old ++ source_of x ∷ [] → new ≡ map source_of (take (k + 1) xs)
+sources_more xs k x old new h e o n =
+    let all : take k xs ++ x ∷ [] ≡ take (k + 1) xs = texts_more xs k x (take k xs) (take k xs ++ x ∷ []) h e refl refl in
+    n ∙ ap (λ (ys : List Source). ys ++ source_of x ∷ []) o ∙ sym (map-append source_of (take k xs) (x ∷ [])) ∙ ap (map source_of) all
 
 -- the label behind an opener
 pub label_is : (rest : List ℕ) (at : ℕ) → at < length rest → get_or rest at 0 ≡ 41 → NoClose (take at rest) → take at rest ≡ before_close rest

@@ -5,12 +5,12 @@ use Rattle.target_file.specs.declared.mode.Mode.{Mode}
 use Rattle.target_file.specs.declared.mode.Mode.TheVariants as mode
 use Rattle.target_file.specs.declared.place.Place.TheVariants as place
 use Rattle.target_file.specs.Tokens as tokens
-use Rattle.target_file.specs.Seen.{texts_of, arguments_of, call_of}
+use Rattle.target_file.specs.Seen.{arguments_of, call_of}
 use Rattle.target_file.specs.Machine.{State, Steps, Runs}
 use Rattle.target_file.specs.declared.reader.Reader.{Reader}
 
 abbrev pub state_of : Progress → State
-state_of p = record { calls = map call_of p.calls.items; line = p.line; rule = p.rule; given = arguments_of p.given.items; items = texts_of p.items.items; place = p.place }
+state_of p = record { calls = map call_of p.calls.items; line = p.line; rule = p.rule; given = arguments_of p.given.items; items = p.items.items; place = p.place }
 
 -- the token is taken, or there is none to go on to
 abbrev pub Stepped : State → tokens.Token → Bool → State → Type 0

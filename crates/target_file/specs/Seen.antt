@@ -8,12 +8,9 @@ use Rattle.target_file.specs.declared.call.Argument.{Argument}
 use Rattle.target_file.specs.declared.call.Call.{Call}
 use Rattle.target_file.specs.Calls as calls
 
-abbrev pub texts_of : {A : Type 0} → List (Vec ℕ A) → List (List ℕ)
-texts_of vs = map (λ v. v.items) vs
-
 abbrev pub value_of : Value → calls.Value
 value_of (value.One v) = calls.One v.items
-value_of (value.Many vs) = calls.Many (texts_of vs.items)
+value_of (value.Many vs) = calls.Many vs.items
 
 abbrev pub argument_of : Argument → calls.Argument
 argument_of a = record { attribute = a.attribute; value = value_of a.value }

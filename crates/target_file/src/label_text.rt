@@ -1,12 +1,10 @@
 //! Labels as they are written.
-ghost use Rattle.std.specs.Prelude.{◌≡◌, IfOk, nat_eq};
+ghost use Rattle.std.specs.Prelude.{◌≡◌, nat_eq};
 ghost use Rattle.std.specs.Cmp.Lexicographic.{pointwise, nat_list_eq_equiv};
 ghost use Rattle.std.specs.Cmp.{partial_equiv_from_equiv};
 ghost use Rattle.buck_label.specs.Labels.{IsSomeLabel};
 
-use crate::fault::NoMemory;
 use buck_label::Text;
-use std::alloc::Global;
 use std::marker::Model;
 
 /// A label as it stands in a target file: absolute, or `:NAME` of the file's own package. Which label that is
@@ -28,13 +26,12 @@ impl Model for LabelText {
 }
 
 impl LabelText {
-    /// The label of these bytes.
-    pub(crate) fn of(alloc: Global, bytes: &[u8]) -> Result<LabelText, NoMemory>
-        requires { IsSomeLabel bytes.now }
-        ensures { IfOk result (λ l. l ≡ bytes.now) }
+    /// The label of this text.
+    pub(crate) fn of(text: Text) -> LabelText
+        requires { IsSomeLabel text }
+        ensures { result ≡ text }
     {
-        let text = Text::from_slice(alloc, bytes)?;
-        Ok(LabelText { text })
+        LabelText { text }
     }
 
     /// Its bytes, as written.

@@ -46,8 +46,8 @@ pub fn text_of<'a>(arguments: &'a [Argument], attribute: Attribute, default: &'a
 }
 
 /// The list that is given for an attribute, or an empty one.
-pub fn list_of(arguments: &[Argument], attribute: Attribute) -> &[Vec<u8>]
-    ensures { seen.texts_of result.now ≡ list_in (option_or (given attribute (arguments_of arguments.now)) (Some (Many []))) }
+pub fn list_of(arguments: &[Argument], attribute: Attribute) -> &[Text]
+    ensures { result.now ≡ list_in (option_or (given attribute (arguments_of arguments.now)) (Some (Many []))) }
 {
     match given(arguments, attribute) {
         Some(Value::Many(items)) => items,
@@ -68,29 +68,30 @@ pub fn path_of(alloc: Global, text: &[u8]) -> Result<Path, NoMemory>
 }
 
 /// The texts of a list.
-pub fn texts_of(alloc: Global, items: &[Vec<u8>]) -> Result<Vec<Text>, NoMemory>
-    ensures { IfOk result (λ v. v.items ≡ seen.texts_of items.now) }
+pub fn texts_of(alloc: Global, items: &[Text]) -> Result<Vec<Text>, NoMemory>
+    ensures { IfOk result (λ v. v.items ≡ items.now) }
 {
     let mut texts = Vec::with_capacity(alloc, items.len())?;
     for item in items {
-        texts.push(Text::from_slice(alloc, item)?)?;
+        texts.push(item.try_clone()?)?;
     }
     Ok(texts)
 }
 
 /// The source that a string names.
-fn source_of(alloc: Global, text: &[u8]) -> Result<Source, NoMemory>
+fn source_of(alloc: Global, text: &Text) -> Result<Source, NoMemory>
     requires { IsSource text.now }
     ensures { IfOk result (λ s. s ≡ source_of text.now) }
 {
-    if is_label_like(text) {
-        return Ok(Source::Label(LabelText::of(alloc, text)?));
+    let bytes = text.as_bytes();
+    if is_label_like(bytes) {
+        return Ok(Source::Label(LabelText::of(text.try_clone()?)));
     }
-    Ok(Source::Path(path_of(alloc, text)?))
+    Ok(Source::Path(path_of(alloc, bytes)?))
 }
 
 /// Adds the source that a string names.
-fn add_source(alloc: Global, sources: &mut Vec<Source>, text: &[u8]) -> Result<(), NoMemory>
+fn add_source(alloc: Global, sources: &mut Vec<Source>, text: &Text) -> Result<(), NoMemory>
     requires { IsSource text.now }
     ensures { OnOk result (sources.new.items ≡ sources.old.items ++ source_of text.now ∷ []) }
 {
@@ -99,9 +100,9 @@ fn add_source(alloc: Global, sources: &mut Vec<Source>, text: &[u8]) -> Result<(
 }
 
 /// The sources of a list.
-fn sources_of(alloc: Global, items: &[Vec<u8>]) -> Result<Sources, NoMemory>
-    requires { AllByRecursion IsSource (seen.texts_of items.now) }
-    ensures { IfOk result (λ s. s ≡ map source_of (seen.texts_of items.now)) }
+fn sources_of(alloc: Global, items: &[Text]) -> Result<Sources, NoMemory>
+    requires { AllByRecursion IsSource items.now }
+    ensures { IfOk result (λ s. s ≡ map source_of items.now) }
 {
     let mut sources = Vec::with_capacity(alloc, items.len())?;
     for item in items {
@@ -118,7 +119,8 @@ fn locations_of(alloc: Global, text: &[u8]) -> Result<Vec<LabelText>, NoMemory>
     let mut labels = Vec::new(alloc);
     for i in 0..text.len() {
         if opens(&text[i..]) {
-            labels.push(LabelText::of(alloc, label_in(&text[i + 11..]))?)?;
+            let label = Text::from_slice(alloc, label_in(&text[i + 11..]))?;
+            labels.push(LabelText::of(label))?;
         }
     }
     Ok(labels)

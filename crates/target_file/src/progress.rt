@@ -11,6 +11,7 @@ use crate::given::{is_given, is_list, is_whole, may_be, may_hold};
 use crate::names::Names;
 use crate::place::Place;
 use crate::table::{Attribute, Rule, attribute_of, form_of, rule_of};
+use buck_label::Text;
 use std::alloc::Global;
 use std::mem::replace;
 
@@ -22,7 +23,7 @@ pub struct Progress {
     line: u64,
     rule: Rule,
     given: Vec<Argument>,
-    items: Vec<Vec<u8>>,
+    items: Vec<Text>,
     pub place: Place,
     names: Names,
     ghost numbered: { (q : List ℕ) → number_of names q ≡ number_from 0 q (map call_of calls.items) (arguments_of given.items) },
@@ -31,7 +32,8 @@ pub struct Progress {
 
 impl Progress {
     ghost use Rattle.std.specs.Prelude.{◌≡◌, ◌↔◌, true, false, ℕ, List, [], IfOk, OnOk, length, map};
-    ghost use Rattle.target_file.specs.Tokens.{Word, Text, Mark};
+    ghost use Rattle.target_file.specs.Tokens.{Word, Mark};
+    ghost use Rattle.target_file.specs.Tokens as token;
     ghost use Rattle.target_file.specs.Calls.{One};
     ghost use Rattle.target_file.specs.Files.{IsFine, names};
     ghost use Rattle.lists.specs.Lists.{Has};
@@ -109,7 +111,7 @@ impl Progress {
 
     /// A string.
     pub fn text(&mut self, text: Vec<u8>) -> Result<bool, NoMemory>
-        ensures { IfOk result (λ ok. Stepped (state_of self.old) (Text text.items) ok (state_of self.new)) }
+        ensures { IfOk result (λ ok. Stepped (state_of self.old) (token.Text text.items) ok (state_of self.new)) }
     {
         match self.place {
             Place::Value(attribute) => self.value(attribute, text),
@@ -121,7 +123,7 @@ impl Progress {
     /// A string as an attribute's value.
     fn value(&mut self, attribute: Attribute, text: Vec<u8>) -> Result<bool, NoMemory>
         requires { self.old.place ≡ Place.Value attribute }
-        ensures { IfOk result (λ ok. Stepped (state_of self.old) (Text text.items) ok (state_of self.new)) }
+        ensures { IfOk result (λ ok. Stepped (state_of self.old) (token.Text text.items) ok (state_of self.new)) }
     {
         if !may_be(self.rule, attribute, &text) || !self.is_fresh(attribute, &text) {
             return Ok(false);
@@ -166,12 +168,12 @@ impl Progress {
     /// A string of a list.
     fn item(&mut self, attribute: Attribute, text: Vec<u8>) -> Result<bool, NoMemory>
         requires { self.old.place ≡ Place.List attribute }
-        ensures { IfOk result (λ ok. Stepped (state_of self.old) (Text text.items) ok (state_of self.new)) }
+        ensures { IfOk result (λ ok. Stepped (state_of self.old) (token.Text text.items) ok (state_of self.new)) }
     {
         if !may_hold(self.rule, attribute, &text) {
             return Ok(false);
         }
-        self.items.push(text)?;
+        self.items.push(Text::new(self.alloc, text)?)?;
         self.place = Place::Item(attribute);
         Ok(true)
     }
