@@ -58,6 +58,8 @@ enum Made {
     Union,
     Intersection,
     Narrowed,
+    /// Narrowed to what the second set has round a version.
+    Round(u64),
 }
 
 fn make(x: &Ranges, y: &Ranges, how: Made) -> Result<Ranges, NoMemory> {
@@ -65,6 +67,7 @@ fn make(x: &Ranges, y: &Ranges, how: Made) -> Result<Ranges, NoMemory> {
         Made::Union => x.union(y),
         Made::Intersection => x.intersect(y),
         Made::Narrowed => x.try_clone()?.narrowed(y),
+        Made::Round(version) => x.try_clone()?.narrowed_round(y, version),
     }
 }
 
@@ -76,11 +79,14 @@ type MadeRow = (
     &'static [RangeRow],
 );
 
-const MADE: [MadeRow; 4] = [
+const MADE: [MadeRow; 7] = [
     (&SET, &[(5, Some(7))], Made::Union, &[(1, None)]),
     (&[(1, Some(5))], &TAIL, Made::Intersection, &[(3, Some(5))]),
     (&[(1, Some(5))], &TAIL, Made::Narrowed, &[(3, Some(5))]),
     (&SET, &TAIL, Made::Narrowed, &[(3, Some(5)), (7, None)]),
+    (&TAIL, &SET, Made::Round(4), &[(3, Some(5))]),
+    (&TAIL, &SET, Made::Round(5), &[]),
+    (&SET, &SET, Made::Round(7), &[(7, None)]),
 ];
 
 /// The number of the first row where another set is made.

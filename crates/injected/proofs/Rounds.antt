@@ -1,4 +1,4 @@
--- The longest range round a version in which a test holds.
+-- The sets round a version up to which a value stays.
 use Rattle.std.proofs.Common.{◌≡◌, ◌≤◌, ◌<◌, ◌+◌, ◌-◌, ◌⊎◌, ℕ, zero, suc, Bool, true, false, ◌&&◌, cond, leb, ltb, List, [], ◌∷◌, length, get_or, Option, Some, None, refl, ap, sym, ◌∙◌, subst, inl, inr, arith}
 use Rattle.std.specs.Cmp.{both_ways}
 use Rattle.std.proofs.lemmas.Bool.{and_from, and_parts, cases_lt, cases_Bool, le-leb, lt-leb, lt-ltb, leb-true, ltb-true}
@@ -9,71 +9,12 @@ use Rattle.std.specs.Prelude.{map, nat_eq}
 use Rattle.std.specs.Option.{option_eq}
 use Rattle.std.proofs.lemmas.List.{get_or-map, length-map}
 use Rattle.injected.specs.Numbers.{tests, names, AreBegun}
-use Rattle.injected.specs.Rounds.{all_from, all_between, stays}
+use Rattle.version_ranges.specs.Rounds.{all_between}
+use Rattle.version_ranges.proofs.Ends.{in_from}
+use Rattle.version_ranges.proofs.Rounds.{between_up, from_between, there, longer, in_to, is_open_in, is_closed_in, not_both, round_is}
+use Rattle.injected.specs.Rounds.{stays}
 use Rattle.injected.proofs.Histories.{value_here, value_before}
 use Rattle.injected.proofs.Numbered.{rising_tests}
-
-module _ (f : ℕ → Bool) where
-  at_each : (v n : ℕ) → all_from f v n ≡ true → (u : ℕ) → v ≤ u → u < v + n → f u ≡ true
-  at_each v zero h u l m = absurd (omega arith)
-  at_each v (suc n) h u l m = let p = and_parts (f v) (all_from f (suc v) n) h in elim (cases_lt v u) as (λ _. f u ≡ true) [
-    | inl i ↦ at_each (suc v) n p.1 u (omega arith) (omega arith)
-    | inr i ↦ let e : v ≡ u = omega arith in subst (λ x. f x ≡ true) e p.0
-  ]
-
-  from_each : (v n : ℕ) → ((u : ℕ) → v ≤ u → u < v + n → f u ≡ true) → all_from f v n ≡ true
-  from_each v zero g = refl
-  from_each v (suc n) g = and_from (f v) (all_from f (suc v) n) (g v (omega arith) (omega arith)) (from_each (suc v) n (λ u l m. g u (omega arith) (omega arith)))
-
-  -- a test that holds between two versions holds at each of them
-  pub between_up : (v w : ℕ) → all_between f v w ≡ true → (u : ℕ) → v ≤ u → u ≤ w → f u ≡ true
-  between_up v w h u l m = at_each v (suc (w - v)) (and_parts (all_from f v (suc (w - v))) (all_from f w (suc (v - w))) h).0 u l (omega arith)
-
-  pub between_down : (v w : ℕ) → all_between f v w ≡ true → (u : ℕ) → w ≤ u → u ≤ v → f u ≡ true
-  between_down v w h u l m = at_each w (suc (v - w)) (and_parts (all_from f v (suc (w - v))) (all_from f w (suc (v - w))) h).1 u l (omega arith)
-
-  pub from_between : (v w : ℕ) → ((u : ℕ) → v ≤ u → u ≤ w → f u ≡ true) → ((u : ℕ) → w ≤ u → u ≤ v → f u ≡ true) → all_between f v w ≡ true
-  from_between v w up down = and_from (all_from f v (suc (w - v))) (all_from f w (suc (v - w)))
-      (from_each v (suc (w - v)) (λ u l m. elim (cases_lt w u) as (λ _. f u ≡ true) [ inl i ↦ down u (omega arith) (omega arith) | inr i ↦ up u l i ]))
-      (from_each w (suc (v - w)) (λ u l m. elim (cases_lt v u) as (λ _. f u ≡ true) [ inl i ↦ up u (omega arith) (omega arith) | inr i ↦ down u l i ]))
-
--- what lies in a range
-in_from : (r : Range) (w : ℕ) → is_in r w ≡ true → r.from ≤ w
-in_from r w h = leb-true r.from w (and_parts (leb r.from w) _ h).0
-
-in_to : (a t w : ℕ) → is_in record { from = a; to = Some t } w ≡ true → w < t
-in_to a t w h = ltb-true w t (and_parts (leb a w) (ltb w t) h).1
-
-is_open_in : (a w : ℕ) → a ≤ w → is_in record { from = a; to = None } w ≡ true
-is_open_in a w l = and_from (leb a w) true (le-leb a w l) refl
-
-is_closed_in : (a t w : ℕ) → a ≤ w → w < t → is_in record { from = a; to = Some t } w ≡ true
-is_closed_in a t w l m = and_from (leb a w) (ltb w t) (le-leb a w l) (lt-ltb w t m)
-
-not_both : (b : Bool) → b ≡ true → b ≡ false → ⊥
-not_both true p q = cc
-not_both false p q = cc
-
-module _ (f : ℕ → Bool) (a v : ℕ) (low : a ≤ v) (below : (u : ℕ) → suc u ≡ a → f u ≡ false) where
-  first_true : (w : ℕ) → all_between f v w ≡ true → a ≤ w
-  first_true w h = elim (cases_lt w a) as (λ _. a ≤ w) [
-    | inl i ↦ (let z = not_both (f (a - 1)) (between_down f v w h (a - 1) (omega arith) (omega arith)) (below (a - 1) (omega arith)) in absurd z)
-    | inr i ↦ i
-  ]
-
-  -- a range in which a test holds, and at whose ends it does not, has the versions up to which it holds from each that it has
-  pub round_is : (o : Option ℕ) → is_in record { from = a; to = o } v ≡ true → ((u : ℕ) → is_in record { from = a; to = o } u ≡ true → f u ≡ true) → ((t : ℕ) → o ≡ Some t → f t ≡ false)
-      → (w : ℕ) → is_in record { from = a; to = o } w ≡ all_between f v w
-  round_is None h g end w = both_ways (is_in record { from = a; to = None } w) (all_between f v w)
-      (λ i. let l = in_from record { from = a; to = None } w i in from_between f v w (λ u p q. g u (is_open_in a u (omega arith))) (λ u p q. g u (is_open_in a u (omega arith))))
-      (λ i. is_open_in a w (first_true w i))
-  round_is (Some t) h g end w = both_ways (is_in record { from = a; to = Some t } w) (all_between f v w)
-      (λ i. let l = in_from record { from = a; to = Some t } w i in let m = in_to a t w i in let n = in_to a t v h in
-      from_between f v w (λ u p q. g u (is_closed_in a t u (omega arith) (omega arith))) (λ u p q. g u (is_closed_in a t u (omega arith) (omega arith))))
-      (λ i. is_closed_in a t w (first_true w i) (elim (cases_lt w t) as (λ _. w < t) [
-        | inl j ↦ j
-        | inr j ↦ (let n = in_to a t v h in absurd (not_both (f t) (between_up f v w i t (omega arith) j) (end t refl)))
-      ]))
 
 -- sets rise from place to place
 pub first_below : {V : Type 0} (s : ℕ × V) (ss : List (ℕ × V)) (j : ℕ) (d : ℕ × V) → IsRising (s ∷ ss) → j < length ss → s.0 < (get_or ss j d).0
@@ -294,18 +235,10 @@ stays_always eq itself at x all v w = from_between (λ u. eq (at u) (at v)) v w 
 module _ {V : Type 0} (eq : V → V → Bool) (at : ℕ → V) where
   -- a value that stays from v to w is the same at w
   pub stays_there : (v w : ℕ) → stays eq at v w ≡ true → eq (at w) (at v) ≡ true
-  stays_there v w h = elim (cases_lt v w) as (λ _. eq (at w) (at v) ≡ true) [
-    | inl l ↦ between_up (λ u. eq (at u) (at v)) v w h w (omega arith) (omega arith)
-    | inr l ↦ between_down (λ u. eq (at u) (at v)) v w h w (omega arith) l
-  ]
+  stays_there v w h = there (λ u. eq (at u) (at v)) v w h
 
   -- where from n on all values are that at n, one that stays from v, which is not above n, to above n stays from v on
   pub stays_longer : (n v w u : ℕ) → v ≤ n → n < w → n ≤ u → ((z : ℕ) → n ≤ z → at z ≡ at n) → stays eq at v w ≡ true → stays eq at v u ≡ true
   stays_longer n v w u hv hw hu same h =
       let f = λ (z : ℕ). eq (at z) (at v) in
-      from_between f v u
-      (λ z p q. elim (cases_lt n z) as (λ _. eq (at z) (at v) ≡ true) [
-        | inl l ↦ ap (λ x. eq x (at v)) (same z (omega arith)) ∙ between_up f v w h n hv (omega arith)
-        | inr l ↦ between_up f v w h z p (omega arith)
-      ])
-      (λ z p q. between_up f v w h z (omega arith) (omega arith))
+      longer f n v w u hv hw hu (λ z l. ap (λ x. eq x (at v)) (same z l) ∙ between_up f v w h n hv (omega arith)) h

@@ -7,7 +7,8 @@ ghost use Rattle.dice_key.specs.Lawful.{IsEquality};
 ghost use Rattle.version_ranges.specs.Members.{contains, is_in, is_open};
 ghost use Rattle.injected.specs.History.{value_at, newest_of, IsRising};
 ghost use Rattle.injected.specs.Numbers.{tests, names, AreBegun};
-ghost use Rattle.injected.specs.Rounds.{all_between, stays};
+ghost use Rattle.version_ranges.specs.Rounds.{all_between};
+ghost use Rattle.injected.specs.Rounds.{stays};
 
 use dice_key::NoMemory;
 use indexmap::IndexSet;

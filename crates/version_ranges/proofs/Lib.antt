@@ -4,3 +4,4 @@ pub mod Appends
 pub mod Merges
 pub mod Searches
 pub mod Canonical
+pub mod Rounds

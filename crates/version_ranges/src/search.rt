@@ -1,8 +1,9 @@
 //! What a binary search finds in a list of ranges.
-ghost use Rattle.std.specs.Prelude.{◌≡◌, ℕ, ◌-◌, ◌<◌, ◌≤◌, ◌&&◌, nat_lt, length, slice_index_or};
+ghost use Rattle.std.specs.Prelude.{◌≡◌, ℕ, true, false, ◌-◌, ◌<◌, ◌≤◌, ◌&&◌, nat_lt, length, slice_index_or, MatchOption};
 ghost use Rattle.version_ranges.specs.declared.half_open.Range.{Range};
-ghost use Rattle.version_ranges.specs.Members.{contains};
+ghost use Rattle.version_ranges.specs.Members.{contains, is_before, is_in};
 ghost use Rattle.version_ranges.specs.Order.{IsSeparate};
+ghost use Rattle.version_ranges.specs.Rounds.{all_between};
 
 use crate::half_open::{Range, ends_by, is_before_end};
 
@@ -16,6 +17,22 @@ pub(crate) fn is_among(ranges: &[Range], version: u64) -> bool
         return false;
     }
     is_before_end(version, ranges[begun - 1].to)
+}
+
+/// The range that has the version, if one does.
+pub(crate) fn range_at(ranges: &[Range], version: u64) -> Option<Range>
+    requires { IsSeparate ranges.now }
+    ensures { MatchOption result (contains ranges.now version ≡ false) (λ r. (is_before r.from r.to ≡ true) × ((w : ℕ) → is_in r w ≡ all_between (contains ranges.now) version w)) }
+{
+    let begun = ranges.partition_point(|next| next.from <= version);
+    if begun == 0 {
+        return None;
+    }
+    let last = ranges[begun - 1];
+    if !is_before_end(version, last.to) {
+        return None;
+    }
+    Some(last)
 }
 
 /// How many ranges begin below `end`.

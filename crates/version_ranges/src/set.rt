@@ -2,13 +2,14 @@
 ghost use Rattle.std.specs.Prelude.{◌≡◌, ℕ, ◌<◌, ◌^◌, true, ◌&&◌, ◌||◌, [], ◌==◌, nat_lt, IfOk, OnOk, OnErr};
 ghost use Rattle.std.specs.Option.{ForSome};
 ghost use Rattle.version_ranges.specs.declared.half_open.Range.{Range};
-ghost use Rattle.version_ranges.specs.Members.{contains, is_in, is_open};
+ghost use Rattle.version_ranges.specs.Members.{contains, is_before, is_in, is_open};
 ghost use Rattle.version_ranges.specs.Order.{IsSeparate};
+ghost use Rattle.version_ranges.specs.Rounds.{all_between};
 
 use crate::half_open::Range;
 use crate::memory::NoMemory;
 use crate::merge::{append, append_common, intersection_of, union_of};
-use crate::search::{cut, is_among};
+use crate::search::{cut, is_among, range_at};
 use std::alloc::Global;
 use std::marker::Model;
 
@@ -142,6 +143,42 @@ impl Ranges {
             ranges = intersection_of(*ranges.allocator(), &ranges, &other.ranges)?;
         }
         Ok(Ranges { ranges })
+    }
+
+    /// Of these versions, in place of them, those up to which the other set has all from the given one on, or from there back. The cost
+    /// is logarithmic in the number of the other's ranges; where this set is one range it takes no memory.
+    pub fn narrowed_round(self, other: &Ranges, version: u64) -> Result<Ranges, NoMemory>
+        ensures { IfOk result (λ r. (w : ℕ) → contains r w ≡ (contains self w && all_between (contains other.now) version w)) }
+    {
+        match range_at(&other.ranges, version) {
+            Some(range) => self.within(range),
+            None => Ok(self.emptied()),
+        }
+    }
+
+    /// Of these versions, in place of them, those in a range.
+    fn within(self, range: Range) -> Result<Ranges, NoMemory>
+        requires { is_before range.from range.to ≡ true }
+        ensures { IfOk result (λ r. (w : ℕ) → contains r w ≡ (contains self w && is_in range w)) }
+    {
+        let mut ranges = self.ranges;
+        if let [own] = ranges.as_slice() {
+            let own = *own;
+            ranges.clear();
+            append_common(&mut ranges, own, range)?;
+        } else {
+            ranges = intersection_of(*ranges.allocator(), &ranges, &[range])?;
+        }
+        Ok(Ranges { ranges })
+    }
+
+    /// No versions, in place of these. It takes no memory.
+    fn emptied(self) -> Ranges
+        ensures { result ≡ [] }
+    {
+        let mut ranges = self.ranges;
+        ranges.clear();
+        Ranges { ranges }
     }
 
     /// Keeps exactly the versions below `end`. It takes no memory.

@@ -21,6 +21,8 @@ use Rattle.versioned_graph.specs.Sound.{IsOpenAt, IsTrue, IsRecorded, IsTailed, 
 use Rattle.versioned_graph.proofs.Asked.{asked_in_trace, is_asked_of}
 use Rattle.versioned_graph.proofs.Bools.{all_map, HasKey, all_at}
 use Rattle.versioned_graph.proofs.MarkLemmas.{marked_true, trace_true}
+use Rattle.version_ranges.specs.Rounds.{all_between}
+use Rattle.version_ranges.proofs.Rounds.{there, longer}
 use Rattle.injected.specs.Rounds.{stays}
 use Rattle.injected.proofs.Rounds.{stays_longer}
 use Rattle.versioned_graph.proofs.Tails.{more_edges, written_tailed}
@@ -87,8 +89,8 @@ module _ {K V : Type 0} (eq : K → K → Bool) (m : Meaning K V) (law : IsLawfu
       by_entry None p q = absurd (let z = eqb-true w v q in omega arith)
       by_entry (Some f) p q = by_eq (veq f.value a) q
         where
-          by_eq : (b : Bool) → cond b (f.ranges w) (nat_eq w v) ≡ true → cond b (f.ranges u) (nat_eq u v) ≡ true
-          by_eq true r = (tailed_ones d f p).tail w r hw u hu
+          by_eq : (b : Bool) → cond b (all_between f.ranges v w) (nat_eq w v) ≡ true → cond b (all_between f.ranges v u) (nat_eq u v) ≡ true
+          by_eq true r = longer f.ranges (length C) v w u hv hw hu ((tailed_ones d f p).tail w (there f.ranges v w r) hw) r
           by_eq false r = absurd (let z = eqb-true w v r in omega arith)
 
       by_kinds : (kd : Kind) → if_injected kd (stays veq (λ z. at z d) v w) (known_by m veq (es d) v a w) ≡ true → if_injected kd (stays veq (λ z. at z d) v u) (known_by m veq (es d) v a u) ≡ true
@@ -109,8 +111,8 @@ module _ {K V : Type 0} (eq : K → K → Bool) (m : Meaning K V) (law : IsLawfu
       by_entry None p q = absurd (let z = eqb-true w v q in omega arith)
       by_entry (Some f) p q = by_eq (veq f.value a) q
         where
-          by_eq : (b : Bool) → cond b (f.ranges w) (nat_eq w v) ≡ true → (f : Kept K V) × (es d ≡ Some f) × IsOpenAt (length C) f.ranges
-          by_eq true r = (f, p, (tailed_ones d f p).tail w r hw)
+          by_eq : (b : Bool) → cond b (all_between f.ranges v w) (nat_eq w v) ≡ true → (f : Kept K V) × (es d ≡ Some f) × IsOpenAt (length C) f.ranges
+          by_eq true r = (f, p, (tailed_ones d f p).tail w (there f.ranges v w r) hw)
           by_eq false r = absurd (let z = eqb-true w v r in omega arith)
 
       by_kinds : (kd : Kind) → m.kind d ≡ kd → if_injected kd (stays veq (λ z. at z d) v w) (known_by m veq (es d) v a w) ≡ true → (f : Kept K V) × (es d ≡ Some f) × IsOpenAt (length C) f.ranges

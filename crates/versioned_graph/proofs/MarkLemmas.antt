@@ -13,6 +13,8 @@ use Rattle.dice_model.proofs.Traces.{trace_value}
 use Rattle.dice_model.proofs.Alike.{same_answers}
 use Rattle.versioned_graph.specs.Entries.{Kept, if_injected, all_of_batch, all_of, known_by, known, marked}
 use Rattle.versioned_graph.specs.Sound.{IsTrue, Holds}
+use Rattle.version_ranges.specs.Rounds.{all_between}
+use Rattle.version_ranges.proofs.Rounds.{there}
 use Rattle.injected.specs.Rounds.{stays}
 use Rattle.injected.proofs.Rounds.{stays_there}
 use Rattle.std.proofs.lemmas.Bool.{and_parts, cases_Bool, not-true, or_cases}
@@ -29,7 +31,7 @@ module _ {K V : Type 0} (eq : K → K → Bool) (m : Meaning K V) (law : IsLawfu
       by_entry : (o : Option (Kept K V)) → es d ≡ o → known_by m veq o v a w ≡ true → HasValue eq m C w d a
       by_entry None p q = subst (λ n. HasValue eq m C n d a) (sym (eqb-true w v q)) i
       by_entry (Some f) p q = elim (cases_Bool (veq f.value a)) as (λ _. HasValue eq m C w d a) [
-        | inl t ↦ (let r : f.ranges w ≡ true = rw t at q in subst (HasValue eq m C w d) (same f.value a t) ((true_ones d f p).holds w r h))
+        | inl t ↦ (let r : f.ranges w ≡ true = there f.ranges v w (let i : all_between f.ranges v w ≡ true = rw t at q in i) in subst (HasValue eq m C w d) (same f.value a t) ((true_ones d f p).holds w r h))
         | inr t ↦ (let r : nat_eq w v ≡ true = rw t at q in subst (λ n. HasValue eq m C n d a) (sym (eqb-true w v r)) i)
       ]
 

@@ -9,6 +9,7 @@ use Rattle.dice_key.specs.declared.universe.Kind.{Kind}
 use Rattle.dice_key.specs.declared.universe.Kind.TheVariants.{Injected, Computed, Projection}
 use Rattle.version_ranges.specs.declared.half_open.Range.{Range}
 use Rattle.version_ranges.specs.Members.{contains}
+use Rattle.version_ranges.specs.Rounds.{all_between}
 use Rattle.injected.specs.Rounds.{stays}
 
 -- an entry as it is stored; with the keys from which an edge to its key is recorded
@@ -62,11 +63,11 @@ all_of f [] = true
 all_of f (b ∷ bs) = all_of_batch f b.keys b.values && all_of f bs
 
 module _ {K V : Type 0} (m : Meaning K V) (veq : V → V → Bool) where
-  -- whether version w is known by the entry of a dependency that was answered with a at v: where the entry has that value, its
-  -- ranges are known, else v alone
+  -- whether version w is known by the entry of a dependency that was answered with a at v: where the entry has that value, the
+  -- versions up to which its ranges have all from v on, or from there back, are known; else v alone
   abbrev pub known_by : Option (Kept K V) → ℕ → V → ℕ → Bool
   known_by None v a w = nat_eq w v
-  known_by (Some e) v a w = cond (veq e.value a) (e.ranges w) (nat_eq w v)
+  known_by (Some e) v a w = cond (veq e.value a) (all_between e.ranges v w) (nat_eq w v)
 
   -- whether version w is known for a dependency that was answered with a at v: of an injected one the versions round v up to which
   -- its input stays as it is there

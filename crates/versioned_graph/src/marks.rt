@@ -3,6 +3,7 @@ ghost use Rattle.std.specs.Prelude.{◌≡◌, ◌<◌, ℕ, ◌&&◌, IfOk, Som
 ghost use Rattle.std.specs.Arc.{arc_value};
 ghost use Rattle.std.specs.Option.{option_map};
 ghost use Rattle.version_ranges.specs.Members.{contains};
+ghost use Rattle.version_ranges.specs.Rounds.{all_between};
 ghost use Rattle.injected.specs.Seen.{cell_at};
 ghost use Rattle.dep_recorder.specs.Recordings.{keys_in, values_in};
 ghost use Rattle.versioned_graph.specs.Entries.{kept_of, entry_at, known_by, known, all_of_batch, all_of, marked};
@@ -106,12 +107,19 @@ fn known_by_entry<U: Universe>(
     ensures { IfOk result (λ r. (w : ℕ) → contains r w ≡ (contains ranges w && known_by U.meaning U.Value.eq (option_map (λ e. kept_of e.now) known.entry) version (arc_value answer.now) w)) }
 {
     match known {
-        Some(entry) if *entry.value == **answer => both(ranges, &entry.ranges),
+        Some(entry) if *entry.value == **answer => round(ranges, &entry.ranges, version),
         _ => {
             let alone = Ranges::one(alloc, version).map_err(|_| NoMemory)?;
             both(ranges, &alone)
         }
     }
+}
+
+/// Of these versions those up to which the others have all from the version on, or from there back.
+fn round(ranges: Ranges, others: &Ranges, version: u64) -> Result<Ranges, NoMemory>
+    ensures { IfOk result (λ r. (w : ℕ) → contains r w ≡ (contains ranges w && all_between (contains others.now) version w)) }
+{
+    ranges.narrowed_round(others, version).map_err(|_| NoMemory)
 }
 
 /// The versions of both sets.

@@ -5,7 +5,8 @@ use Rattle.std.proofs.lemmas.Result.{IfOk-weaker}
 use Rattle.version_ranges.specs.Members.{contains, is_in}
 use Rattle.injected.specs.History.{value_at, IsRising}
 use Rattle.injected.specs.Numbers.{sets_of, names, tests, AreBegun}
-use Rattle.injected.specs.Rounds.{all_between, stays}
+use Rattle.version_ranges.specs.Rounds.{all_between}
+use Rattle.injected.specs.Rounds.{stays}
 use Rattle.injected.proofs.Lookups.{agrees, as_number}
 use Rattle.injected.proofs.Numbered.{rising_numbers, tests_value, value_of_begun, number_of_begun}
 use Rattle.injected.proofs.Rounds.{ends_above}
