@@ -107,6 +107,11 @@ impl<U: Universe> Next<U> {
 
 /// A task: the work for one key at one version.
 pub struct Task<U: Universe> {
+    parts: Box<Parts<U>>,
+}
+
+/// The parts of a task.
+struct Parts<U: Universe> {
     name: JobName<U>,
     state: TaskState<U::Key, U::Value>,
     load: Load<U>,
@@ -114,14 +119,20 @@ pub struct Task<U: Universe> {
 }
 
 // (One function for all places that drop one: a derived drop is written out at each.)
-impl<U: Universe> Drop for Task<U> {
+impl<U: Universe> Drop for Parts<U> {
     fn drop(self) {
-        let Task {
+        let Parts {
             name: _name,
             state: _state,
             load: _load,
             spare: _spare,
         } = self;
+    }
+}
+
+impl<U: Universe> Drop for Task<U> {
+    fn drop(self) {
+        let Task { parts: _parts } = self;
     }
 }
 
@@ -139,9 +150,9 @@ impl<U: Universe> Model for Task<U> {
 
     ghost use Rattle.dice_tasks.specs.Loads.{standing_of, IsLoaded, IsSupplied};
 
-    ghost view = { λ t. record { name = t.name; standing = standing_of t.load t.state } };
+    ghost view = { λ t. record { name = t.parts.value.name; standing = standing_of t.parts.value.load t.parts.value.state } };
 
-    ghost invariant = { λ t. IsLoaded t.name t.load t.state × IsSupplied t.name.key t.load t.spare };
+    ghost invariant = { λ t. IsLoaded t.parts.value.name t.parts.value.load t.parts.value.state × IsSupplied t.parts.value.name.key t.parts.value.load t.parts.value.spare };
 }
 
 impl<U: Universe> Task<U> {
@@ -153,12 +164,16 @@ impl<U: Universe> Task<U> {
     {
         let job = Job::begin(alloc, name.try_clone()?);
         let own = job.assignment().try_clone()?;
-        Ok(Task {
-            name,
-            state: TaskState::Computing(Stage::Ready),
-            load: Load::Job(job, own),
-            spare: Some(spare),
-        })
+        let parts = Box::new(
+            alloc,
+            Parts {
+                name,
+                state: TaskState::Computing(Stage::Ready),
+                load: Load::Job(job, own),
+                spare: Some(spare),
+            },
+        )?;
+        Ok(Task { parts })
     }
 
     /// A task that checks an earlier value of its key, ready to be taken.
@@ -173,24 +188,36 @@ impl<U: Universe> Task<U> {
     {
         let job = Job::check(alloc, name.try_clone()?, earlier)?;
         let own = job.assignment().try_clone()?;
-        Ok(Task {
-            name,
-            state: TaskState::Checking(Stage::Ready),
-            load: Load::Job(job, own),
-            spare: Some(spare),
-        })
+        let parts = Box::new(
+            alloc,
+            Parts {
+                name,
+                state: TaskState::Checking(Stage::Ready),
+                load: Load::Job(job, own),
+                spare: Some(spare),
+            },
+        )?;
+        Ok(Task { parts })
     }
 
-    /// A task that has ended with a value that was looked up. It takes no memory.
-    pub(crate) fn matched(name: JobName<U>, value: ValueRef<U>) -> Task<U>
-        ensures { result ≡ held_ended name (WithValue (arc_value value)) }
+    /// A task that has ended with a value that was looked up.
+    pub(crate) fn matched(
+        alloc: Global,
+        name: JobName<U>,
+        value: ValueRef<U>,
+    ) -> Result<Task<U>, NoMemory>
+        ensures { IfOk result (λ t. t ≡ held_ended name (WithValue (arc_value value))) }
     {
-        Task {
-            name,
-            state: TaskState::Ended(Outcome::Value(value)),
-            load: Load::Nothing,
-            spare: None,
-        }
+        let parts = Box::new(
+            alloc,
+            Parts {
+                name,
+                state: TaskState::Ended(Outcome::Value(value)),
+                load: Load::Nothing,
+                spare: None,
+            },
+        )?;
+        Ok(Task { parts })
     }
 
     /// Takes the job of a ready task: it goes out. `None` where the task is not ready.
@@ -198,14 +225,15 @@ impl<U: Universe> Task<U> {
         ensures some { IfSome result (λ j. (self.old ≡ held_of j IsReady) × (self.new ≡ held_of j IsOut)) }
         ensures none { IfNone result ((self.new ≡ self.old) × (ready_in self.old.standing ≡ false)) }
     {
-        match mem::replace(&mut self.load, Load::Nothing) {
+        let parts = &mut *self.parts;
+        match mem::replace(&mut parts.load, Load::Nothing) {
             Load::Job(job, own) => {
-                self.state.taken();
-                put(&mut self.load, Load::Away(own));
+                parts.state.taken();
+                put(&mut parts.load, Load::Away(own));
                 Some(job)
             }
             other => {
-                put(&mut self.load, other);
+                put(&mut parts.load, other);
                 None
             }
         }
@@ -215,7 +243,7 @@ impl<U: Universe> Task<U> {
     fn is_away(&self, job: &Assignment<U>) -> bool
         ensures { IsTrue result ↔ (self.now ≡ held_of job.now IsOut) }
     {
-        match &self.load {
+        match &self.parts.load {
             Load::Away(own) => job.is_same(own),
             _ => false,
         }
@@ -229,14 +257,15 @@ impl<U: Universe> Task<U> {
         if !self.is_away(job.assignment()) {
             return Some(job);
         }
-        match mem::replace(&mut self.load, Load::Nothing) {
+        let parts = &mut *self.parts;
+        match mem::replace(&mut parts.load, Load::Nothing) {
             Load::Away(own) => {
-                self.state.back();
-                put(&mut self.load, Load::Job(job, own));
+                parts.state.back();
+                put(&mut parts.load, Load::Job(job, own));
                 None
             }
             other => {
-                put(&mut self.load, other);
+                put(&mut parts.load, other);
                 Some(job)
             }
         }
@@ -254,8 +283,9 @@ impl<U: Universe> Task<U> {
         requires { self.old ≡ held_of parked.job IsOut }
         ensures { self.new ≡ held_of parked.job (IsWaiting parked.keys) }
     {
-        self.state.given(false);
-        put(&mut self.load, Load::Parked(parked));
+        let parts = &mut *self.parts;
+        parts.state.given(false);
+        put(&mut parts.load, Load::Parked(parked));
     }
 
     /// What a waiting task goes on with when its batch has these answers, a value for each key. It costs the number of keys and
@@ -264,7 +294,7 @@ impl<U: Universe> Task<U> {
         requires { (w : Waits U.Key U.Value) × (self.now ≡ held_of w.job (IsWaiting w.keys)) × (length answers ≡ length w.keys) }
         ensures { IfOk result (λ n. FollowsOn self.now n × (n.values ≡ answers)) }
     {
-        match &self.load {
+        match &self.parts.load {
             Load::Parked(parked) => Next::of(parked, answers),
             _ => Err(NoMemory),
         }
@@ -275,13 +305,14 @@ impl<U: Universe> Task<U> {
         requires { FollowsOn self.old next }
         ensures { self.new ≡ held_of next.job IsReady }
     {
-        match mem::replace(&mut self.load, Load::Nothing) {
+        let parts = &mut *self.parts;
+        match mem::replace(&mut parts.load, Load::Nothing) {
             Load::Parked(parked) => {
                 let (job, own) = next.of_parked(parked);
-                self.state.answered();
-                put(&mut self.load, Load::Job(job, own));
+                parts.state.answered();
+                put(&mut parts.load, Load::Job(job, own));
             }
-            other => put(&mut self.load, other),
+            other => put(&mut parts.load, other),
         }
     }
 
@@ -292,9 +323,10 @@ impl<U: Universe> Task<U> {
         requires next { next.job ≡ answered_more parked.job parked.keys next.values }
         ensures { self.new ≡ held_of next.job IsReady }
     {
+        let parts = &mut *self.parts;
         let (job, own) = next.of_parked(parked);
-        self.state.given(true);
-        put(&mut self.load, Load::Job(job, own));
+        parts.state.given(true);
+        put(&mut parts.load, Load::Job(job, own));
     }
 
     /// The check that was out found a difference: the key's value is computed. It takes no memory.
@@ -304,8 +336,9 @@ impl<U: Universe> Task<U> {
         requires job { job ≡ record { name = job.name; answered = []; work = Computes } }
         ensures { self.new ≡ held_of job IsReady }
     {
-        self.state.differs();
-        put(&mut self.load, Load::Job(job, own));
+        let parts = &mut *self.parts;
+        parts.state.differs();
+        put(&mut parts.load, Load::Job(job, own));
     }
 
     /// Ends the task, and hands out the copies of its key. It takes no memory.
@@ -315,16 +348,17 @@ impl<U: Universe> Task<U> {
         ensures spare { IfSome result (AreCopies self.old.name.key) }
         ensures some { IfNone result ⊥ }
     {
-        self.state.end(outcome);
-        put(&mut self.load, Load::Nothing);
-        self.spare.take()
+        let parts = &mut *self.parts;
+        parts.state.end(outcome);
+        put(&mut parts.load, Load::Nothing);
+        parts.spare.take()
     }
 
     /// The name.
     pub fn name(&self) -> &JobName<U>
         ensures { result.now ≡ self.now.name }
     {
-        &self.name
+        &self.parts.name
     }
 
     /// What the task's job is for; `None` where it has ended.
@@ -332,7 +366,7 @@ impl<U: Universe> Task<U> {
         ensures some { IfSome result (λ a. (p : Phase U.Key) × (self.now ≡ held_of a.now p)) }
         ensures none { IfNone result (goes_on self.now.standing ≡ false) }
     {
-        match &self.load {
+        match &self.parts.load {
             Load::Job(_, own) | Load::Away(own) => Some(own),
             Load::Parked(parked) => Some(parked.assignment()),
             Load::Nothing => None,
@@ -343,7 +377,7 @@ impl<U: Universe> Task<U> {
     pub fn batch(&self) -> Option<&Batch<U::Key>>
         ensures { option_map (λ b. b.now) result ≡ waits_for self.now.standing }
     {
-        match &self.load {
+        match &self.parts.load {
             Load::Parked(parked) => Some(parked.batch()),
             _ => None,
         }
@@ -354,7 +388,8 @@ impl<U: Universe> Task<U> {
         ensures some { IfSome result (λ o. self.now.standing ≡ Ended (came o.now)) }
         ensures none { IfNone result (goes_on self.now.standing ≡ true) }
     {
-        match (&self.load, &self.state) {
+        let parts = &*self.parts;
+        match (&parts.load, &parts.state) {
             (Load::Nothing, TaskState::Ended(outcome)) => Some(outcome),
             _ => None,
         }
@@ -391,20 +426,20 @@ impl<U: Universe> Task<U> {
     pub fn is_live(&self) -> bool
         ensures { result ≡ goes_on self.now.standing }
     {
-        !matches!(&self.load, Load::Nothing)
+        !matches!(&self.parts.load, Load::Nothing)
     }
 
     /// Whether its job can be taken.
     pub(crate) fn is_ready(&self) -> bool
         ensures { result ≡ ready_in self.now.standing }
     {
-        matches!(&self.load, Load::Job(..))
+        matches!(&self.parts.load, Load::Job(..))
     }
 
     /// Whether its job is out.
     pub fn is_out(&self) -> bool
         ensures { result ≡ out_in self.now.standing }
     {
-        matches!(&self.load, Load::Away(_))
+        matches!(&self.parts.load, Load::Away(_))
     }
 }

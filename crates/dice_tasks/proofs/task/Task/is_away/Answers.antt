@@ -1,15 +1,19 @@
-use Rattle.std.proofs.Common.{◌∙◌, sym}
+use Rattle.std.proofs.Common.{◌≡◌, ◌∙◌, sym, ap, subst}
 use Rattle.std.proofs.lemmas.Bool.{false≢true}
 use Rattle.core_laws.specs.Tasks.{IsOut}
+use Rattle.dice_tasks.specs.declared.task.Load.TheVariants.{Away}
 use Rattle.dice_tasks.proofs.Tasks.{away_seen, same_out, same_held, kept_away}
 use Rattle.dice_tasks.proofs.task.Task.is_away.Goals as goal
 
 pub returns-in-Away : goal.returns-in-Away
 returns-in-Away g c =
+    let parts = c.self.inside.parts.value in
     let own = c.in-Away.own in
-    let h = away_seen c.self.inside.name c.self.inside.load c.self.inside.state c.args.self.now own c.self.invariant.0 c.self.view_is c.in-Away.is in
+    let away : parts.load ≡ Away own = subst (λ p. p.load ≡ Away own) c.deref.ensures c.in-Away.is in
+    let h = away_seen parts.name parts.load parts.state c.args.self.now own c.self.invariant.0 c.self.view_is away in
     (λ t. h ∙ same_out own c.args.job.now (sym (c.is_same.ensures.0 t)), λ e. c.is_same.ensures.1 (sym (same_held own c.args.job.now IsOut (sym h ∙ e))))
 
 pub returns-in_default : goal.returns-in_default
 returns-in_default g c =
-    (λ t. absurd (false≢true t), λ e. let k = kept_away c.self.inside.name c.self.inside.load c.self.inside.state c.args.self.now c.args.job.now c.self.view_is e in absurd (c.in_default.not-Away k.0 k.1))
+    let parts = c.self.inside.parts.value in
+    (λ t. absurd (false≢true t), λ e. let k = kept_away parts.name parts.load parts.state c.args.self.now c.args.job.now c.self.view_is e in absurd (c.in_default.not-Away k.0 (ap (λ p. p.load) c.deref.ensures ∙ k.1)))
