@@ -296,7 +296,7 @@ impl<U: Universe> Task<U> {
     {
         match &self.parts.load {
             Load::Parked(parked) => Next::of(parked, answers),
-            _ => Err(NoMemory),
+            _ => unreachable!(),
         }
     }
 
