@@ -16,6 +16,9 @@ use buck_label::Label;
 use dice_key::{NoMemory, Path};
 use std::alloc::Global;
 
+/// What most answers fit in: the line of a digest has 65 bytes.
+const LINE: usize = 65;
+
 /// Appends the line of a fault.
 fn fault_line(out: &mut Vec<u8>, fault: &Fault) -> Result<(), NoMemory>
     ensures { OnOk result (out.new.items ≡ out.old.items ++ fault_line fault.now) }
@@ -98,7 +101,7 @@ pub(crate) fn came_lines(alloc: Global, came: &Came) -> Result<Vec<u8>, NoMemory
 fn lines_of_value(alloc: Global, value: &Value) -> Result<Vec<u8>, NoMemory>
     ensures { IfOk result (λ text. text.items ≡ value_lines value.now) }
 {
-    let mut out = Vec::new(alloc);
+    let mut out = Vec::with_capacity(alloc, LINE)?;
     value_lines(&mut out, value)?;
     Ok(out)
 }
@@ -108,7 +111,7 @@ fn line_of_cycle(alloc: Global, path: &Path<Key>) -> Result<Vec<u8>, NoMemory>
     ensures { IfOk result (λ text. (C : List (List (Key × Value))) (v : ℕ) (k : Key) → IsCycle ⟦<Key as PartialEq>⟧.eq buck C v path.now → ReachesFirst C v k path.now → IsToldOf C v k text.items) }
 {
     let labels = labels_of_cycle(alloc, path)?;
-    let mut out = Vec::new(alloc);
+    let mut out = Vec::with_capacity(alloc, LINE)?;
     cycle_line(&mut out, &labels)?;
     Ok(out)
 }
