@@ -1,9 +1,5 @@
 -- The run of sets to the number round a version has the versions up to which the number stays.
-use Rattle.std.proofs.Common.{◌≡◌, ℕ, true}
-use Rattle.version_ranges.specs.Members.{is_in}
-use Rattle.injected.specs.History.{value_at}
-use Rattle.injected.specs.Numbers.{tests, AreBegun}
-use Rattle.version_ranges.specs.Rounds.{all_between}
+use Rattle.injected.specs.Numbers.{tests}
 use Rattle.injected.proofs.Rounds.{run_of, begins_there, begins_of, ends_of, run_round}
 use Rattle.injected.proofs.history.range_of.Goals as goal
 

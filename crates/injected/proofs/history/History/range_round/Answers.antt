@@ -1,13 +1,13 @@
 -- The sets round a version that name the number of its value.
-use Rattle.std.proofs.Common.{◌≡◌, ◌<◌, ◌∙◌, ◌-◌, ◌||◌, ℕ, Bool, ap, sym, subst, get_or, Some, true, arith}
+use Rattle.std.proofs.Common.{◌≡◌, ◌<◌, ◌∙◌, ◌-◌, ℕ, ap, sym, subst, get_or, Some}
 use Rattle.std.specs.Arc.{arc_value}
 use Rattle.std.proofs.lemmas.Result.{IfOk-weaker}
 use Rattle.version_ranges.specs.Members.{contains, is_in}
 use Rattle.injected.specs.History.{value_at, IsRising}
-use Rattle.injected.specs.Numbers.{sets_of, names, tests, AreBegun}
+use Rattle.injected.specs.Numbers.{sets_of, tests, AreBegun}
 use Rattle.version_ranges.specs.Rounds.{all_between}
 use Rattle.injected.specs.Rounds.{stays}
-use Rattle.injected.proofs.Lookups.{agrees, as_number}
+use Rattle.injected.proofs.Lookups.{agrees}
 use Rattle.injected.proofs.Numbered.{rising_numbers, tests_value, value_of_begun, number_of_begun}
 use Rattle.injected.proofs.Rounds.{ends_above}
 use Rattle.injected.proofs.history.History.range_round.Goals as goal
