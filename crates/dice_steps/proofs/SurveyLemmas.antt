@@ -1,5 +1,6 @@
 -- One key of a batch after the other is looked at.
-use Rattle.std.proofs.Common.{◌≡◌, ◌⊎◌, inl, inr, ◌<◌, ◌+◌, ℕ, zero, suc, Bool, true, false, cond, ◌&&◌, ◌||◌, List, [], ◌∷◌, ◌++◌, length, map, take, get_or, refl, sym, ap, ◌∙◌, subst, arith}
+use Rattle.std.proofs.Common.{◌≡◌, ◌⊎◌, inl, inr, ◌<◌, ◌+◌, ℕ, zero, suc, Bool, true, false, cond, ◌&&◌, ◌||◌, List, [], ◌∷◌, ◌++◌, length, map, take, drop, get_or, refl, sym, ap, ◌∙◌, subst, arith}
+use Rattle.std.specs.Prelude.{MatchBool}
 use Rattle.std.specs.Arc.{arc_value}
 use Rattle.std.specs.declared.sync.Arc.{Arc}
 use Rattle.std.specs.List.{list_any}
@@ -25,6 +26,23 @@ get_has : {X : Type 0} (xs : List X) (i : ℕ) (x : X) → i < length xs → x �
 get_has [] i x l e = absurd (omega arith)
 get_has (y ∷ xs) zero x l e = inl (sym e)
 get_has (y ∷ xs) (suc i) x l e = inr (get_has xs i x (omega arith) e)
+
+-- whether one of those that are left passes a test
+module _ {X Y : Type 0} (test : Y → Bool) (f : X → Y) where
+  left_next : (xs : List X) (i : ℕ) (x : X) → i < length xs → x ≡ get_or xs i x → list_any test (map f (drop i xs)) ≡ (test (f x) || list_any test (map f (drop (suc i) xs)))
+  left_next [] i x l e = absurd (omega arith)
+  left_next (y ∷ xs) zero x l e = λ j. test (f (sym e j)) || list_any test (map f xs)
+  left_next (y ∷ xs) (suc i) x l e = left_next xs i x (omega arith) e
+
+  pub left_first : (xs : List X) (i : ℕ) (x : X) → i < length xs → x ≡ get_or xs i x → list_any test (map f (drop i xs)) ≡ (test (f x) || list_any test (map f (drop (i + 1) xs)))
+  left_first xs i x l e =
+      let next : suc i ≡ i + 1 = omega arith in
+      subst (λ n. list_any test (map f (drop i xs)) ≡ (test (f x) || list_any test (map f (drop n xs)))) next (left_next xs i x l e)
+
+-- a key is among these, or it is new; and it is not of a kind that passes
+pub among_or_new : {K : Type 0} (eq : K → K → Bool) (equality : IsEquality eq) (I : Type 0) (ks : List K) (k : K) → (I → ⊥) → (b : Bool) → b ≡ list_any (eq k) ks → MatchBool b (I ⊎ Has ks k) ((I → ⊥) × (Has ks k → ⊥))
+among_or_new eq equality I ks k n true e = inr (any_has eq equality ks k (sym e))
+among_or_new eq equality I ks k n false e = (n, λ h. not_both (has_any eq equality ks k h) (sym e))
 
 -- a key of a batch, with those before it and those after it
 pub batch_at : {K A : Type 0} (items : List (Arc K A)) (i : ℕ) (x : Arc K A) → i < length items → x ≡ get_or items i x → (later : List K) × (map arc_value items ≡ map arc_value (take i items) ++ arc_value x ∷ later)

@@ -29,6 +29,9 @@ use std::sync::Arc;
 use task_share::Wait;
 use versioned_graph::{Found, Graph};
 
+/// As many keys are compared each with each; of more than these a set is made.
+const FEW: usize = 16;
+
 /// What is planned of a key of a batch: what is made of it, and whether it is waited for.
 #[derive(Drop)]
 pub(crate) struct Part<U: Universe> {
@@ -129,7 +132,13 @@ fn look_over<U: Universe>(
 {
     match batch.keys() {
         [key] => look_at::<U>(alloc, universe, graph, tasks, version, own, key, born),
-        keys => look_over_all::<U>(alloc, universe, graph, tasks, version, own, keys, born),
+        keys => {
+            if keys.len() <= FEW {
+                look_over_few::<U>(alloc, universe, graph, tasks, version, own, keys, born)
+            } else {
+                look_over_all::<U>(alloc, universe, graph, tasks, version, own, keys, born)
+            }
+        }
     }
 }
 
@@ -158,7 +167,67 @@ fn look_at<U: Universe>(
     Ok(Survey::Parts(parts))
 }
 
-/// What several keys come to, in their order; each is looked at where it stands first.
+/// What a few keys come to, in their order; each is looked at where it stands first. Those that stand twice are found by a walk over
+/// the parts, which takes no memory.
+fn look_over_few<U: Universe>(
+    alloc: Global,
+    universe: &U,
+    graph: &Graph<U>,
+    tasks: &Tasks<U>,
+    version: u64,
+    own: &KeyRef<U>,
+    keys: &[KeyRef<U>],
+    born: u64,
+) -> Result<Survey<U>, NoMemory>
+    ensures { IfOk result (IsSurvey U.Key.eq U.meaning version born tasks.now graph.now (arc_value own.now) (map arc_value keys.now)) }
+{
+    laws_of::<U>();
+    let mut parts = Vec::new(alloc);
+    for key in keys {
+        if is_passed::<U>(universe, &parts, key) {
+            continue;
+        }
+        if let Some(path) = cycle_at::<U>(alloc, tasks, own, key)? {
+            return Ok(Survey::Cycle(path));
+        }
+        let part = part_of::<U>(alloc, graph, tasks, version, key, born)?;
+        parts.push(part)?;
+    }
+    parts.reverse();
+    Ok(Survey::Parts(parts))
+}
+
+/// Whether a key is injected, or is among those of these parts.
+fn is_passed<U: Universe>(universe: &U, parts: &[Part<U>], key: &KeyRef<U>) -> bool
+    ensures { MatchBool result ((U.meaning.kind (arc_value key.now) ≡ Injected) ⊎ Has (map key_in parts.now) (arc_value key.now)) ((U.meaning.kind (arc_value key.now) ≢ Injected) × (Has (map key_in parts.now) (arc_value key.now) → ⊥)) }
+{
+    laws_of::<U>();
+    match universe.kind(key) {
+        Kind::Injected => true,
+        _ => is_among::<U>(parts, key),
+    }
+}
+
+/// Whether a key is among those of these parts.
+fn is_among<U: Universe>(parts: &[Part<U>], key: &KeyRef<U>) -> bool
+    ensures { result ≡ list_any (U.Key.eq (arc_value key.now)) (map key_in parts.now) }
+{
+    for part in parts {
+        if is_for::<U>(part, key) {
+            return true;
+        }
+    }
+    false
+}
+
+/// Whether a part is that of a key.
+fn is_for<U: Universe>(part: &Part<U>, key: &KeyRef<U>) -> bool
+    ensures { result ≡ U.Key.eq (arc_value key.now) (key_in part.now) }
+{
+    **key == *part.key
+}
+
+/// What many keys come to, in their order; each is looked at where it stands first.
 fn look_over_all<U: Universe>(
     alloc: Global,
     universe: &U,
