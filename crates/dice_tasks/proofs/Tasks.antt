@@ -140,14 +140,6 @@ module _ {U K V R : Type 0} (n : Name K) where
       let m = subst (λ (z : Load U K V R). IsLoaded n z s) e l in
       seen_at_work n own IsOut h m.0 ((λ i. record { name = n; standing = standing_of (sym e i) s }) ∙ v)
 
-  -- the job that was out is brought back
-  pub back_loaded : (load : Load U K V R) (s t : TaskState K V) (h : Held K V) (own job : Assigned K V) (spare : Option (Spare U K V R)) → IsLoaded n load s × IsSupplied n.key load spare → record { name = n; standing = standing_of load s } ≡ h → load ≡ Away own → h ≡ held_of job IsOut → t ≡ with_stage s Ready → ((job ≡ own) × (own.name ≡ n) × (stage_of t ≡ Some Ready) × IsDoing t own.work) × HasCopies n.key spare
-  back_loaded load s t h own job spare l v e o q =
-      let m = subst (λ (z : Load U K V R). IsLoaded n z s) e l.0 in
-      let k = subst (λ (z : Load U K V R). IsSupplied n.key z spare) e l.1 in
-      let j : job ≡ own = sym (same_held own job IsOut (sym (away_seen load s h own l.0 v e) ∙ o)) in
-      ((j, m.0, ap stage_of q ∙ stage_with s Out Ready m.1, subst (λ (z : TaskState K V). IsDoing z own.work) (sym q) (doing_with s Ready own.work m.2)), k)
-
 module _ (U R : Type 0) {K V : Type 0} (n : Name K) where
   -- the job is taken
   pub loaded_away : (j a : Assigned K V) (s : TaskState K V) → IsLoaded {U = U} {K = K} {V = V} {R = R} n (Job j a) s → IsLoaded {U = U} {K = K} {V = V} {R = R} n (Away a) (with_stage s Out)
