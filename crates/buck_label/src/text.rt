@@ -17,8 +17,8 @@ use std::sync::Arc;
 /// A clone copies no byte, equality of unlike texts mostly looks at the hashes alone, and hashing
 /// takes constant time. The order is that of the bytes.
 ///
-/// The hash is SipHash-1-3, whose state is wide: blocks of a text that lead it to one state are not
-/// written down as for a hasher of 64 bits, so whoever picks the texts cannot give them one hash.
+/// The hash is SipHash-1-3, whose state has 256 bits. For a hasher of 64 bits blocks can be written
+/// that lead it to one state, and with them thousands of texts with one hash.
 #[derive(Drop)]
 pub struct Text {
     shared: Arc<Hashed>,
