@@ -162,6 +162,21 @@ paths() {
     }'
 }
 
+# 4,000 names of 32 bytes, each of a transaction and of a request in it; all names have one hash under the kit's default hasher (with
+# this head any eight bytes at the end lead it to the same hash), or each has its own
+names() {
+    awk -v same="$1" 'BEGIN {
+        text = "write_file(name = \"t\", content = \"1\")\n"
+        printf "put a/BUCK %d\n%s\ncommit\n", length(text), text
+        for (i = 0; i < 4000; i++)
+            name[i] = same ? sprintf("head000000021936UfrwccmK%08d", i) : sprintf("head%012dabcdefgh00000000", i)
+        for (i = 0; i < 4000; i++) printf "open %s\n", name[i]
+        for (i = 0; i < 4000; i++) printf "ask %s %s //a:t\n", name[i], name[i]
+        for (i = 0; i < 4000; i++) printf "wait %s\n", name[i]
+        for (i = 0; i < 4000; i++) printf "close %s\n", name[i]
+    }'
+}
+
 # a row of the table: what is measured, and the file of the script with the words of the program
 row() {
     python3 - "$dice" "$@" <<'PYTHON'
@@ -223,3 +238,5 @@ for n in 1000 4000 20000; do
 done
 script '4,000 paths with hashes of their own' paths ''
 script '4,000 paths with one hash' paths 1
+script '4,000 names with hashes of their own' names ''
+script '4,000 names with one hash' names 1
