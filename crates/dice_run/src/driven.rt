@@ -9,6 +9,7 @@ ghost use Rattle.dice_run.specs.Driven.{Carried, Settled, Closing, ClosesOpen, W
 ghost use Rattle.dice_run.specs.Printing.{IsDone};
 
 use crate::driver::Driver;
+use crate::named::with_room;
 use crate::printer::print;
 use crate::{append, client};
 use action_digest::Buck;
@@ -35,17 +36,29 @@ pub(crate) fn drive_alone<R: Wait, G: Gate>(
     ensures output { IfOk result.1 (λ out. IsPrintout trace script.now result.0.seen out.items) }
     ensures journal { OnOk result.1 (IsJournalOf script.now result.0.seen) }
 {
+    let requests = requests_in(script);
     let mut driver = Driver {
         alloc,
         seat,
         gathered: Updater::new(alloc),
         newest: Vec::new(alloc),
         transactions: HashMap::new(alloc),
-        promises: HashMap::new(alloc),
-        answers: HashMap::new(alloc),
+        promises: with_room(alloc, requests),
+        answers: with_room(alloc, requests),
     };
     let output = driver.script(rt, engine, gate, script, trace);
     (driver.into_seat(), output)
+}
+
+/// How many requests a script has.
+fn requests_in(script: &Script) -> usize {
+    let mut count = 0usize;
+    for line in script.lines() {
+        if let Line::Ask(_) | Line::Action(_) = line {
+            count = count.saturating_add(1);
+        }
+    }
+    count
 }
 
 impl Driver {

@@ -6,7 +6,18 @@ ghost use Rattle.std.specs.Cmp.Lexicographic.{pointwise};
 use buck_label::Text;
 use dice_key::NoMemory;
 use script::Name;
+use std::alloc::Global;
 use std::collections::HashMap;
+
+/// Nothing has a name yet. There is room for so many names, if there is memory for it; else it is made as they come.
+pub(crate) fn with_room<V: Drop>(alloc: Global, count: usize) -> HashMap<Text, V>
+    ensures { (q : List ℕ) → get (pointwise nat_eq) result q ≡ None }
+{
+    match HashMap::with_capacity(alloc, count) {
+        Ok(named) => named,
+        Err(_) => HashMap::new(alloc),
+    }
+}
 
 /// Notes what has a name, in place of what had it.
 pub(crate) fn note<V: Drop>(
