@@ -10,7 +10,7 @@ use Rattle.lists.proofs.Members.{has_map, has_mapped}
 use Rattle.number_walk.specs.Reach.{Reaches, stays, waits_on, AreBelow, IsChain, IsWay}
 use Rattle.task_share.specs.Asked as asked
 use Rattle.task_share.specs.Asked.{Asked, Tasked, Leads, asks_on}
-use Rattle.task_share.specs.Seen.{Share, is_for, has_by, list_for, has_place, asks, waits_at, asked_of, IsMirrored}
+use Rattle.task_share.specs.Seen.{Share, is_for, has_by, list_for, asks, waits_at, asked_of, IsMirrored}
 use Rattle.task_share.specs.Numbers.{key_at, number_of, waits_by, names_at, with_name}
 use Rattle.cycle_guard.specs.WaitCycle.{WouldWait, IsRound, IsSecond, IsWaitCycle}
 
@@ -47,19 +47,7 @@ module _ {K : Type 0} (eq : K → K → Bool) (law : IsEquality eq) where
 
 module _ {K T : Type 0} (eq : K → K → Bool) (law : IsEquality eq) where
   module _ (ps : List (K × Share K T)) where
-    -- the number of a key with a place is that of its key
-    pub numbered : (k : K) → has_place eq ps k ≡ true → key_at ps (number_of eq ps k) ≡ Some k
-    numbered k h = go ps h
-      where
-        go : (qs : List (K × Share K T)) → is_some (lookup (eq k) qs) ≡ true → slice_get (keys_of qs) (position_or_len (eq k) (keys_of qs)) ≡ Some k
-        go [] h = cc
-        go (q ∷ qs) h = by_test (go qs) (eq k q.0) refl h
-          where
-            by_test : (is_some (lookup (eq k) qs) ≡ true → slice_get (keys_of qs) (position_or_len (eq k) (keys_of qs)) ≡ Some k) → (b : Bool) → eq k q.0 ≡ b → is_some (cond b (Some q.1) (lookup (eq k) qs)) ≡ true → slice_get (q.0 ∷ keys_of qs) (cond (not b) (1 + position_or_len (eq k) (keys_of qs)) 0) ≡ Some k
-            by_test f true e h = ap Some (sym (law.same k q.0 e))
-            by_test f false e h = ap (slice_get (q.0 ∷ keys_of qs)) (one_more (position_or_len (eq k) (keys_of qs))) ∙ f h
-
-    module _ (distinct : AreDistinct (keys_of ps)) (placed : (k d : K) → list_any (eq d) (waits_at eq ps k) ≡ true → has_place eq ps d ≡ true) (mirror : IsMirrored eq ps) where
+    module _ (distinct : AreDistinct (keys_of ps)) (numbered : (k d : K) → list_any (eq d) (waits_at eq ps k) ≡ true → key_at ps (number_of eq ps d) ≡ Some d) (mirror : IsMirrored eq ps) where
       pub number_is : (n : ℕ) (k : K) → key_at ps n ≡ Some k → number_of eq ps k ≡ n
       number_is n k g = first_at eq law (keys_of ps) n k distinct g
 
@@ -86,13 +74,13 @@ module _ {K T : Type 0} (eq : K → K → Bool) (law : IsEquality eq) where
       wait_by n m k g h =
           let r = has_mapped (number_of eq ps) (waits_at eq ps k) m (subst (λ (xs : List ℕ). Has xs m) (waits_there n k g) h) in
           let a = has_any eq law (waits_at eq ps k) r.0 r.1 in
-          (r.0, ap (key_at ps) (sym r.2) ∙ numbered r.0 (placed k r.0 a), mirror r.0 k ∙ a)
+          (r.0, ap (key_at ps) (sym r.2) ∙ numbered k r.0 a, mirror r.0 k ∙ a)
 
       ask_by : (n : ℕ) (k d : K) → key_at ps n ≡ Some k → asks eq ps d (Tasked k) ≡ true → Has (waits_by eq ps n) (number_of eq ps d) × (key_at ps (number_of eq ps d) ≡ Some d)
       ask_by n k d g a =
           let t = sym (mirror d k) ∙ a in
           let h = any_has eq law (waits_at eq ps k) d t in
-          (subst (λ (xs : List ℕ). Has xs (number_of eq ps d)) (sym (waits_there n k g)) (has_map (number_of eq ps) (waits_at eq ps k) d h), numbered d (placed k d t))
+          (subst (λ (xs : List ℕ). Has xs (number_of eq ps d)) (sym (waits_there n k g)) (has_map (number_of eq ps) (waits_at eq ps k) d h), numbered k d t)
 
       pub below : AreBelow (waits_by eq ps) (length ps)
       below n m h = by_place (slice_get ps n) refl h
@@ -156,31 +144,20 @@ module _ {K T : Type 0} (eq : K → K → Bool) (law : IsEquality eq) where
         own_cycle e = record { rest = []; begins = refl; second = sym e; distinct = ((λ h. h), tt); round = inr (refl, e) }
 
         -- a key without a place waits for nothing, and nothing waits for it
-        pub no_waiter : has_place eq ps to ≡ false → (from ≡ to → ⊥) → Leads (asked_of eq ps) to from → ⊥
+        pub no_waiter : lookup (eq to) ps ≡ None → (from ≡ to → ⊥) → Leads (asked_of eq ps) to from → ⊥
         no_waiter none n l = by_step l (λ e. n (sym e))
           where
-            placeless : (o : Option (Share K T)) → is_some o ≡ false → o ≡ None
-            placeless None e = refl
-            placeless (Some p) e = cc
-
             by_step : {j : K} → Leads (asked_of eq ps) to j → (to ≡ j → ⊥) → ⊥
             by_step asked.stays f = f refl
-            by_step (asks_on {i = i} a l) f = let t = sym (mirror i to) ∙ a in let z : list_any (eq i) [] ≡ true = ap (λ (o : Option (Share K T)). list_any (eq i) (list_for (λ (p : Share K T). p.waits) o)) (sym (placeless (lookup (eq to) ps) none)) ∙ t in cc
+            by_step (asks_on {i = i} a l) f = let t = sym (mirror i to) ∙ a in let z : list_any (eq i) [] ≡ true = ap (λ (o : Option (Share K T)). list_any (eq i) (list_for (λ (p : Share K T). p.waits) o)) (sym none) ∙ t in cc
 
-        pub no_asked : has_place eq ps from ≡ false → (from ≡ to → ⊥) → Leads (asked_of eq ps) to from → ⊥
+        pub no_asked : lookup (eq from) ps ≡ None → (from ≡ to → ⊥) → Leads (asked_of eq ps) to from → ⊥
         no_asked none n l = by_step to from l none (λ e. n (sym e))
           where
-            there : (i k : K) → asks eq ps i (Tasked k) ≡ true → has_place eq ps i ≡ true
-            there i k a = by_option (lookup (eq i) ps) a
-              where
-                by_option : (o : Option (Share K T)) → is_for (λ (p : Share K T). has_by eq p (Tasked k)) o ≡ true → is_some o ≡ true
-                by_option None e = cc
-                by_option (Some p) e = refl
+            ends : (i j k : K) → asks eq ps i (Tasked k) ≡ true → Leads (asked_of eq ps) i j → lookup (eq j) ps ≡ None → ⊥
+            ends i j k a asked.stays e = let z : false ≡ true = ap (is_for (λ (p : Share K T). has_by eq p (Tasked k))) (sym e) ∙ a in cc
+            ends i j k a (asks_on {i = d} b l) e = ends d j i b l e
 
-            ends : (i j : K) → has_place eq ps i ≡ true → Leads (asked_of eq ps) i j → has_place eq ps j ≡ true
-            ends i j h asked.stays = h
-            ends i j h (asks_on {i = d} a l) = ends d j (there d i a) l
-
-            by_step : (k j : K) → Leads (asked_of eq ps) k j → has_place eq ps j ≡ false → (k ≡ j → ⊥) → ⊥
+            by_step : (k j : K) → Leads (asked_of eq ps) k j → lookup (eq j) ps ≡ None → (k ≡ j → ⊥) → ⊥
             by_step k j asked.stays e f = f refl
-            by_step k j (asks_on {i = d} a l) e f = let h = ends d j (there d k a) l in cc
+            by_step k j (asks_on {i = d} a l) e f = ends d j k a l e

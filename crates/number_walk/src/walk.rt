@@ -12,24 +12,26 @@ pub trait Waits {
     /// What a number waits for.
     ghost waits: { Self → ℕ → List ℕ };
 
+    /// How many numbers there are, from 0 on. A walk asks that what they wait for is among them.
+    ghost count: { Self → ℕ };
+
     /// What a number waits for.
     fn waits_of(&self, number: usize) -> &[usize]
         ensures { result.now ≡ waits self.now number };
 }
 
 /// The way along the waits from `start` to a number that waits for `goal`, both among them; `None` exactly where no waits lead
-/// from the start to the goal. All that is waited for is below `count`.
+/// from the start to the goal.
 ///
 /// Each number is met at most once, and each of its waits passed at most once.
 pub fn way<W: Waits>(
     alloc: Global,
     graph: &W,
-    count: usize,
     start: usize,
     goal: usize,
 ) -> Result<Option<Vec<usize>>, NoMemory>
-    requires below { AreBelow (W.waits graph.now) count }
-    requires start { start < count }
+    requires below { AreBelow (W.waits graph.now) (W.count graph.now) }
+    requires start { start < W.count graph.now }
     requires other { start ≡ goal → ⊥ }
     ensures way { IfOk result (λ o. IfSome o (λ w. IsWay (W.waits graph.now) start goal w.items)) }
     ensures some { IfOk result (λ o. IfSome o (λ w. Reaches (W.waits graph.now) start goal)) }

@@ -10,7 +10,7 @@ pub loop-number-smaller : goal.loop-number-smaller
 loop-number-smaller g c =
     let i = c.loop-number.invariant in
     let met = c.loop-number.trail.met.keys in
-    let f = few_met (g.W.Waits.waits c.args.graph.now) c.args.start c.args.goal c.args.count met c.loop-number.trail.parents.items i.trail i.begun c.requires.below c.requires.start in
+    let f = few_met (g.W.Waits.waits c.args.graph.now) c.args.start c.args.goal (g.W.Waits.count c.args.graph.now) met c.loop-number.trail.parents.items i.trail i.begun c.requires.below c.requires.start in
     let w = slice_get_within met c.loop-number.head c.in-Some.number.now (sym c.in-Some.ensures.key) in
     omega arith
 

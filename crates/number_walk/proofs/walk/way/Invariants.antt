@@ -12,4 +12,4 @@ invariant-loop-number g l =
     }
 
 abbrev pub decreases-loop-number : goal.decreases-loop-number
-decreases-loop-number g l = l.count - l.head
+decreases-loop-number g l = g.W.Waits.count l.graph - l.head
