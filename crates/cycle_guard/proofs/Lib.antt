@@ -1,5 +1,2 @@
-pub mod SearchLemmas
-pub mod StepLemmas
 pub mod CycleLemmas
-pub mod WaitLemmas
 pub mod WayLemmas

@@ -1,2 +1,1 @@
 pub mod WaitCycle
-pub mod Search

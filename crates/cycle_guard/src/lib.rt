@@ -3,7 +3,6 @@
 
 mod guard;
 mod laws;
-mod walk;
 
 pub use guard::would_close;
 pub use laws::no_cycle_stays;
