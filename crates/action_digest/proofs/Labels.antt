@@ -1,11 +1,8 @@
 -- Labels in full.
-use Rattle.std.proofs.Common.{◌≡◌, ◌⊎◌, inl, inr, ℕ, ◌+◌, Bool, true, false, nat_eq, if◌then◌else◌, List, [], ◌∷◌, ◌++◌, length, take, drop, Result, Ok, Err, refl, sym, ap, ◌∙◌, subst, arith, length-append}
+use Rattle.std.proofs.Common.{◌≡◌, ◌⊎◌, inl, inr, ℕ, ◌+◌, Bool, true, false, nat_eq, if◌then◌else◌, List, [], ◌∷◌, ◌++◌, length, take, drop, refl, sym, ap, ◌∙◌, subst, arith, length-append}
 use Rattle.std.specs.Cmp.{unsigned_Decides}
 use Rattle.std.proofs.Math.Seq.{take-append_seam}
 use Rattle.buck_label.specs.Labels.{Name, IsLabelIn, NoColon, printed, before_colon, last_from, package_of}
-use Rattle.buck_label.specs.Reading.{IsRead}
-use Rattle.buck_label.specs.declared.path.Refused.{Refused}
-use Rattle.buck_label.specs.declared.path.Refused.TheVariants.{Bad}
 use Rattle.buck_label.proofs.LabelLemmas.{before_at, before_none, front_no_colon, package_no_colon, path_no_colon, last_one}
 use Rattle.action_digest.specs.Written.{in_full, full_label}
 use Rattle.std.proofs.lemmas.Bool.{cases_Bool}
@@ -35,13 +32,8 @@ full_is home text n (inl (inl l)) = ap (full_label home) l.text_is ∙ long_full
 full_is home text n (inl (inr s)) = ap (full_label home) s.text_is ∙ short_full home n.home n.target (path_no_colon n.home s.home) (last_one n.home n.target s.last)
 full_is home text n (inr l) = ap (full_label home) l.text_is ∙ ap (λ (h : List ℕ). printed (record { home = h; target = n.target })) (sym l.home_is)
 
-pub read_full : (home text : List ℕ) (r : Result (List ℕ) Refused) (l : List ℕ) → IsRead (IsLabelIn home text) r → r ≡ Ok l → l ≡ full_label home text
-read_full home text r l h e =
-    let g : IsRead (IsLabelIn home text) (Ok l) = subst (IsRead (IsLabelIn home text)) e h in
-    g.0.2 ∙ sym (full_is home text g.0.0 g.0.1)
-
-pub never_bad : (P : Name → Type 0) (r : Result (List ℕ) Refused) → IsRead P r → ((n : Name) × P n) → r ≡ Err Bad → ⊥
-never_bad P r h k e = (subst (IsRead P) e h) k.0 k.1
+pub named_full : (home text l : List ℕ) → ((n : Name) × IsLabelIn home text n × (l ≡ printed n)) → l ≡ full_label home text
+named_full home text l h = h.2 ∙ sym (full_is home text h.0 h.1)
 
 -- the package of a label in full: its own where the label is local, else the same in each package
 home_is : (home t : List ℕ) → NoColon home → package_of (printed (record { home = home; target = t })) ≡ home

@@ -161,7 +161,7 @@ fn asked_second(alloc: Global, key: &Key, first: &Answers<Value>) -> Result<Vec<
 {
     match (key, first_of(first.values())) {
         (Key::Action(label), Some(Value::Rule(Ok(rule)))) => {
-            asked_by(alloc, &label.package(alloc)?, rule.target().action())
+            asked_by(alloc, label, rule.target().action())
         }
         _ => Ok(Vec::new(alloc)),
     }

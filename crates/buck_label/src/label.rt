@@ -1,7 +1,7 @@
 //! Labels.
 ghost use Rattle.std.specs.Prelude.{◌≡◌, ◌↔◌, true, ◌<◌, ◌≤◌, ◌+◌, ◌++◌, ◌∷◌, ℕ, List, IfOk, IfSome, IfNone, IsErrOf, OnOk, take, drop, length};
 ghost use Rattle.buck_label.specs.Paths.{IsPath};
-ghost use Rattle.buck_label.specs.Labels.{Name, IsPackage, IsName, IsLabel, IsLabelIn, IsShort, IsLong, printed, printed_package, package_of, target_of, before_colon, last_from, NoColon, IsPair, IsSomeLabel};
+ghost use Rattle.buck_label.specs.Labels.{Name, IsPackage, IsName, IsLabel, IsLabelIn, IsShort, IsLong, printed, printed_package, package_of, target_of, before_colon, last_from, NoColon, IsPair, IsSomeLabel, within};
 ghost use Rattle.std.specs.Prelude.{◌≢◌};
 ghost use Rattle.std.specs.List.{AllByRecursion};
 ghost use Rattle.buck_label.specs.Reading.{IsRead};
@@ -12,8 +12,8 @@ ghost use Rattle.std.specs.Cmp.{partial_equiv_from_equiv};
 ghost use Rattle.std.specs.Hash as fed;
 ghost use Rattle.buck_label.specs.Texts.{hash_of, hash_of_equal};
 
-use crate::package::{Package, is_package};
-use crate::path::{Refused, is_path};
+use crate::package::{Package, is_package, join};
+use crate::path::{Path, Refused, is_path};
 use crate::text::Text;
 use std::alloc::{AllocError, Global};
 use std::cmp::Ordering;
@@ -126,6 +126,42 @@ fn absolute(alloc: Global, rest: &[u8]) -> Result<Label, Refused>
     }
 }
 
+/// The label of a text behind whose two slashes these bytes stand. One in full shares the text.
+fn shared(alloc: Global, text: &Text, rest: &[u8]) -> Result<Label, AllocError>
+    requires text { text.now ≡ 47 ∷ 47 ∷ rest.now }
+    requires label { (n : Name) × IsLabel text.now n }
+    ensures { IfOk result (λ l. (n : Name) × IsLabel text.now n × (l ≡ printed n)) }
+{
+    match split(rest) {
+        Some((home, _)) => {
+            let text = text.try_clone()?;
+            let colon = home.len() + 2;
+            Ok(Label { text, colon })
+        }
+        None => Ok(label_of(alloc, rest, last(rest))?),
+    }
+}
+
+/// The label of an absolute text, in any package.
+fn absolute_of(alloc: Global, text: &Text, home: &[u8]) -> Result<Label, AllocError>
+    requires { (n : Name) × IsLabel text.now n }
+    ensures { IfOk result (λ l. (n : Name) × IsLabelIn home.now text.now n × (l ≡ printed n)) }
+{
+    match text.as_bytes() {
+        [b'/', b'/', rest @ ..] => Ok(shared(alloc, text, rest)?),
+        _ => unreachable!(),
+    }
+}
+
+/// The label of the text `:NAME`, by the name.
+fn local_of(alloc: Global, home: &[u8], target: &[u8]) -> Result<Label, AllocError>
+    requires home { IsPackage home.now }
+    requires target { IsPath target.now }
+    ensures { IfOk result (λ l. (n : Name) × IsLabelIn home.now (58 ∷ target.now) n × (l ≡ printed n)) }
+{
+    Ok(label_of(alloc, home, target)?)
+}
+
 impl Label {
     /// Reads an absolute label, `//PACKAGE:NAME` or `//PACKAGE`: `Bad` exactly where the bytes
     /// are none.
@@ -145,6 +181,19 @@ impl Label {
         match bytes {
             [b':', target @ ..] => long(alloc, home.as_bytes(), target),
             _ => Label::read(alloc, bytes),
+        }
+    }
+
+    /// The label that a text names in the target file of this package. One that is written in full shares the text, so
+    /// that no byte is copied or hashed.
+    pub fn of_text(alloc: Global, text: &Text, home: &[u8]) -> Result<Label, AllocError>
+        requires text { IsSomeLabel text.now }
+        requires home { IsPackage home.now }
+        ensures { IfOk result (λ l. (n : Name) × IsLabelIn home.now text.now n × (l ≡ printed n)) }
+    {
+        match text.as_bytes() {
+            [b':', target @ ..] => local_of(alloc, home, target),
+            _ => absolute_of(alloc, text, home),
         }
     }
 
@@ -176,6 +225,13 @@ impl Label {
         ensures { IfOk result (λ p. p ≡ package_of self.now) }
     {
         Package::of(alloc, self.package_bytes())
+    }
+
+    /// The path of a file that is named in the label's package, as `Package::join` gives it.
+    pub fn join(&self, alloc: Global, path: &Path) -> Result<Path, AllocError>
+        ensures { IfOk result (λ p. p ≡ within (package_of self.now) path.now) }
+    {
+        join(alloc, self.package_bytes(), path)
     }
 
     /// The target's name.

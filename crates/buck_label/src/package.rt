@@ -39,6 +39,21 @@ pub(crate) fn is_package(bytes: &[u8]) -> bool
     bytes.is_empty() || is_path(bytes)
 }
 
+/// The path of a file that is named in this package.
+pub(crate) fn join(alloc: Global, home: &[u8], path: &Path) -> Result<Path, AllocError>
+    requires { IsPackage home.now }
+    ensures { IfOk result (λ p. p ≡ within home.now path.now) }
+{
+    if home.is_empty() {
+        return path.try_clone();
+    }
+    let name = path.as_bytes();
+    let mut bytes = Vec::from_slice(alloc, home)?;
+    bytes.push(b'/')?;
+    bytes.extend_from_slice(name)?;
+    Path::of(alloc, bytes)
+}
+
 impl Package {
     /// Reads a package, nothing for the root: `Bad` exactly where the bytes are none.
     pub fn read(alloc: Global, bytes: &[u8]) -> Result<Package, Refused>
@@ -73,15 +88,7 @@ impl Package {
     pub fn join(&self, alloc: Global, path: &Path) -> Result<Path, AllocError>
         ensures { IfOk result (λ p. p ≡ within self.now path.now) }
     {
-        let home = self.as_bytes();
-        if home.is_empty() {
-            return path.try_clone();
-        }
-        let name = path.as_bytes();
-        let mut bytes = Vec::from_slice(alloc, home)?;
-        bytes.push(b'/')?;
-        bytes.extend_from_slice(name)?;
-        Path::of(alloc, bytes)
+        join(alloc, self.as_bytes(), path)
     }
 
     /// The path of the file that lists this package's targets: `PACKAGE/BUCK`, of the root `BUCK`.

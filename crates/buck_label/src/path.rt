@@ -148,6 +148,15 @@ impl Path {
         Ok(Path { text })
     }
 
+    /// The path of this text, which it shares: no byte is copied or hashed.
+    pub fn of_text(text: &Text) -> Result<Path, AllocError>
+        requires { IsPathText text.now }
+        ensures { IfOk result (λ p. p ≡ text.now) }
+    {
+        let text = text.try_clone()?;
+        Ok(Path { text })
+    }
+
     /// Its bytes.
     pub fn as_bytes(&self) -> &[u8]
         ensures text { result.now ≡ self.now }

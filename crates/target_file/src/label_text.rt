@@ -41,6 +41,14 @@ impl LabelText {
     {
         self.text.as_bytes()
     }
+
+    /// The text that it is kept as.
+    pub fn as_text(&self) -> &Text
+        ensures text { result.now ≡ self.now }
+        ensures label { IsSomeLabel self.now }
+    {
+        &self.text
+    }
 }
 
 impl PartialEq for LabelText {
