@@ -108,24 +108,38 @@ fn push_line(text: &mut Vec<u8>, bytes: &[u8]) -> Result<(), NoMemory>
     Ok(())
 }
 
+/// Appends the line of a digest in hex.
+fn push_hex(text: &mut Vec<u8>, digest: &[u8; 32]) -> Result<(), NoMemory>
+    ensures { OnOk result (text.new.items ≡ text.old.items ++ line (encode_lower digest.now)) }
+{
+    let mut hex = [0; 64];
+    match hex::encode_to_slice(digest.as_slice(), &mut hex) {
+        Ok(()) => push_line(text, hex.as_slice()),
+        Err(_) => unreachable!(),
+    }
+}
+
 /// Appends the line of the digest of some bytes.
 fn push_digest(text: &mut Vec<u8>, bytes: &[u8]) -> Result<(), NoMemory>
     ensures { OnOk result (text.new.items ≡ text.old.items ++ line (hex_digest bytes.now)) }
 {
-    let digest = hex::encode(*text.allocator(), digest_of(bytes).as_slice())?;
-    push_line(text, digest.as_bytes())
+    push_hex(text, &digest_of(bytes))
 }
 
 /// Appends the line of something asked: its path or label if it is named, and a digest in hex.
-fn push_named(text: &mut Vec<u8>, named: bool, name: &[u8], digest: &[u8]) -> Result<(), NoMemory>
+fn push_named(
+    text: &mut Vec<u8>,
+    named: bool,
+    name: &[u8],
+    digest: &[u8; 32],
+) -> Result<(), NoMemory>
     ensures { OnOk result (text.new.items ≡ text.old.items ++ digest_line named name.now (encode_lower digest.now)) }
 {
     if named {
         text.extend_from_slice(name)?;
         text.push(b' ')?;
     }
-    let digest = hex::encode(*text.allocator(), digest)?;
-    push_line(text, digest.as_bytes())
+    push_hex(text, digest)
 }
 
 /// Appends the line of a source by its answer, or gives the fault that it has no file.
@@ -140,8 +154,7 @@ fn push_source(
     let Value::Source(Some(bytes)) = value else {
         return Ok(Err(Fault::NoSource(path.try_clone()?)));
     };
-    let digest = digest_of(bytes.as_bytes());
-    push_named(text, named, path.as_bytes(), digest.as_slice())?;
+    push_named(text, named, path.as_bytes(), &digest_of(bytes.as_bytes()))?;
     Ok(Ok(()))
 }
 
@@ -156,7 +169,7 @@ fn push_target(
 {
     match value {
         Value::Digest(Ok(digest)) => {
-            push_named(text, named, label.as_bytes(), digest.as_slice())?;
+            push_named(text, named, label.as_bytes(), digest)?;
             Ok(Ok(()))
         }
         Value::Digest(Err(fault)) => Ok(Err(fault.try_clone()?)),
