@@ -56,15 +56,24 @@ const TAIL: [RangeRow; 1] = [(3, None)];
 #[derive(Clone, Copy)]
 enum Made {
     Union,
+    /// The first set, with the second one added to it.
+    Added,
     Intersection,
     Narrowed,
     /// Narrowed to what the second set has round a version.
     Round(u64),
 }
 
+fn added(x: &Ranges, y: &Ranges) -> Result<Ranges, NoMemory> {
+    let mut both = x.try_clone()?;
+    both.add(y)?;
+    Ok(both)
+}
+
 fn make(x: &Ranges, y: &Ranges, how: Made) -> Result<Ranges, NoMemory> {
     match how {
         Made::Union => x.union(y),
+        Made::Added => added(x, y),
         Made::Intersection => x.intersect(y),
         Made::Narrowed => x.try_clone()?.narrowed(y),
         Made::Round(version) => x.try_clone()?.narrowed_round(y, version),
@@ -79,8 +88,20 @@ type MadeRow = (
     &'static [RangeRow],
 );
 
-const MADE: [MadeRow; 7] = [
+const MADE: [MadeRow; 9] = [
     (&SET, &[(5, Some(7))], Made::Union, &[(1, None)]),
+    (
+        &TAIL,
+        &[(1, Some(2))],
+        Made::Added,
+        &[(1, Some(2)), (3, None)],
+    ),
+    (
+        &[(5, Some(6))],
+        &SET,
+        Made::Added,
+        &[(1, Some(6)), (7, None)],
+    ),
     (&[(1, Some(5))], &TAIL, Made::Intersection, &[(3, Some(5))]),
     (&[(1, Some(5))], &TAIL, Made::Narrowed, &[(3, Some(5))]),
     (&SET, &TAIL, Made::Narrowed, &[(3, Some(5)), (7, None)]),

@@ -29,7 +29,7 @@ last_has [] l s = s.0
 last_has (y ∷ ys) l s = last_has ys l s.2
 
 -- two ranges that touch are one
-joined : (l n m : Range) → l.from ≤ n.from → ends_below l.to n.from ≡ false → m.from ≡ l.from → ((w : ℕ) → is_before w m.to ≡ (is_before w l.to || is_before w n.to)) → (w : ℕ) → is_in m w ≡ (is_in l w || is_in n w)
+pub joined : (l n m : Range) → l.from ≤ n.from → ends_below l.to n.from ≡ false → m.from ≡ l.from → ((w : ℕ) → is_before w m.to ≡ (is_before w l.to || is_before w n.to)) → (w : ℕ) → is_in m w ≡ (is_in l w || is_in n w)
 joined l n m o t q e w = same_tests (is_in m w) (is_in l w || is_in n w) forth back
   where
     split : l.from ≤ w → (is_before w l.to || is_before w n.to) ≡ true → (is_in l w || is_in n w) ≡ true

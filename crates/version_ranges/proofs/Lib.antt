@@ -5,3 +5,4 @@ pub mod Merges
 pub mod Searches
 pub mod Canonical
 pub mod Rounds
+pub mod Places

@@ -9,6 +9,7 @@ mod half_open;
 mod laws;
 mod memory;
 mod merge;
+mod place;
 mod search;
 mod set;
 

@@ -9,6 +9,7 @@ ghost use Rattle.version_ranges.specs.Rounds.{all_between};
 use crate::half_open::Range;
 use crate::memory::NoMemory;
 use crate::merge::{append, append_common, intersection_of, union_of};
+use crate::place::put;
 use crate::search::{cut, is_among, range_at};
 use std::alloc::Global;
 use std::marker::Model;
@@ -97,7 +98,8 @@ impl Ranges {
 
     /// Adds the versions from `from` on, up to but not with `to`; without a `to` all from `from` on.
     ///
-    /// The cost is constant where nothing begins after `from`, and else linear in the number of ranges.
+    /// The cost is constant where nothing begins after `from`. Else it is a binary search and a move of what lies above; where the new
+    /// range touches more than one, it is linear in the number of ranges.
     pub fn insert(&mut self, from: u64, to: Option<u64>) -> Result<(), NoMemory>
         requires { ForSome to (λ t. from < t) }
         ensures ok { OnOk result ((w : ℕ) → contains self.new w ≡ (contains self.old w || is_in (record { from = from; to = to }) w)) }
@@ -107,11 +109,23 @@ impl Ranges {
         if let Some(last) = self.ranges.last()
             && from < last.from
         {
-            let alloc = *self.ranges.allocator();
-            self.ranges = union_of(alloc, &self.ranges, &[range])?;
-            return Ok(());
+            return put(&mut self.ranges, range);
         }
         append(&mut self.ranges, range)
+    }
+
+    /// Adds the versions of another set. At an error all is as before.
+    ///
+    /// Where the other set is one range, it costs what `insert` does, and else it is linear in the number of ranges.
+    pub fn add(&mut self, other: &Ranges) -> Result<(), NoMemory>
+        ensures ok { OnOk result ((w : ℕ) → contains self.new w ≡ (contains self.old w || contains other.now w)) }
+        ensures err { OnErr result (self.new ≡ self.old) }
+    {
+        if let [one] = other.ranges.as_slice() {
+            return self.insert(one.from, one.to);
+        }
+        self.ranges = union_of(*self.ranges.allocator(), &self.ranges, &other.ranges)?;
+        Ok(())
     }
 
     /// The versions of either set.

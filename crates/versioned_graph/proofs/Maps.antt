@@ -1,6 +1,7 @@
 -- The entries, read through the map that holds them.
 use Rattle.std.proofs.Common.{◌≡◌, ◌<◌, ◌||◌, ◌&&◌, ℕ, nat_le, leb-true, not, arith, Bool, true, false, cond, List, [], ◌∷◌, map, Option, Some, None, refl, ap, sym, ◌∙◌}
-use Rattle.std.specs.Map.{lookup}
+use Rattle.std.specs.Map.{lookup, set_value}
+use Rattle.std.proofs.lemmas.Map.Steps.{set_value_same}
 use Rattle.std.specs.Arc.{arc_value, arc_with_value}
 use Rattle.std.specs.Borrow.{Bor}
 use Rattle.std.specs.Option.{option_map, option_copied}
@@ -67,22 +68,37 @@ at_same eq same f k q o h = by_test (eq k q) refl
     by_test false e = refl
 
 -- what is read at k is read at q, where one entry is written that has what was there and more
-pub put-edge : {K : Type 0} (eq : K → K → Bool) (same : AreSame eq) (f : K → Bool) (k q : K) (g u x : Bool) → g ≡ true → x ≡ (f k || u) → cond (eq k q) x (f q) ≡ (f q || (eq k q && (g && u)))
-put-edge eq same f k q g u x e h = by_test (eq k q) refl
+put-edge : {K : Type 0} (eq : K → K → Bool) (same : AreSame eq) (f : K → Bool) (k q : K) (u x : Bool) → x ≡ (f k || u) → cond (eq k q) x (f q) ≡ (f q || (eq k q && u))
+put-edge eq same f k q u x h = by_test (eq k q) refl
   where
     none : (a : Bool) → a ≡ (a || false)
     none true = refl
     none false = refl
 
-    by_test : (b : Bool) → eq k q ≡ b → cond b x (f q) ≡ (f q || (b && (g && u)))
-    by_test true p = h ∙ (ap (λ j. f j || u) (same k q p) ∙ ap (λ a. f q || (a && u)) (sym e))
+    by_test : (b : Bool) → eq k q ≡ b → cond b x (f q) ≡ (f q || (b && u))
+    by_test true p = h ∙ ap (λ j. f j || u) (same k q p)
     by_test false p = none (f q)
 
--- nothing goes in
-pub put-none : (a b g u : Bool) → g ≡ false → a ≡ (a || (b && (g && u)))
-put-none true b g u e = refl
-put-none false true g u e = sym (ap (λ a. a && u) e)
-put-none false false g u e = refl
+-- what is written in place is as before, so all is
+pub entry-same : {K V A : Type 0} (eq : K → K → Bool) (k : K) (es fs : List (Arc K A × Stored K V)) (e f : Stored K V) → lookup (λ a. eq k (arc_value a)) es ≡ Some e → f ≡ e → fs ≡ set_value (λ a. eq k (arc_value a)) es f → map named fs ≡ map named es
+entry-same eq k es fs e f known same written = ap (map named) (written ∙ (ap (set_value (λ a. eq k (arc_value a)) es) same ∙ set_value_same (λ a. eq k (arc_value a)) es e known))
+
+-- what a finish has made of the entry of a key is written there
+module _ {K V A : Type 0} (eq : K → K → Bool) (m : Meaning K V) (veq : V → V → Bool) (k : K) (a : Arc K A) (es fs : List (Arc K A × Stored K V)) (o : Option (Stored K V)) (f n : Stored K V)
+    (known : lookup (λ y. eq k (arc_value y)) es ≡ o)
+    (up : (q : Arc K A) → lookup (λ y. eq (arc_value q) (arc_value y)) fs ≡ cond (eq k (arc_value q)) (Some f) (lookup (λ y. eq (arc_value q) (arc_value y)) es)) where
+  here : entry_at eq (map named es) k ≡ option_map kept_of o
+  here = entry-named eq k es ∙ ap (option_map kept_of) known
+
+  pub entry-taken : kept_of f ≡ written m veq (option_map kept_of o) (kept_of n) → (q : K) → entry_at eq (map named fs) q ≡ cond (eq k q) (Some (written m veq (entry_at eq (map named es) k) (kept_of n))) (entry_at eq (map named es) q)
+  entry-taken h q = entry-put eq k a es fs f up q ∙ ap (λ e. cond (eq k q) (Some e) (entry_at eq (map named es) q)) (h ∙ ap (λ p. written m veq p (kept_of n)) (sym here))
+
+  pub edges-taken : (same : AreSame eq) → ((j : K) → list_any (eq j) f.deps ≡ (deps_of eq o j || (goes_in m veq (option_map kept_of o) (kept_of n) && list_any (eq j) n.deps)))
+      → (j q : K) → is_edge eq (map named fs) j q ≡ (is_edge eq (map named es) j q || (eq k q && (goes_in m veq (entry_at eq (map named es) k) (kept_of n) && list_any (eq j) n.deps)))
+  edges-taken same h j q =
+      edge-put eq k a es fs f up j q
+      ∙ put-edge eq same (λ i. is_edge eq (map named es) j i) k q (goes_in m veq (entry_at eq (map named es) k) (kept_of n) && list_any (eq j) n.deps) (list_any (eq j) f.deps)
+      (h j ∙ ((λ i. (sym (edge-named eq j k es ∙ ap (λ p. deps_of eq p j) known)) i || (goes_in m veq (sym here i) (kept_of n) && list_any (eq j) n.deps))))
 
 -- the entry that is joined from two, as it is stored
 pub joined_made : {K V : Type 0} (m : Meaning K V) (veq : V → V → Bool) (e n : Stored K V) (x : V) (t : List (Answered K V)) (r : List Range) (w : ℕ) (b : Bool) → nat_le e.version n.version ≡ b → x ≡ e.value → t ≡ cond b n.trace e.trace

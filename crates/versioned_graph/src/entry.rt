@@ -1,8 +1,7 @@
 //! What is kept of a key.
-ghost use Rattle.std.specs.Prelude.{◌≡◌, ℕ, Bool, true, false, ◌&&◌, ◌||◌, [], map, not, IfOk, OnOk, MatchOption, Some, unwrap_or};
+ghost use Rattle.std.specs.Prelude.{◌≡◌, ℕ, Bool, true, false, ◌&&◌, ◌||◌, [], map, not, IfOk, OnOk, OnErr, Some};
 ghost use Rattle.std.specs.Arc.{arc_value};
 ghost use Rattle.std.specs.List.{list_any};
-ghost use Rattle.std.specs.Option.{option_map};
 ghost use Rattle.version_ranges.specs.Members.{contains};
 ghost use Rattle.versioned_graph.specs.Entries.{Stored, Kept, kept_of, joined, seen_at, cut_at, goes_in, written};
 ghost use Rattle.versioned_graph.specs.Looks.{look_of, look};
@@ -12,6 +11,7 @@ use dep_recorder::Trace;
 use dice_key::{NoMemory, Universe, laws_of};
 use std::collections::HashSet;
 use std::marker::Model;
+use std::mem::swap;
 use std::sync::Arc;
 use version_ranges::Ranges;
 
@@ -97,20 +97,21 @@ impl<U: Universe> Entry<U> {
         Ok(entry)
     }
 
-    /// The entry that stands for this one and one of the same value: with the ranges of both, and the trace of the later one.
-    pub(crate) fn joined(&self, next: Entry<U>) -> Result<Entry<U>, NoMemory>
-        ensures kept { IfOk result (λ e. kept_of e ≡ joined U.meaning U.Value.eq (kept_of self.now) (kept_of next)) }
-        ensures deps { IfOk result (λ e. e.deps ≡ next.deps) }
+    /// Takes in one of the same value: the ranges of both, and the trace of the later one. At an error all is as before.
+    fn join(&mut self, next: Entry<U>) -> Result<(), NoMemory>
+        ensures kept { OnOk result (kept_of self.new ≡ joined U.meaning U.Value.eq (kept_of self.old) (kept_of next)) }
+        ensures deps { OnOk result ((j : U.Key) → list_any (U.Key.eq j) self.new.deps ≡ (list_any (U.Key.eq j) self.old.deps || list_any (U.Key.eq j) next.deps)) }
+        ensures err { OnErr result (self.new ≡ self.old) }
     {
-        let mut joined = next;
-        joined.ranges = either(&self.ranges, &joined.ranges)?;
-        joined.value = Arc::try_clone(&self.value)?;
-        if self.version <= joined.version {
-            return Ok(joined);
+        let mut next = next.with_edges_of(self)?;
+        add(&mut self.ranges, &next.ranges)?;
+        swap(&mut self.deps, &mut next.deps);
+        if self.version > next.version {
+            return Ok(());
         }
-        joined.trace = Arc::try_clone(&self.trace)?;
-        joined.version = self.version;
-        Ok(joined)
+        swap(&mut self.trace, &mut next.trace);
+        self.version = next.version;
+        Ok(())
     }
 
     /// Whether a finish of the same value was made, and the value is not transient.
@@ -120,19 +121,19 @@ impl<U: Universe> Entry<U> {
         *self.value == *next.value && !universe.is_transient(&self.value)
     }
 
-    /// The entry that stands after a finish has made `next`; `None` where this one stays as it is.
-    pub(crate) fn after(&self, universe: &U, next: Entry<U>) -> Result<Option<Entry<U>>, NoMemory>
-        ensures kept { IfOk result (λ o. unwrap_or (option_map kept_of o) (kept_of self.now) ≡ written U.meaning U.Value.eq (Some (kept_of self.now)) (kept_of next)) }
-        ensures deps { IfOk result (λ o. MatchOption o (goes_in U.meaning U.Value.eq (Some (kept_of self.now)) (kept_of next) ≡ false) (λ e. (goes_in U.meaning U.Value.eq (Some (kept_of self.now)) (kept_of next) ≡ true) × ((j : U.Key) → list_any (U.Key.eq j) e.deps ≡ (list_any (U.Key.eq j) self.now.deps || list_any (U.Key.eq j) next.deps)))) }
+    /// Takes in what a finish has made: joined with it, in its place, or not at all. At an error all is as before.
+    pub(crate) fn take_in(&mut self, universe: &U, next: Entry<U>) -> Result<(), NoMemory>
+        ensures kept { OnOk result (kept_of self.new ≡ written U.meaning U.Value.eq (Some (kept_of self.old)) (kept_of next)) }
+        ensures deps { OnOk result ((j : U.Key) → list_any (U.Key.eq j) self.new.deps ≡ (list_any (U.Key.eq j) self.old.deps || (goes_in U.meaning U.Value.eq (Some (kept_of self.old)) (kept_of next) && list_any (U.Key.eq j) next.deps))) }
+        ensures err { OnErr result (self.new ≡ self.old) }
     {
         if self.joins(universe, &next) {
-            let next = next.with_edges_of(self)?;
-            return Ok(Some(self.joined(next)?));
+            return self.join(next);
         }
         if self.version <= next.version {
-            return Ok(Some(next.with_edges_of(self)?));
+            *self = next.with_edges_of(self)?;
         }
-        Ok(None)
+        Ok(())
     }
 }
 
@@ -150,9 +151,10 @@ fn add_all<U: Universe>(
     Ok(())
 }
 
-/// The versions of either set.
-fn either(a: &Ranges, b: &Ranges) -> Result<Ranges, NoMemory>
-    ensures { IfOk result (λ r. (w : ℕ) → contains r w ≡ (contains a.now w || contains b.now w)) }
+/// Adds the versions of another set. At an error all is as before.
+fn add(ranges: &mut Ranges, others: &Ranges) -> Result<(), NoMemory>
+    ensures ok { OnOk result ((w : ℕ) → contains ranges.new w ≡ (contains ranges.old w || contains others.now w)) }
+    ensures err { OnErr result (ranges.new ≡ ranges.old) }
 {
-    a.union(b).map_err(|_| NoMemory)
+    ranges.add(others).map_err(|_| NoMemory)
 }

@@ -95,7 +95,7 @@ impl<U: Universe> Graph<U> {
     /// value is then known; where these have no end and go into the entry, an edge to the key is recorded from each key of the trace.
     /// At an error all is as before.
     ///
-    /// It costs a look-up for each key of the trace, the ranges that are joined, a binary search in the sets of each source among those
+    /// It costs a look-up for each key of the trace, a binary search in the entry's ranges and in the sets of each source among those
     /// keys, and the edges to the key that are there already.
     pub fn finish(
         &mut self,

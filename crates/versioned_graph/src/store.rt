@@ -1,5 +1,5 @@
 //! The entries of a graph.
-ghost use Rattle.std.specs.Prelude.{◌≡◌, ◌≤◌, ◌||◌, ◌&&◌, ℕ, List, [], length, map, OnOk, OnErr, if◌then◌else◌, Some, true, false, IfOk, MatchOption};
+ghost use Rattle.std.specs.Prelude.{◌≡◌, ◌≤◌, ◌||◌, ◌&&◌, ℕ, List, [], length, map, OnOk, OnErr, if◌then◌else◌, Some, true, false};
 ghost use Rattle.std.specs.Arc.{arc_value};
 ghost use Rattle.std.specs.List.{list_any};
 ghost use Rattle.std.specs.Map.{lookup};
@@ -86,22 +86,11 @@ impl<U: Universe> Store<U> {
         ensures err { OnErr result (self.new ≡ self.old) }
     {
         laws_of::<U>();
-        let Some(entry) = self.standing(&key, next)? else {
-            return Ok(());
-        };
-        self.entries.insert(key, entry)?;
-        Ok(())
-    }
-
-    /// The entry that stands for a key after a finish has made `next`; `None` where the one that is there stays as it is.
-    fn standing(&self, key: &Arc<U::Key>, next: Entry<U>) -> Result<Option<Entry<U>>, NoMemory>
-        ensures entry { IfOk result (λ o. MatchOption o (entry_at U.Key.eq self.now (arc_value key.now) ≡ Some (written U.meaning U.Value.eq (entry_at U.Key.eq self.now (arc_value key.now)) (kept_of next))) (λ e. kept_of e ≡ written U.meaning U.Value.eq (entry_at U.Key.eq self.now (arc_value key.now)) (kept_of next))) }
-        ensures edges { IfOk result (λ o. MatchOption o (goes_in U.meaning U.Value.eq (entry_at U.Key.eq self.now (arc_value key.now)) (kept_of next) ≡ false) (λ e. (goes_in U.meaning U.Value.eq (entry_at U.Key.eq self.now (arc_value key.now)) (kept_of next) ≡ true) × ((j : U.Key) → list_any (U.Key.eq j) e.deps ≡ (is_edge U.Key.eq self.now j (arc_value key.now) || list_any (U.Key.eq j) next.deps)))) }
-    {
-        match self.entry(key) {
-            None => Ok(Some(next)),
-            Some(entry) => entry.after(&*self.universe, next),
+        if let Some(entry) = self.entries.get_mut(&key) {
+            return entry.take_in(&*self.universe, next);
         }
+        self.entries.insert(key, next)?;
+        Ok(())
     }
 
     /// Cuts the tail of a key's entry at a version, and takes away the edges to the key. It takes no memory.
