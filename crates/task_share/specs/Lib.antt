@@ -1,5 +1,6 @@
 pub mod Asked
 pub mod Seen
+pub mod Numbers
 pub mod Listed
 pub mod Askers
 pub mod Lent
