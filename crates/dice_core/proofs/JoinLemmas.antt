@@ -1,5 +1,5 @@
 -- A key that is asked for, with its version in hand.
-use Rattle.std.proofs.Common.{◌≡◌, ◌≢◌, ◌<◌, ◌≤◌, inl, inr, ◌+◌, ◌-◌, ◌*◌, ℕ, suc, Bool, true, false, cond, not, ◌&&◌, ◌||◌, List, [], ◌∷◌, ◌++◌, length, reverse, Option, Some, None, is_some, refl, sym, ap, ◌∙◌, subst, arith, append_assoc, eq-eqb}
+use Rattle.std.proofs.Common.{◌≡◌, ◌≢◌, ◌<◌, ◌≤◌, inl, inr, ◌+◌, ◌-◌, ◌*◌, ℕ, suc, Bool, true, false, cond, not, ◌&&◌, ◌||◌, List, [], ◌∷◌, ◌++◌, length, reverse, Option, Some, None, refl, sym, ap, ◌∙◌, subst, arith, append_assoc, eq-eqb}
 use Rattle.std.specs.List.{AllByRecursion}
 use Rattle.std.specs.Map.{lookup}
 use Rattle.std.proofs.lemmas.Bool.{and_from, or_left, or_right, or_cases, and_parts}
@@ -10,7 +10,7 @@ use Rattle.dice_key.specs.Meaning.{Meaning}
 use Rattle.dice_key.specs.Lawful.{IsEquality, IsLawful}
 use Rattle.dice_key.specs.declared.universe.Kind.TheVariants.{Injected}
 use Rattle.task_share.specs.Asked.{By, Promised, Tasked, is_by, IsDone}
-use Rattle.task_share.specs.Seen.{Share, number_for, task_at, is_live, asks, asked_of, has_place, promise_room, KeepsTasks, KeepsAsks, UsesRoomOf}
+use Rattle.task_share.specs.Seen.{Share, is_for, takes_task, room_in, number_for, task_at, is_live, asks, asked_of, has_place, promise_room, KeepsTasks, KeepsAsks, UsesRoomOf}
 use Rattle.injected.specs.Seen.{Seen}
 use Rattle.journal.specs.declared.event.Told.{Told}
 use Rattle.journal.specs.declared.event.Told.TheVariants.{Ask, Start, Keep}
@@ -50,9 +50,13 @@ use Rattle.lists.specs.Lists.{AreDistinct, Has}
 pub place_of_room : {K T : Type 0} (eq : K → K → Bool) (ps : List (K × Share K T)) (k : K) → 0 < promise_room eq ps k → has_place eq ps k ≡ true
 place_of_room {K} {T} eq ps k n = by_share (lookup (eq k) ps) n
   where
-    by_share : (o : Option (Share K T)) → 0 < number_for (λ p. p.promise_room) o → is_some o ≡ true
+    by_bool : (b : Bool) (m : ℕ) → 0 < cond b m 0 → b ≡ true
+    by_bool true m n = refl
+    by_bool false m n = absurd (let z : 0 < 0 = n in omega arith)
+
+    by_share : (o : Option (Share K T)) → 0 < number_for (room_in (λ p. p.promise_room)) o → is_for takes_task o ≡ true
     by_share None n = absurd (let z : 0 < 0 = n in omega arith)
-    by_share (Some p) n = refl
+    by_share (Some p) n = by_bool (takes_task p) p.promise_room n
 
 has_there : {K V : Type 0} (o : Option (Held K V)) → HasTask o → (h : Held K V) × (o ≡ Some h)
 has_there None h = absurd h

@@ -1,8 +1,8 @@
 -- Room that is made for one part after the other.
-use Rattle.std.proofs.Common.{◌≡◌, ◌<◌, inl, inr, Bool, true, false, cond, List, [], ◌∷◌, ◌++◌, map, filter, refl, ap, ◌∙◌, subst, arith}
-use Rattle.std.specs.Prelude.{Option, Some, None, is_some}
+use Rattle.std.proofs.Common.{◌≡◌, ◌<◌, inl, inr, ℕ, Bool, true, false, cond, List, [], ◌∷◌, ◌++◌, map, filter, refl, ap, ◌∙◌, subst, arith}
+use Rattle.std.specs.Prelude.{Option, Some, None}
 use Rattle.std.specs.Map.{lookup}
-use Rattle.task_share.specs.Seen.{Share, number_for, has_place, asker_room, KeepsTasks, KeepsAsks, KeepsRoom}
+use Rattle.task_share.specs.Seen.{Share, is_for, takes_task, room_in, number_for, has_place, asker_room, KeepsTasks, KeepsAsks, KeepsRoom}
 use Rattle.dice_tasks.specs.Helds.{Held}
 use Rattle.dice_steps.specs.Plans.{key_in, wait_for, waits_of, ArePlaced}
 use Rattle.dice_steps.specs.declared.plan.Part.{Part}
@@ -69,6 +69,10 @@ module _ {K T : Type 0} (eq : K → K → Bool) (ps : List (K × Share K T)) (k 
   pub place_of_asker : 0 < asker_room eq ps k → has_place eq ps k ≡ true
   place_of_asker h = by_share (lookup (eq k) ps) h
     where
-      by_share : (o : Option (Share K T)) → 0 < number_for (λ (p : Share K T). p.asker_room) o → is_some o ≡ true
+      by_bool : (b : Bool) (m : ℕ) → 0 < cond b m 0 → b ≡ true
+      by_bool true m n = refl
+      by_bool false m n = absurd (omega arith)
+
+      by_share : (o : Option (Share K T)) → 0 < number_for (room_in (λ (p : Share K T). p.asker_room)) o → is_for takes_task o ≡ true
       by_share None n = absurd (omega arith)
-      by_share (Some x) n = refl
+      by_share (Some x) n = by_bool (takes_task x) x.asker_room n

@@ -2,21 +2,19 @@
 use Rattle.std.proofs.Common.{◌≡◌, ◌≤◌, ◌+◌, inl, inr, ℕ, suc, Bool, true, false, not, cond, ◌&&◌, ◌||◌, List, [], ◌∷◌, ◌++◌, length, map, Option, Some, None, is_some, nat_eq, refl, sym, ap, ◌∙◌, subst, arith, ◌<◌, unwrap_or}
 use Rattle.std.specs.Prelude.{option_and_then, MatchOption}
 use Rattle.std.specs.Arc.{arc_value}
-use Rattle.std.specs.Map.{lookup, set_value, remove_entry, values_of}
+use Rattle.std.specs.Map.{lookup, set_value, values_of}
 use Rattle.std.specs.List.{list_any, sum_by}
-use Rattle.std.specs.List.Sorted.{IsPermutation}
 use Rattle.std.specs.Option.{option_map, option_to_list}
 use Rattle.std.specs.declared.sync.Arc.{Arc}
 use Rattle.std.proofs.lemmas.Option.{same_Some, none-some}
 use Rattle.std.proofs.lemmas.List.{length-append, map-append}
 use Rattle.std.proofs.lemmas.List.Folds.{list_any-append}
-use Rattle.std.proofs.lemmas.List.Sorted.{IsPermutation-map}
 use Rattle.std.proofs.lemmas.List.Sums.{sum_by-cons}
-use Rattle.std.proofs.lemmas.Map.Entries.{sum_by-set_value, sum_by-remove_entry, sum_by_values_permutation}
+use Rattle.std.proofs.lemmas.Map.Entries.{sum_by-set_value}
 use Rattle.dice_key.specs.Lawful.{IsEquality}
 use Rattle.task_share.specs.Asked.{By, Promised, Tasked, is_by}
-use Rattle.task_share.specs.Seen.{Share, is_for, list_for, number_for, has_by, has_live, has_place, asks, waits_at, ask_count, one_if, live_count}
-use Rattle.task_share.specs.Listed.{share_of, entry_of, shares_of, is_idle, kept_name, IsNamed, IsListed, IsChanged, Left, UsesRoom, Withdraws, Withdrawing, NoneIdle, IsKept, IsPopped, IsVacant, AllRun}
+use Rattle.task_share.specs.Seen.{Share, takes_task, room_in, is_for, list_for, number_for, has_by, has_live, has_place, asks, waits_at, ask_count, one_if, live_count}
+use Rattle.task_share.specs.Listed.{share_of, entry_of, shares_of, is_idle, kept_name, IsNamed, IsListed, KeepsListed, IsChanged, Left, UsesRoom, Withdraws, Withdrawing, NoneIdle, IsKept, IsPopped, IsTaken, IsVacant, AllRun}
 use Rattle.task_share.specs.declared.place.Place.{Place}
 use Rattle.task_share.proofs.PlaceLemmas.{lookup_shares}
 use Rattle.task_share.proofs.TurnLemmas.{tasks_kept, room_kept, asks_turned, waits_turned, same_cond, tasks_on, room_on, room_itself, kept_on}
@@ -24,8 +22,12 @@ use Rattle.lists.proofs.Members.{has_last}
 use Rattle.lists.specs.Lists.{Has}
 use Rattle.std.proofs.lemmas.Bool.{and_parts, cases_Bool}
 
+pub or_true : (b : Bool) → (b || true) ≡ true
+or_true true = refl
+or_true false = refl
+
 name_counts : {K T : Type 0} (p : Share K T) → kept_name p ≤ 1
-name_counts p = by_bool (is_some p.name)
+name_counts p = by_bool (is_some p.name || not (is_some p.task))
   where
     by_bool : (b : Bool) → one_if b ≤ 1
     by_bool true = omega arith
@@ -43,7 +45,7 @@ module _ {K T : Type 0} (eq : K → K → Bool) (law : IsEquality eq) where
       idle = z.idle;
       named = z.named;
       runs = z.runs;
-      listed = λ n. elim (has_last cs k q (z.listed n)) as (λ _. Has cs q) [ inl h ↦ h | inr s ↦ absurd (none-some p (sym (subst (λ x. lookup (eq x) ps ≡ None) s none) ∙ e)) ];
+      listed = λ n t. elim (has_last cs k q (z.listed n t)) as (λ _. Has cs q) [ inl h ↦ h | inr s ↦ absurd (none-some p (sym (subst (λ x. lookup (eq x) ps ≡ None) s none) ∙ e)) ];
     });
     fits = (let a = l.fits in let b = length-append cs (k ∷ []) in omega arith);
   }
@@ -59,7 +61,7 @@ module _ {K T : Type 0} (eq : K → K → Bool) (law : IsEquality eq) where
         idle = z.idle;
         named = z.named;
         runs = z.runs;
-        listed = λ n. elim (has_last cs k q (z.listed n)) as (λ _. Has cs q) [ inl i ↦ i | inr s ↦ absurd (let a : eq k q ≡ true = subst (λ x. eq k x ≡ true) s (law.itself k) in let b : true ≡ false = sym a ∙ t in cc) ];
+        listed = λ n u. elim (has_last cs k q (z.listed n u)) as (λ _. Has cs q) [ inl i ↦ i | inr s ↦ absurd (let a : eq k q ≡ true = subst (λ x. eq k x ≡ true) s (law.itself k) in let b : true ≡ false = sym a ∙ t in cc) ];
       })
     ];
     fits = (let a = sum_by-set_value kept_name (eq k) ps h (record h { name = Some k }) known in
@@ -75,22 +77,58 @@ module _ {K T : Type 0} (eq : K → K → Bool) (law : IsEquality eq) where
       was_runs = (l.each k h known).runs
 
       at_key : IsNamed cs k (record h { name = Some k })
-      at_key = record { idle = λ e. absurd (let f : true ≡ false = sym e ∙ busy in cc); listed = λ e. cc; named = λ n e. sym (same_Some k n e); runs = was_runs }
+      at_key = record { idle = λ e. absurd (let f : true ≡ false = sym e ∙ busy in cc); listed = λ e _. cc; named = λ n e. sym (same_Some k n e); runs = was_runs }
 
-  -- a place that is taken out with its candidate
-  pub taken_listed : (ps qs : List (K × Share K T)) (cs : List K) (k : K) (room : ℕ) → ((q : K) → lookup (eq q) qs ≡ cond (eq k q) None (lookup (eq q) ps)) → sum_by kept_name (values_of qs) ≤ sum_by kept_name (values_of ps) → IsListed eq ps (cs ++ k ∷ []) room → IsListed eq qs cs room
-  taken_listed ps qs cs k room gone less l = record {
+  -- a place that had neither task nor key, and has the key
+  pub named_listed : (ps qs : List (K × Share K T)) (k n : K) (h : Share K T) → n ≡ k → lookup (eq k) ps ≡ Some h → takes_task h ≡ false → qs ≡ set_value (eq k) ps (record h { name = Some n }) → lookup (eq k) qs ≡ Some (record h { name = Some n })
+      → ((q : K) → eq k q ≡ false → lookup (eq q) qs ≡ lookup (eq q) ps) → KeepsListed eq ps qs
+  named_listed ps qs k n h is known free set here others cs room l = record {
+    each = λ q p e. elim (cases_Bool (eq k q)) as (λ _. IsNamed cs q p) [
+      | inl t ↦ (let s : k ≡ q = law.same k q t in
+          subst (λ x. IsNamed cs x p) s (subst (λ (r : Share K T). IsNamed cs k r) (same_Some (record h { name = Some n }) p (sym here ∙ subst (λ x. lookup (eq x) qs ≡ Some p) (sym s) e)) at_key))
+      | inr t ↦ l.each q p (sym (others q t) ∙ e)
+    ];
+    fits = (let a = sum_by-set_value kept_name (eq k) ps h (record h { name = Some n }) known in
+        let b : sum_by kept_name (values_of qs) ≡ sum_by kept_name (values_of (set_value (eq k) ps (record h { name = Some n }))) = ap (λ xs. sum_by kept_name (values_of xs)) set in
+        let f = l.fits in
+        let m : kept_name (record h { name = Some n }) ≡ 1 = refl in
+        let o : kept_name h ≡ 1 = by_bools (is_some h.task) (is_some h.name) free in
+        omega arith);
+  }
+    where
+      by_bools : (a b : Bool) → (a || b) ≡ false → one_if (b || not a) ≡ 1
+      by_bools false false e = refl
+      by_bools false true e = refl
+      by_bools true b e = cc
+
+      no_task : is_some h.task ≡ true → ⊥
+      no_task t = let f : true ≡ false = sym (ap (λ b. b || is_some h.name) t) ∙ free in cc
+
+      at_key : IsNamed cs k (record h { name = Some n })
+      at_key = record { idle = λ e. absurd (no_task ((l.each k h known).runs (and_parts h.live _ e).0)); listed = λ e _. cc; named = λ m e. sym (same_Some n m e) ∙ is; runs = (l.each k h known).runs }
+
+  -- a place that is emptied, whose key was a candidate
+  pub taken_listed : (ps qs : List (K × Share K T)) (cs : List K) (k : K) (left : Share K T) (room : ℕ) → IsVacant left → left.name ≡ None → ((q : K) → lookup (eq q) qs ≡ cond (eq k q) (Some left) (lookup (eq q) ps)) → sum_by kept_name (values_of qs) ≤ sum_by kept_name (values_of ps) + 1 → IsListed eq ps (cs ++ k ∷ []) room → IsListed eq qs cs room
+  taken_listed ps qs cs k left room vacant nameless gone more l = record {
     each = λ q p e. by_test q p (eq k q) refl (sym (gone q) ∙ e);
     fits = (let a = l.fits in let b = length-append cs (k ∷ []) in omega arith);
   }
     where
-      by_test : (q : K) (p : Share K T) (b : Bool) → eq k q ≡ b → cond b None (lookup (eq q) ps) ≡ Some p → IsNamed cs q p
-      by_test q p true t e = absurd (none-some p e)
+      at_left : (q : K) → IsNamed cs q left
+      at_left q = record {
+        idle = λ _. nameless;
+        listed = λ _ i. absurd (let f : true ≡ false = sym i ∙ ap is_some vacant.task in cc);
+        named = λ n i. absurd (none-some n (sym nameless ∙ i));
+        runs = λ i. absurd (let f : true ≡ false = sym i ∙ vacant.live in cc);
+      }
+
+      by_test : (q : K) (p : Share K T) (b : Bool) → eq k q ≡ b → cond b (Some left) (lookup (eq q) ps) ≡ Some p → IsNamed cs q p
+      by_test q p true t e = subst (IsNamed cs q) (same_Some left p e) (at_left q)
       by_test q p false t e = let z = l.each q p e in record {
         idle = z.idle;
         named = z.named;
         runs = z.runs;
-        listed = λ n. elim (has_last cs k q (z.listed n)) as (λ _. Has cs q) [ inl i ↦ i | inr s ↦ absurd (let a : eq k q ≡ true = subst (λ x. eq k x ≡ true) s (law.itself k) in let b : true ≡ false = sym a ∙ t in cc) ];
+        listed = λ n u. elim (has_last cs k q (z.listed n u)) as (λ _. Has cs q) [ inl i ↦ i | inr s ↦ absurd (let a : eq k q ≡ true = subst (λ x. eq k x ≡ true) s (law.itself k) in let b : true ≡ false = sym a ∙ t in cc) ];
       }
 
   -- where no candidate is left, no task is idle
@@ -98,45 +136,36 @@ module _ {K T : Type 0} (eq : K → K → Bool) (law : IsEquality eq) where
   none_idle ps room l k p e = by_test (is_idle p) refl
     where
       by_test : (b : Bool) → is_idle p ≡ b → b ≡ false
-      by_test true i = let z = l.each k p e in absurd (z.listed (z.idle i))
+      by_test true i = let z = l.each k p e in absurd (z.listed (z.idle i) (z.runs (and_parts p.live _ i).0))
       by_test false i = refl
 
-  remove_shares : {A : Type 0} (test : K → Bool) (es : List (Arc K A × Place K T)) → shares_of (remove_entry (λ a. test (arc_value a)) es) ≡ remove_entry test (shares_of es)
-  remove_shares test [] = refl
-  remove_shares test (e ∷ es) = by_test (test (arc_value e.0)) (remove_shares test es)
+  -- where one place has changed
+  pub gone_so : (ps qs : List (K × Share K T)) (k : K) (left : Share K T) → IsChanged eq k (λ p r. Unit {0}) ps qs → lookup (eq k) qs ≡ Some left → (q : K) → lookup (eq q) qs ≡ cond (eq k q) (Some left) (lookup (eq q) ps)
+  gone_so ps qs k left c here q = by_test (eq k q) refl
     where
-      by_test : (b : Bool) → shares_of (remove_entry (λ a. test (arc_value a)) es) ≡ remove_entry test (shares_of es) → shares_of (cond b es (e ∷ remove_entry (λ a. test (arc_value a)) es)) ≡ cond b (shares_of es) (entry_of e ∷ remove_entry test (shares_of es))
-      by_test true h = refl
-      by_test false h = ap (λ rest. entry_of e ∷ rest) h
+      by_test : (b : Bool) → eq k q ≡ b → lookup (eq q) qs ≡ cond b (Some left) (lookup (eq q) ps)
+      by_test true t = subst (λ x. lookup (eq x) qs ≡ Some left) (law.same k q t) here
+      by_test false t = c.others q t
 
-  pub removed_less : {A : Type 0} (f : Share K T → ℕ) (test : K → Bool) (es fs : List (Arc K A × Place K T)) → IsPermutation (remove_entry (λ a. test (arc_value a)) es) fs → sum_by f (values_of (shares_of fs)) ≤ sum_by f (values_of (shares_of es))
-  removed_less f test es fs p =
-      let a = sum_by_values_permutation f (shares_of (remove_entry (λ a. test (arc_value a)) es)) (shares_of fs) (IsPermutation-map entry_of (remove_entry (λ a. test (arc_value a)) es) fs p) in
-      let b : sum_by f (values_of (shares_of (remove_entry (λ a. test (arc_value a)) es))) ≡ sum_by f (values_of (remove_entry test (shares_of es))) = ap (λ xs. sum_by f (values_of xs)) (remove_shares test es) in
-      let d = sum_by-remove_entry f test (shares_of es) in
-      omega arith
+  -- what an emptied place leaves of all places
+  pub taken_out : (ps qs : List (K × Share K T)) (k : K) (h left : Share K T) → IsChanged eq k (λ p r. Unit {0}) ps qs → lookup (eq k) ps ≡ Some h → lookup (eq k) qs ≡ Some left → is_idle h ≡ true → IsVacant left → IsTaken eq k h ps qs
+  taken_out ps qs k h left c known here idle vacant = record {
+    there = known;
+    idle = idle;
+    left = left;
+    vacant = vacant;
+    gone = gone_so ps qs k left c here;
+    count = (let s = c.sums (λ (p : Share K T). length p.askers) in
+        let a : number_for (λ (p : Share K T). length p.askers) (lookup (eq k) qs) ≡ 0 = ap (number_for (λ (p : Share K T). length p.askers)) here ∙ ap length vacant.askers in
+        omega arith);
+    fewer = (let s = c.sums (λ (p : Share K T). one_if p.live) in
+        let a : number_for (λ (p : Share K T). one_if p.live) (lookup (eq k) qs) ≡ 0 = ap (number_for (λ (p : Share K T). one_if p.live)) here ∙ ap one_if vacant.live in
+        let b : number_for (λ (p : Share K T). one_if p.live) (lookup (eq k) ps) ≡ 1 = ap (number_for (λ (p : Share K T). one_if p.live)) known ∙ ap one_if (and_parts h.live _ idle).0 in
+        omega arith);
+  }
 
-  -- a task that has not ended was taken out
-  pub removed_fewer : {A : Type 0} (test : K → Bool) (es fs : List (Arc K A × Place K T)) (h : Share K T) → lookup test (shares_of es) ≡ Some h → h.live ≡ true → IsPermutation (remove_entry (λ a. test (arc_value a)) es) fs → live_count (shares_of fs) < live_count (shares_of es)
-  removed_fewer test es fs h known live p =
-      let f : Share K T → ℕ = λ (p : Share K T). one_if p.live in
-      let a = sum_by_values_permutation f (shares_of (remove_entry (λ a. test (arc_value a)) es)) (shares_of fs) (IsPermutation-map entry_of (remove_entry (λ a. test (arc_value a)) es) fs p) in
-      let b : sum_by f (values_of (shares_of (remove_entry (λ a. test (arc_value a)) es))) ≡ sum_by f (values_of (remove_entry test (shares_of es))) = ap (λ xs. sum_by f (values_of xs)) (remove_shares test es) in
-      let d = sum_by-remove_entry f test (shares_of es) in
-      let e : unwrap_or (option_map f (lookup test (shares_of es))) 0 ≡ 1 = ap (λ o. unwrap_or (option_map f o) 0) known ∙ ap one_if live in
-      omega arith
-
-  pub removed_gone : {A : Type 0} (key : Arc K A) (es fs : List (Arc K A × Place K T)) → ((q : Arc K A) → lookup (λ a. eq (arc_value q) (arc_value a)) fs ≡ cond (eq (arc_value key) (arc_value q)) None (lookup (λ a. eq (arc_value q) (arc_value a)) es))
-      → (q : K) → lookup (eq q) (shares_of fs) ≡ cond (eq (arc_value key) q) None (lookup (eq q) (shares_of es))
-  removed_gone {A} key es fs upd q =
-      lookup_shares (eq q) fs ∙ (ap (option_map share_of) (upd other) ∙ (by_test (eq (arc_value key) q) (lookup (λ a. eq q (arc_value a)) es) ∙ ap (cond (eq (arc_value key) q) None) (sym (lookup_shares (eq q) es))))
-    where
-      other : Arc K A
-      other = record { ptr = key.ptr; value = q }
-
-      by_test : (b : Bool) (o : Option (Place K T)) → option_map share_of (cond b None o) ≡ cond b None (option_map share_of o)
-      by_test true o = refl
-      by_test false o = refl
+  pub kept_more : (ps qs : List (K × Share K T)) (k : K) (left : Share K T) → IsChanged eq k (λ p r. Unit {0}) ps qs → lookup (eq k) qs ≡ Some left → sum_by kept_name (values_of qs) ≤ sum_by kept_name (values_of ps) + 1
+  kept_more ps qs k left c here = let s = c.sums kept_name in let a : number_for kept_name (lookup (eq k) qs) ≡ kept_name left = ap (number_for kept_name) here in let b = name_counts left in omega arith
 
   -- nothing was withdrawn yet
   pub withdraws_none : (k : K) (ps : List (K × Share K T)) → Withdraws eq k [] ps ps
@@ -188,6 +217,17 @@ module _ {K T : Type 0} (eq : K → K → Bool) (law : IsEquality eq) where
           by_cases false false false true = refl
           by_cases false false false false = refl
 
+-- the last of what is waited for
+pub popped_entry : {K A : Type 0} (old new : List (ℕ × Arc K A)) (r : Option (ℕ × Arc K A)) (x : ℕ × Arc K A) → old ≡ new ++ option_to_list r → r ≡ Some x → old ≡ new ++ x ∷ []
+popped_entry old new r x e f = e ∙ ap (λ o. new ++ option_to_list o) f
+
+pub popped_value : {K A : Type 0} (old new : List (ℕ × Arc K A)) (x : ℕ × Arc K A) → old ≡ new ++ x ∷ [] → map arc_value (values_of old) ≡ map arc_value (values_of new) ++ arc_value x.1 ∷ []
+popped_value {K} {A} old new x e = ap (λ xs. map arc_value (values_of xs)) e ∙ by_list new
+  where
+    by_list : (xs : List (ℕ × Arc K A)) → map arc_value (values_of (xs ++ x ∷ [])) ≡ map arc_value (values_of xs) ++ arc_value x.1 ∷ []
+    by_list [] = refl
+    by_list (y ∷ ys) = ap (λ ks. arc_value y.1 ∷ ks) (by_list ys)
+
 -- the last candidate
 pub popped : {K A : Type 0} (old new : List (Arc K A)) (r : Option (Arc K A)) (k : Arc K A) → old ≡ new ++ option_to_list r → r ≡ Some k → map arc_value old ≡ map arc_value new ++ arc_value k ∷ []
 popped old new r k e f = ap (map arc_value) (e ∙ ap (λ o. new ++ option_to_list o) f) ∙ map-append arc_value new (k ∷ [])
@@ -228,12 +268,15 @@ module _ {K T : Type 0} (eq : K → K → Bool) (law : IsEquality eq) where
   room_grown ps cs room more le l = record { each = l.each; fits = (let a = l.fits in omega arith) }
 
   -- a vacant place for a key that had none
-  module _ (ps qs : List (K × Share K T)) (k : K) (v : Share K T) (none : lookup (eq k) ps ≡ None) (put : (q : K) → lookup (eq q) qs ≡ cond (eq k q) (Some v) (lookup (eq q) ps)) (vacant : IsVacant k v) where
+  module _ (ps qs : List (K × Share K T)) (k : K) (v : Share K T) (none : lookup (eq k) ps ≡ None) (put : (q : K) → lookup (eq q) qs ≡ cond (eq k q) (Some v) (lookup (eq q) ps)) (vacant : IsVacant v) (named : v.name ≡ Some k) where
     at_key : lookup (eq k) qs ≡ Some v
     at_key = put k ∙ ap (λ b. cond b (Some v) (lookup (eq k) ps)) (law.itself k)
 
     pub vacant_placed : has_place eq qs k ≡ true
-    vacant_placed = ap is_some at_key
+    vacant_placed = ap (is_for takes_task) at_key ∙ takes
+      where
+        takes : takes_task v ≡ true
+        takes = rw (vacant.task, named) refl
 
     pub vacant_listed : (cs : List K) (room more : ℕ) → IsListed eq ps cs room → sum_by kept_name (values_of qs) ≤ sum_by kept_name (values_of ps) + 1 → length ps + 1 + length cs ≤ more → IsListed eq qs cs more
     vacant_listed cs room more l sum fits = record {
@@ -245,8 +288,8 @@ module _ {K T : Type 0} (eq : K → K → Bool) (law : IsEquality eq) where
         by_test q p true t e = subst (λ x. IsNamed cs x p) (law.same k q t) (subst (λ (r : Share K T). IsNamed cs k r) (same_Some v p e) (record {
           idle = λ i. absurd (let a = (and_parts v.live _ i).0 in let f : true ≡ false = sym a ∙ vacant.live in cc);
           runs = λ i. absurd (let f : true ≡ false = sym i ∙ vacant.live in cc);
-          listed = λ n. absurd (none-some k (sym n ∙ vacant.name));
-          named = λ n f. sym (same_Some k n (sym vacant.name ∙ f));
+          listed = λ n _. absurd (none-some k (sym n ∙ named));
+          named = λ n f. sym (same_Some k n (sym named ∙ f));
         }))
         by_test q p false t e = l.each q p e
 
@@ -276,16 +319,16 @@ module _ {K T : Type 0} (eq : K → K → Bool) (law : IsEquality eq) where
       waits = λ i d. by_place (λ o. list_any (eq d) (list_for (λ (p : Share K T). p.waits) o)) (ap (list_any (eq d)) vacant.waits) i;
       room = record {
         places = λ q h. by_test q (eq k q) refl (put q) h;
-        promises = less_place (λ p. p.promise_room);
-        askers = less_place (λ p. p.asker_room);
-        waits = less_place (λ p. p.wait_room);
+        promises = less_place (room_in (λ p. p.promise_room));
+        askers = less_place (room_in (λ p. p.asker_room));
+        waits = less_place (room_in (λ p. p.wait_room));
         count = less;
       };
     }
       where
         by_test : (q : K) (b : Bool) → eq k q ≡ b → lookup (eq q) qs ≡ cond b (Some v) (lookup (eq q) ps) → has_place eq ps q ≡ true → has_place eq qs q ≡ true
-        by_test q true t e h = ap is_some e
-        by_test q false t e h = ap is_some e ∙ h
+        by_test q true t e h = absurd (let f : true ≡ false = sym h ∙ ap (is_for takes_task) (subst (λ x. lookup (eq x) ps ≡ None) (law.same k q t) none) in cc)
+        by_test q false t e h = ap (is_for takes_task) e ∙ h
 
   -- the places after an entry more
   pub put_at : {A : Type 0} (key : Arc K A) (v : Place K T) (es fs : List (Arc K A × Place K T)) → ((q : Arc K A) → lookup (λ a. eq (arc_value q) (arc_value a)) fs ≡ cond (eq (arc_value key) (arc_value q)) (Some v) (lookup (λ a. eq (arc_value q) (arc_value a)) es))
@@ -300,23 +343,29 @@ module _ {K T : Type 0} (eq : K → K → Bool) (law : IsEquality eq) where
       by_test true o = refl
       by_test false o = refl
 
-  put_sum : {A : Type 0} (f : Share K T → ℕ) (key : Arc K A) (v : Place K T) (es fs : List (Arc K A × Place K T)) → f (share_of v) ≡ 0 → IsPermutation ((key, v) ∷ es) fs → sum_by f (values_of (shares_of fs)) ≡ sum_by f (values_of (shares_of es))
-  put_sum f key v es fs n p =
-      let a = sum_by_values_permutation f (shares_of ((key, v) ∷ es)) (shares_of fs) (IsPermutation-map entry_of ((key, v) ∷ es) fs p) in
-      let b = sum_by-cons f (share_of v) (values_of (shares_of es)) in
-      omega arith
+  put_sum : {A : Type 0} (f : Share K T → ℕ) (key : Arc K A) (v : Place K T) (es : List (Arc K A × Place K T)) → sum_by f (values_of (shares_of (es ++ (key, v) ∷ []))) ≡ sum_by f (values_of (shares_of es)) + f (share_of v)
+  put_sum f key v [] = let a = sum_by-cons f (share_of v) [] in omega arith
+  put_sum f key v (e ∷ es) = let a = sum_by-cons f (share_of e.1) (values_of (shares_of es)) in let b = sum_by-cons f (share_of e.1) (values_of (shares_of (es ++ (key, v) ∷ []))) in let d = put_sum f key v es in omega arith
 
   -- a vacant place adds no ask and no task
-  pub put_count : {A : Type 0} (key : Arc K A) (v : Place K T) (es fs : List (Arc K A × Place K T)) → (share_of v).askers ≡ [] → IsPermutation ((key, v) ∷ es) fs → ask_count (shares_of fs) ≤ ask_count (shares_of es)
-  put_count key v es fs n p = let a = put_sum (λ (p : Share K T). length p.askers) key v es fs (ap length n) p in omega arith
+  pub put_count : {A : Type 0} (key : Arc K A) (v : Place K T) (es fs : List (Arc K A × Place K T)) → fs ≡ es ++ (key, v) ∷ [] → (share_of v).askers ≡ [] → ask_count (shares_of fs) ≤ ask_count (shares_of es)
+  put_count key v es fs e n =
+      let a = put_sum (λ (p : Share K T). length p.askers) key v es in
+      let b : ask_count (shares_of fs) ≡ ask_count (shares_of (es ++ (key, v) ∷ [])) = ap (λ xs. ask_count (shares_of xs)) e in
+      let d : length (share_of v).askers ≡ 0 = ap length n in
+      omega arith
 
-  pub put_live : {A : Type 0} (key : Arc K A) (v : Place K T) (es fs : List (Arc K A × Place K T)) → (share_of v).live ≡ false → IsPermutation ((key, v) ∷ es) fs → live_count (shares_of fs) ≡ live_count (shares_of es)
-  put_live key v es fs n p = put_sum (λ (p : Share K T). one_if p.live) key v es fs (ap one_if n) p
+  pub put_live : {A : Type 0} (key : Arc K A) (v : Place K T) (es fs : List (Arc K A × Place K T)) → fs ≡ es ++ (key, v) ∷ [] → (share_of v).live ≡ false → live_count (shares_of fs) ≡ live_count (shares_of es)
+  put_live key v es fs e n =
+      let a = put_sum (λ (p : Share K T). one_if p.live) key v es in
+      let b : live_count (shares_of fs) ≡ live_count (shares_of (es ++ (key, v) ∷ [])) = ap (λ xs. live_count (shares_of xs)) e in
+      let d : one_if (share_of v).live ≡ 0 = ap one_if n in
+      omega arith
 
-  pub put_more : {A : Type 0} (key : Arc K A) (v : Place K T) (es fs : List (Arc K A × Place K T)) → IsPermutation ((key, v) ∷ es) fs → sum_by kept_name (values_of (shares_of fs)) ≤ sum_by kept_name (values_of (shares_of es)) + 1
-  put_more key v es fs p =
-      let a = sum_by_values_permutation kept_name (shares_of ((key, v) ∷ es)) (shares_of fs) (IsPermutation-map entry_of ((key, v) ∷ es) fs p) in
-      let b = sum_by-cons kept_name (share_of v) (values_of (shares_of es)) in
+  pub put_more : {A : Type 0} (key : Arc K A) (v : Place K T) (es fs : List (Arc K A × Place K T)) → fs ≡ es ++ (key, v) ∷ [] → sum_by kept_name (values_of (shares_of fs)) ≤ sum_by kept_name (values_of (shares_of es)) + 1
+  put_more key v es fs e =
+      let a = put_sum kept_name key v es in
+      let b : sum_by kept_name (values_of (shares_of fs)) ≡ sum_by kept_name (values_of (shares_of (es ++ (key, v) ∷ []))) = ap (λ xs. sum_by kept_name (values_of (shares_of xs))) e in
       let d = name_counts (share_of v) in
       omega arith
 

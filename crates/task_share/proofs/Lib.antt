@@ -1,4 +1,5 @@
 pub mod PlaceLemmas
+mod NumberLemmas
 pub mod TurnLemmas
 pub mod IdleLemmas
 pub mod TableLemmas

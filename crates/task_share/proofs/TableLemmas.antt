@@ -10,11 +10,11 @@ use Rattle.std.proofs.lemmas.Map.Keys.{IsDistinct-head, IsDistinct-tail}
 use Rattle.std.proofs.lemmas.List.{map-id}
 use Rattle.dice_key.specs.Lawful.{IsEquality}
 use Rattle.task_share.specs.Asked.{By, Promised, Tasked, is_by, Takes, IsDone}
-use Rattle.task_share.specs.Seen.{Share, is_for, list_for, number_for, has_by, has_live, task_at, is_live, asks, waits_at, asked_of, has_place, promise_room, asker_room, wait_room, ask_count, one_if, live_count, KeepsTasks, KeepsAsks, KeepsRoom, KeepsOtherRoom, UsesRoomOf}
+use Rattle.task_share.specs.Seen.{Share, takes_task, room_in, is_for, list_for, number_for, has_by, has_live, task_at, is_live, asks, waits_at, asked_of, has_place, promise_room, asker_room, wait_room, ask_count, one_if, live_count, KeepsTasks, KeepsAsks, KeepsRoom, KeepsOtherRoom, UsesRoomOf}
 use Rattle.task_share.specs.Lent.{WritesTask}
 use Rattle.task_share.specs.Listed.{is_idle, IsListed, AreIn, IsChanged, Turns, Joined, Left, UsesRoom, IsKept, IsMirrored, Withdraws, IsPopped, NoneIdle}
 use Rattle.task_share.proofs.PlaceLemmas.{idle_unasked}
-use Rattle.task_share.proofs.TurnLemmas.{same_cond, asks_turned, waits_turned, task_turned, test_turned, tasks_kept, count_kept, room_kept, place_kept, number_kept, by_key, tasks_on, room_on}
+use Rattle.task_share.proofs.TurnLemmas.{same_cond, asks_turned, waits_turned, task_turned, test_turned, tasks_kept, count_kept, room_kept, place_kept, number_kept, room_left, by_key, tasks_on, room_on}
 use Rattle.lists.specs.Lists.{AreDistinct, Has}
 use Rattle.std.proofs.lemmas.Bool.{and_parts}
 
@@ -47,10 +47,10 @@ module _ {K T : Type 0} (eq : K → K → Bool) (law : IsEquality eq) where
   -- a task is put to the place of k
   module _ (ps qs : List (K × Share K T)) (k : K) (t : T) (c : IsChanged eq k (λ p r. Turns eq (λ o. Some t) (λ e. true) (λ x b. b) (λ d b. b) p r × UsesRoom 0 0 0 p r) ps qs) where
     pub put_tasks : has_place eq ps k ≡ true → (q : K) → task_at eq qs q ≡ cond (eq k q) (Some t) (task_at eq ps q)
-    put_tasks h q = task_turned eq law ps qs k _ c (λ o. Some t) (λ e. true) (λ x b. b) (λ d b. b) (λ p r i. i.0) (λ n. absurd (let f : true ≡ false = sym h ∙ ap is_some n in cc)) q
+    put_tasks h q = task_turned eq law ps qs k _ c (λ o. Some t) (λ e. true) (λ x b. b) (λ d b. b) (λ p r i. i.0) (λ n. absurd (let f : true ≡ false = sym h ∙ ap (is_for takes_task) n in cc)) q
 
     pub put_live : has_place eq ps k ≡ true → (q : K) → is_live eq qs q ≡ (eq k q || is_live eq ps q)
-    put_live h q = test_turned eq law ps qs k _ c has_live (λ b. true) (λ n. absurd (let f : true ≡ false = sym h ∙ ap is_some n in cc)) (λ p r i. i.0.live) q ∙ by_bools (eq k q) (is_live eq ps q)
+    put_live h q = test_turned eq law ps qs k _ c has_live (λ b. true) (λ n. absurd (let f : true ≡ false = sym h ∙ ap (is_for takes_task) n in cc)) (λ p r i. i.0.live) q ∙ by_bools (eq k q) (is_live eq ps q)
       where
         by_bools : (b x : Bool) → cond b true x ≡ (b || x)
         by_bools true x = refl
@@ -129,12 +129,12 @@ module _ {K T : Type 0} (eq : K → K → Bool) (law : IsEquality eq) where
 
   missing_waits : (ps : List (K × Share K T)) (k d : K) → (list_any (eq d) (waits_at eq ps k) ≡ true) ⊎ (0 < wait_room eq ps k) → lookup (eq k) ps ≡ None → ⊥
   missing_waits ps k d (inl e) n = let f : true ≡ false = sym e ∙ ap (λ o. list_any (eq d) (list_for (λ (p : Share K T). p.waits) o)) n in cc
-  missing_waits ps k d (inr e) n = let f : wait_room eq ps k ≡ 0 = ap (number_for (λ (p : Share K T). p.wait_room)) n in omega arith
+  missing_waits ps k d (inr e) n = let f : wait_room eq ps k ≡ 0 = ap (number_for (room_in (λ (p : Share K T). p.wait_room))) n in omega arith
 
   -- a promise joins
   module _ (ps qs : List (K × Share K T)) (k : K) (n : ℕ) (c : IsChanged eq k (λ p r. Joined eq (Promised n) p r × UsesRoom 1 0 0 p r) ps qs) (space : (asks eq ps k (Promised n) ≡ true) ⊎ (0 < promise_room eq ps k)) where
     pub promise_joined_asks : (q : K) (a : By K) → asks eq qs q a ≡ (asks eq ps q a || (eq k q && is_by eq (Promised n) a))
-    promise_joined_asks q a = asks_turned eq law ps qs k _ c (λ t. t) (λ e. e) (λ x b. b || is_by eq (Promised n) x) (λ d b. b) (λ p r i. i.0) a (λ z. absurd (missing_asks ps k (Promised n) (λ p. p.promise_room) space z)) q
+    promise_joined_asks q a = asks_turned eq law ps qs k _ c (λ t. t) (λ e. e) (λ x b. b || is_by eq (Promised n) x) (λ d b. b) (λ p r i. i.0) a (λ z. absurd (missing_asks ps k (Promised n) (room_in (λ p. p.promise_room)) space z)) q
         ∙ join_bools (eq k q) (asks eq ps q a) (is_by eq (Promised n) a)
 
     pub promise_joined_tasks : KeepsTasks eq ps qs
@@ -154,10 +154,10 @@ module _ {K T : Type 0} (eq : K → K → Bool) (law : IsEquality eq) where
 
     pub promise_joined_room : UsesRoomOf eq (λ q. cond (eq k q) 1 0) (λ q. 0) (λ q. 0) ps qs
     promise_joined_room = record {
-      places = λ q h. place_kept eq law ps qs k _ c q ∙ h;
-      promises = λ q. number_kept eq law ps qs k _ c (λ (p : Share K T). p.promise_room) 1 (λ p r i. i.1.promises) q;
-      askers = λ q. no_number (eq k q) _ _ (number_kept eq law ps qs k _ c (λ (p : Share K T). p.asker_room) 0 (λ p r i. i.1.askers) q);
-      waits = λ q. no_number (eq k q) _ _ (number_kept eq law ps qs k _ c (λ (p : Share K T). p.wait_room) 0 (λ p r i. i.1.waits) q);
+      places = place_kept eq law ps qs k _ c (λ p r i. i.1.stays);
+      promises = λ q. room_left eq law ps qs k _ c (λ (p : Share K T). p.promise_room) 1 (λ p r i. i.1.promises) (λ p r i. i.1.stays) q;
+      askers = λ q. no_number (eq k q) _ _ (room_left eq law ps qs k _ c (λ (p : Share K T). p.asker_room) 0 (λ p r i. i.1.askers) (λ p r i. i.1.stays) q);
+      waits = λ q. no_number (eq k q) _ _ (room_left eq law ps qs k _ c (λ (p : Share K T). p.wait_room) 0 (λ p r i. i.1.waits) (λ p r i. i.1.stays) q);
     }
 
   -- a task joins, which waits from then on
@@ -168,13 +168,13 @@ module _ {K T : Type 0} (eq : K → K → Bool) (law : IsEquality eq) where
     -- the room for the wait is still there
     pub wait_space : IsMirrored eq ps → (asks eq ps k (Tasked j) ≡ true) ⊎ (0 < wait_room eq ps j) → (list_any (eq k) (waits_at eq qs j) ≡ true) ⊎ (0 < wait_room eq qs j)
     wait_space m (inl e) = inl (waits_now j k ∙ (sym (m k j) ∙ e))
-    wait_space m (inr e) = inr (let a = no_number (eq k j) _ _ (number_kept eq law ps qs k _ c (λ (p : Share K T). p.wait_room) 0 (λ p r i. i.1.waits) j) in omega arith)
+    wait_space m (inr e) = inr (let a = no_number (eq k j) _ _ (room_left eq law ps qs k _ c (λ (p : Share K T). p.wait_room) 0 (λ p r i. i.1.waits) (λ p r i. i.1.stays) j) in omega arith)
 
     module _ (rs : List (K × Share K T)) (w : IsChanged eq j (λ p r. Turns eq (λ t. t) (λ e. e) (λ x b. b) (λ d b. b || eq k d) p r × UsesRoom 0 0 1 p r) qs rs) (space : (list_any (eq k) (waits_at eq qs j) ≡ true) ⊎ (0 < wait_room eq qs j)) where
       pub task_joined_asks : (q : K) (a : By K) → asks eq rs q a ≡ (asks eq ps q a || (eq k q && is_by eq (Tasked j) a))
       task_joined_asks q a =
           asks_turned eq law qs rs j _ w (λ t. t) (λ e. e) (λ x b. b) (λ d b. b || eq k d) (λ p r i. i.0) a (λ z. refl) q ∙ (same_cond (eq j q) (asks eq qs q a)
-          ∙ (asks_turned eq law ps qs k _ c (λ t. t) (λ e. e) (λ x b. b || is_by eq (Tasked j) x) (λ d b. b) (λ p r i. i.0) a (λ z. absurd (missing_asks ps k (Tasked j) (λ p. p.asker_room) asker_space z)) q ∙ join_bools (eq k q) (asks eq ps q a) (is_by eq (Tasked j) a)))
+          ∙ (asks_turned eq law ps qs k _ c (λ t. t) (λ e. e) (λ x b. b || is_by eq (Tasked j) x) (λ d b. b) (λ p r i. i.0) a (λ z. absurd (missing_asks ps k (Tasked j) (room_in (λ p. p.asker_room)) asker_space z)) q ∙ join_bools (eq k q) (asks eq ps q a) (is_by eq (Tasked j) a)))
 
       pub task_joined_tasks : KeepsTasks eq ps rs
       task_joined_tasks = tasks_on eq ps qs rs (tasks_kept eq law ps qs k _ c (λ p r i. (i.0.task, i.0.live))) (tasks_kept eq law qs rs j _ w (λ p r i. (i.0.task, i.0.live)))
@@ -198,10 +198,10 @@ module _ {K T : Type 0} (eq : K → K → Bool) (law : IsEquality eq) where
 
       pub task_joined_room : UsesRoomOf eq (λ q. 0) (λ q. cond (eq k q) 1 0) (λ q. cond (eq j q) 1 0) ps rs
       task_joined_room = record {
-        places = λ q h. place_kept eq law qs rs j _ w q ∙ (place_kept eq law ps qs k _ c q ∙ h);
-        promises = λ q. (let a = no_number (eq k q) _ _ (number_kept eq law ps qs k _ c (λ (p : Share K T). p.promise_room) 0 (λ p r i. i.1.promises) q) in let b = no_number (eq j q) _ _ (number_kept eq law qs rs j _ w (λ (p : Share K T). p.promise_room) 0 (λ p r i. i.1.promises) q) in omega arith);
-        askers = λ q. (let a = number_kept eq law ps qs k _ c (λ (p : Share K T). p.asker_room) 1 (λ p r i. i.1.askers) q in let b = no_number (eq j q) _ _ (number_kept eq law qs rs j _ w (λ (p : Share K T). p.asker_room) 0 (λ p r i. i.1.askers) q) in omega arith);
-        waits = λ q. (let a = no_number (eq k q) _ _ (number_kept eq law ps qs k _ c (λ (p : Share K T). p.wait_room) 0 (λ p r i. i.1.waits) q) in let b = number_kept eq law qs rs j _ w (λ (p : Share K T). p.wait_room) 1 (λ p r i. i.1.waits) q in omega arith);
+        places = λ q h. place_kept eq law qs rs j _ w (λ p r i. i.1.stays) q (place_kept eq law ps qs k _ c (λ p r i. i.1.stays) q h);
+        promises = λ q. (let a = no_number (eq k q) _ _ (room_left eq law ps qs k _ c (λ (p : Share K T). p.promise_room) 0 (λ p r i. i.1.promises) (λ p r i. i.1.stays) q) in let b = no_number (eq j q) _ _ (room_left eq law qs rs j _ w (λ (p : Share K T). p.promise_room) 0 (λ p r i. i.1.promises) (λ p r i. i.1.stays) q) in omega arith);
+        askers = λ q. (let a = room_left eq law ps qs k _ c (λ (p : Share K T). p.asker_room) 1 (λ p r i. i.1.askers) (λ p r i. i.1.stays) q in let b = no_number (eq j q) _ _ (room_left eq law qs rs j _ w (λ (p : Share K T). p.asker_room) 0 (λ p r i. i.1.askers) (λ p r i. i.1.stays) q) in omega arith);
+        waits = λ q. (let a = no_number (eq k q) _ _ (room_left eq law ps qs k _ c (λ (p : Share K T). p.wait_room) 0 (λ p r i. i.1.waits) (λ p r i. i.1.stays) q) in let b = room_left eq law qs rs j _ w (λ (p : Share K T). p.wait_room) 1 (λ p r i. i.1.waits) (λ p r i. i.1.stays) q in omega arith);
       }
 
   -- who asks with the task of k asks for what it waits for
@@ -255,10 +255,10 @@ module _ {K T : Type 0} (eq : K → K → Bool) (law : IsEquality eq) where
 
     pub ended_room : KeepsOtherRoom eq k ps rs
     ended_room = record {
-      places = λ q n h. w.room.places q (place_kept eq law ps qs k _ c q ∙ h);
-      promises = λ q n. (let a = ap (number_for (λ (p : Share K T). p.promise_room)) (c.others q n) in let b = w.room.promises q in omega arith);
-      askers = λ q n. (let a = ap (number_for (λ (p : Share K T). p.asker_room)) (c.others q n) in let b = w.room.askers q in omega arith);
-      waits = λ q n. (let a = ap (number_for (λ (p : Share K T). p.wait_room)) (c.others q n) in let b = w.room.waits q in omega arith);
+      places = λ q n h. w.room.places q (place_kept eq law ps qs k _ c (λ p r i. i.1.stays) q h);
+      promises = λ q n. (let a = ap (number_for (room_in (λ (p : Share K T). p.promise_room))) (c.others q n) in let b = w.room.promises q in omega arith);
+      askers = λ q n. (let a = ap (number_for (room_in (λ (p : Share K T). p.asker_room))) (c.others q n) in let b = w.room.askers q in omega arith);
+      waits = λ q n. (let a = ap (number_for (room_in (λ (p : Share K T). p.wait_room))) (c.others q n) in let b = w.room.waits q in omega arith);
       count = (let a = count_kept eq law ps qs k _ c 0 (λ p r i. i.1.count) in let b = w.room.count in omega arith);
     }
 
@@ -271,15 +271,19 @@ module _ {K T : Type 0} (eq : K → K → Bool) (law : IsEquality eq) where
     no_asker a = ap (is_for (λ r. has_by eq r a)) p.taken.there ∙ idle_unasked eq law p.place p.taken.idle a
 
     -- what is read of the places is as before, at other keys than k
-    gone_at : {X : Type 0} (f : Option (Share K T) → X) (q : K) → f (lookup (eq q) qs) ≡ cond (eq k q) (f None) (f (lookup (eq q) p.mid))
-    gone_at f q = ap f (p.taken.gone q) ∙ by_test (eq k q) (lookup (eq q) p.mid)
+    gone_at : {X : Type 0} (f : Option (Share K T) → X) → f (Some p.taken.left) ≡ f None → (q : K) → f (lookup (eq q) qs) ≡ cond (eq k q) (f None) (f (lookup (eq q) p.mid))
+    gone_at f s q = ap f (p.taken.gone q) ∙ by_test (eq k q) (lookup (eq q) p.mid)
       where
-        by_test : (b : Bool) (o : Option (Share K T)) → f (cond b None o) ≡ cond b (f None) (f o)
-        by_test true o = refl
+        by_test : (b : Bool) (o : Option (Share K T)) → f (cond b (Some p.taken.left) o) ≡ cond b (f None) (f o)
+        by_test true o = s
         by_test false o = refl
 
+    vacant_asks : (a : By K) → has_by eq p.taken.left a ≡ false
+    vacant_asks (Promised n) = ap (list_any (nat_eq n)) p.taken.vacant.promises
+    vacant_asks (Tasked j) = ap (list_any (eq j)) p.taken.vacant.askers
+
     asks_then : (q : K) (a : By K) → asks eq qs q a ≡ asks eq ps q a
-    asks_then q a = gone_at (is_for (λ r. has_by eq r a)) q ∙ (by_test (eq k q) refl ∙ p.kept.asks q a)
+    asks_then q a = gone_at (is_for (λ r. has_by eq r a)) (vacant_asks a) q ∙ (by_test (eq k q) refl ∙ p.kept.asks q a)
       where
         by_test : (b : Bool) → eq k q ≡ b → cond b false (asks eq p.mid q a) ≡ asks eq p.mid q a
         by_test true e = sym (subst (λ x. asks eq p.mid x a ≡ false) (law.same k q e) (no_asker a))
@@ -295,7 +299,7 @@ module _ {K T : Type 0} (eq : K → K → Bool) (law : IsEquality eq) where
     live_here = sym (p.kept.tasks.live k) ∙ (ap (is_for has_live) p.taken.there ∙ (and_parts (has_live p.place) _ p.taken.idle).0)
 
     pub popped_live : (q : K) → is_live eq rs q ≡ (is_live eq ps q && not (eq k q))
-    popped_live q = w.tasks.live q ∙ (gone_at (is_for has_live) q ∙ (ap (λ b. cond (eq k q) false b) (p.kept.tasks.live q) ∙ by_bools (eq k q) (is_live eq ps q)))
+    popped_live q = w.tasks.live q ∙ (gone_at (is_for has_live) p.taken.vacant.live q ∙ (ap (λ b. cond (eq k q) false b) (p.kept.tasks.live q) ∙ by_bools (eq k q) (is_live eq ps q)))
       where
         by_bools : (b x : Bool) → cond b false x ≡ (x && not b)
         by_bools true true = refl
@@ -313,11 +317,11 @@ module _ {K T : Type 0} (eq : K → K → Bool) (law : IsEquality eq) where
     popped_task = sym (p.kept.tasks.tasks k) ∙ (ap (option_and_then (λ (r : Share K T). r.task)) p.taken.there ∙ p.task)
 
     pub popped_tasks : (q : K) → task_at eq rs q ≡ cond (eq k q) None (task_at eq ps q)
-    popped_tasks q = w.tasks.tasks q ∙ (gone_at (option_and_then (λ (r : Share K T). r.task)) q ∙ ap (cond (eq k q) None) (p.kept.tasks.tasks q))
+    popped_tasks q = w.tasks.tasks q ∙ (gone_at (option_and_then (λ (r : Share K T). r.task)) p.taken.vacant.task q ∙ ap (cond (eq k q) None) (p.kept.tasks.tasks q))
 
     pub popped_mirrored : IsMirrored eq rs
     popped_mirrored d i = popped_asks d (Tasked i) ∙ (ap (λ b. b && not (eq k i)) (m d i) ∙ (by_bools (eq k i) (list_any (eq d) (waits_at eq ps i))
-        ∙ sym (w.waits i d ∙ (gone_at (λ o. list_any (eq d) (list_for (λ (r : Share K T). r.waits) o)) i ∙ ap (cond (eq k i) false) (p.kept.waits i d)))))
+        ∙ sym (w.waits i d ∙ (gone_at (λ o. list_any (eq d) (list_for (λ (r : Share K T). r.waits) o)) (ap (list_any (eq d)) p.taken.vacant.waits) i ∙ ap (cond (eq k i) false) (p.kept.waits i d)))))
       where
         by_bools : (b x : Bool) → (x && not b) ≡ cond b false x
         by_bools true true = refl
@@ -326,14 +330,14 @@ module _ {K T : Type 0} (eq : K → K → Bool) (law : IsEquality eq) where
         by_bools false false = refl
 
     other : (q : K) → eq k q ≡ false → lookup (eq q) qs ≡ lookup (eq q) p.mid
-    other q n = p.taken.gone q ∙ ap (λ b. cond b None (lookup (eq q) p.mid)) n
+    other q n = p.taken.gone q ∙ ap (λ b. cond b (Some p.taken.left) (lookup (eq q) p.mid)) n
 
     pub popped_room : KeepsOtherRoom eq k ps rs
     popped_room = record {
-      places = λ q n h. w.room.places q (ap is_some (other q n) ∙ p.kept.room.places q h);
-      promises = λ q n. (let a = ap (number_for (λ (r : Share K T). r.promise_room)) (other q n) in let b = w.room.promises q in let d = p.kept.room.promises q in omega arith);
-      askers = λ q n. (let a = ap (number_for (λ (r : Share K T). r.asker_room)) (other q n) in let b = w.room.askers q in let d = p.kept.room.askers q in omega arith);
-      waits = λ q n. (let a = ap (number_for (λ (r : Share K T). r.wait_room)) (other q n) in let b = w.room.waits q in let d = p.kept.room.waits q in omega arith);
+      places = λ q n h. w.room.places q (ap (is_for takes_task) (other q n) ∙ p.kept.room.places q h);
+      promises = λ q n. (let a = ap (number_for (room_in (λ (r : Share K T). r.promise_room))) (other q n) in let b = w.room.promises q in let d = p.kept.room.promises q in omega arith);
+      askers = λ q n. (let a = ap (number_for (room_in (λ (r : Share K T). r.asker_room))) (other q n) in let b = w.room.askers q in let d = p.kept.room.askers q in omega arith);
+      waits = λ q n. (let a = ap (number_for (room_in (λ (r : Share K T). r.wait_room))) (other q n) in let b = w.room.waits q in let d = p.kept.room.waits q in omega arith);
       count = (let a = p.taken.count in let b = w.room.count in let d = p.kept.room.count in omega arith);
     }
 
@@ -376,8 +380,15 @@ module _ {K T : Type 0} (eq : K → K → Bool) (law : IsEquality eq) where
     pub written_mirrored : IsMirrored eq ps → IsMirrored eq qs
     written_mirrored = mirrored_same ps qs written_asks (λ i d. ap (list_any (eq d)) (written_waits i))
 
-    at_most : (m n : ℕ) → n ≡ m → m ≤ n
-    at_most m n e = omega arith
+    same_number : (m n : ℕ) → n ≡ m → m ≤ n + 0
+    same_number m n e = omega arith
+
+    no_more : (b : Bool) (m n : ℕ) → m ≤ n + cond b 0 0 → m ≤ n
+    no_more true m n h = omega arith
+    no_more false m n h = omega arith
+
+    takes_on : (p r : Share K T) → r ≡ record p { task = Some t } → takes_task p ≡ true → takes_task r ≡ true
+    takes_on p r i e = ap takes_task i
 
     -- where there was a task
     pub written : ((p : Share K T) → lookup (eq k) ps ≡ Some p → is_some p.task ≡ true) → WritesTask eq k ps qs t
@@ -387,10 +398,10 @@ module _ {K T : Type 0} (eq : K → K → Bool) (law : IsEquality eq) where
       asks = written_asks;
       waits = written_waits;
       room = record {
-        places = λ q h. at_place is_some (λ p. refl) q ∙ h;
-        promises = λ q. at_most _ _ (at_place (number_for (λ (p : Share K T). p.promise_room)) (λ p. refl) q);
-        askers = λ q. at_most _ _ (at_place (number_for (λ (p : Share K T). p.asker_room)) (λ p. refl) q);
-        waits = λ q. at_most _ _ (at_place (number_for (λ (p : Share K T). p.wait_room)) (λ p. refl) q);
+        places = place_kept eq law ps qs k _ c takes_on;
+        promises = λ q. no_more (eq k q) _ _ (room_left eq law ps qs k _ c (λ (p : Share K T). p.promise_room) 0 (λ p r i. same_number p.promise_room r.promise_room (ap (λ (x : Share K T). x.promise_room) i)) takes_on q);
+        askers = λ q. no_more (eq k q) _ _ (room_left eq law ps qs k _ c (λ (p : Share K T). p.asker_room) 0 (λ p r i. same_number p.asker_room r.asker_room (ap (λ (x : Share K T). x.asker_room) i)) takes_on q);
+        waits = λ q. no_more (eq k q) _ _ (room_left eq law ps qs k _ c (λ (p : Share K T). p.wait_room) 0 (λ p r i. same_number p.wait_room r.wait_room (ap (λ (x : Share K T). x.wait_room) i)) takes_on q);
         count = (let a = c.sums (λ (p : Share K T). length p.askers) in let b = at_place (number_for (λ (p : Share K T). length p.askers)) (λ p. refl) k in omega arith);
       };
     }
@@ -426,3 +437,45 @@ distinct_values eq law xs d = distinct_images eq law.itself arc_value xs d
 -- numbers that are apart are distinct
 pub distinct_numbers : (ns : List ℕ) → IsDistinct nat_eq ns → AreDistinct ns
 distinct_numbers ns d = subst AreDistinct (map-id ns) (distinct_images nat_eq (λ n. eq-eqb n n refl) (λ n. n) ns d)
+
+-- a key without a place is not asked for, and asks for nothing
+module _ {K T : Type 0} (eq : K → K → Bool) (law : IsEquality eq) (ps : List (K × Share K T)) (k : K) (none : lookup (eq k) ps ≡ None) where
+  pub none_left : (b : By K) (q : K) (a : By K) → asks eq ps q a ≡ (asks eq ps q a && not (eq k q && is_by eq b a))
+  none_left b q a = by_test (eq k q) refl
+    where
+      by_test : (t : Bool) → eq k q ≡ t → asks eq ps q a ≡ (asks eq ps q a && not (t && is_by eq b a))
+      by_test true e = let f : asks eq ps q a ≡ false = subst (λ x. asks eq ps x a ≡ false) (law.same k q e) (ap (is_for (λ p. has_by eq p a)) none) in rw f refl
+      by_test false e = and_true (asks eq ps q a)
+
+  pub none_asks : IsMirrored eq ps → (q : K) (a : By K) → asks eq ps q a ≡ (asks eq ps q a && not (is_by eq (Tasked k) a))
+  none_asks m q (Promised n) = and_true (asks eq ps q (Promised n))
+  none_asks m q (Tasked j) = by_test (eq k j) refl
+    where
+      by_test : (t : Bool) → eq k j ≡ t → asks eq ps q (Tasked j) ≡ (asks eq ps q (Tasked j) && not t)
+      by_test true e = let f : asks eq ps q (Tasked j) ≡ false = subst (λ x. asks eq ps q (Tasked x) ≡ false) (law.same k j e) (m q k ∙ ap (λ o. list_any (eq q) (list_for (λ (p : Share K T). p.waits) o)) none) in rw f refl
+      by_test false e = and_true (asks eq ps q (Tasked j))
+
+  pub none_leaves : IsMirrored eq ps → (d q : K) (a : By K) → asks eq ps q a ≡ (asks eq ps q a && not (eq d q && is_by eq (Tasked k) a))
+  none_leaves m d q a = by_bools (eq d q) (is_by eq (Tasked k) a) (asks eq ps q a) (none_asks m q a)
+    where
+      by_bools : (t b x : Bool) → x ≡ (x && not b) → x ≡ (x && not (t && b))
+      by_bools true b x e = e
+      by_bools false b x e = and_true x
+
+  pub none_lives : (q : K) → is_live eq ps q ≡ (is_live eq ps q && not (eq k q))
+  none_lives q = by_test (eq k q) refl
+    where
+      by_test : (t : Bool) → eq k q ≡ t → is_live eq ps q ≡ (is_live eq ps q && not t)
+      by_test true e = let f : is_live eq ps q ≡ false = subst (λ x. is_live eq ps x ≡ false) (law.same k q e) (ap (is_for has_live) none) in rw f refl
+      by_test false e = and_true (is_live eq ps q)
+
+  pub other_itself : KeepsOtherRoom eq k ps ps
+  other_itself = record { places = λ q n h. h; promises = λ q n. omega arith; askers = λ q n. omega arith; waits = λ q n. omega arith; count = omega arith }
+
+  -- what waits for a key or has room has a place
+  pub asked_there : (a : By K) (r : Share K T → ℕ) → (asks eq ps k a ≡ true) ⊎ (0 < number_for r (lookup (eq k) ps)) → ⊥
+  asked_there a r s = missing_asks eq law ps k a r s none
+
+  pub asking_there : IsMirrored eq ps → (d : K) → (asks eq ps d (Tasked k) ≡ true) ⊎ (0 < wait_room eq ps k) → ⊥
+  asking_there m d (inl e) = let f : true ≡ false = sym e ∙ (m d k ∙ ap (λ o. list_any (eq d) (list_for (λ (p : Share K T). p.waits) o)) none) in cc
+  asking_there m d (inr e) = let f : wait_room eq ps k ≡ 0 = ap (number_for (room_in (λ (p : Share K T). p.wait_room))) none in omega arith

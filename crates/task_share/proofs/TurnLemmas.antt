@@ -5,7 +5,7 @@ use Rattle.std.specs.Map.{lookup, values_of}
 use Rattle.std.specs.List.{list_any, sum_by}
 use Rattle.dice_key.specs.Lawful.{IsEquality}
 use Rattle.task_share.specs.Asked.{By}
-use Rattle.task_share.specs.Seen.{Share, is_for, list_for, number_for, has_by, has_live, task_at, is_live, asks, waits_at, has_place, ask_count, one_if, KeepsTasks, KeepsRoom}
+use Rattle.task_share.specs.Seen.{Share, takes_task, room_in, is_for, list_for, number_for, has_by, has_live, task_at, is_live, asks, waits_at, has_place, ask_count, one_if, KeepsTasks, KeepsRoom}
 use Rattle.task_share.specs.Listed.{AreIn, IsChanged, Turns, Stays, UsesRoom, IsKept}
 
 pub same_cond : {X : Type 0} (b : Bool) (x : X) → cond b x x ≡ x
@@ -35,14 +35,18 @@ module _ {K T : Type 0} (eq : K → K → Bool) (law : IsEquality eq) (ps qs : L
       by_places (Some p) None e i = absurd i
       by_places (Some p) (Some r) e i = step p r i
 
-  pub place_kept : (q : K) → has_place eq qs q ≡ has_place eq ps q
-  place_kept q = by_key is_some (λ b. b) (by_places (lookup (eq k) ps) (lookup (eq k) qs) c.here) q ∙ same_cond (eq k q) (has_place eq ps q)
+  pub place_kept : ((p r : Share K T) → R p r → takes_task p ≡ true → takes_task r ≡ true) → (q : K) → has_place eq ps q ≡ true → has_place eq qs q ≡ true
+  place_kept step q h = by_test (eq k q) refl
     where
-      by_places : (o r : Option (Share K T)) → AreIn R o r → is_some r ≡ is_some o
-      by_places None None i = refl
-      by_places None (Some r) i = absurd i
-      by_places (Some p) None i = absurd i
-      by_places (Some p) (Some r) i = refl
+      by_places : (o r : Option (Share K T)) → AreIn R o r → is_for takes_task o ≡ true → is_for takes_task r ≡ true
+      by_places None None i e = e
+      by_places None (Some r) i e = absurd i
+      by_places (Some p) None i e = absurd i
+      by_places (Some p) (Some r) i e = step p r i e
+
+      by_test : (b : Bool) → eq k q ≡ b → has_place eq qs q ≡ true
+      by_test true e = subst (λ y. has_place eq qs y ≡ true) (law.same k q e) (by_places (lookup (eq k) ps) (lookup (eq k) qs) c.here (subst (λ y. has_place eq ps y ≡ true) (sym (law.same k q e)) h))
+      by_test false e = ap (is_for takes_task) (c.others q e) ∙ h
 
   -- a number of a place, of which m were used at most
   pub number_kept : (f : Share K T → ℕ) (m : ℕ) → ((p r : Share K T) → R p r → f p ≤ f r + m) → (q : K) → number_for f (lookup (eq q) ps) ≤ number_for f (lookup (eq q) qs) + cond (eq k q) m 0
@@ -57,6 +61,15 @@ module _ {K T : Type 0} (eq : K → K → Bool) (law : IsEquality eq) (ps qs : L
       by_test : (b : Bool) → eq k q ≡ b → number_for f (lookup (eq q) ps) ≤ number_for f (lookup (eq q) qs) + cond b m 0
       by_test true e = subst (λ y. number_for f (lookup (eq y) ps) ≤ number_for f (lookup (eq y) qs) + m) (law.same k q e) (by_places (lookup (eq k) ps) (lookup (eq k) qs) c.here)
       by_test false e = let s = ap (number_for f) (c.others q e) in omega arith
+
+  -- the same of what there is room for
+  pub room_left : (f : Share K T → ℕ) (m : ℕ) → ((p r : Share K T) → R p r → f p ≤ f r + m) → ((p r : Share K T) → R p r → takes_task p ≡ true → takes_task r ≡ true) → (q : K) → number_for (room_in f) (lookup (eq q) ps) ≤ number_for (room_in f) (lookup (eq q) qs) + cond (eq k q) m 0
+  room_left f m step stays q = number_kept (room_in f) m (λ p r i. by_tests (takes_task p) (takes_task r) (f p) (f r) (step p r i) (stays p r i)) q
+    where
+      by_tests : (a b : Bool) (x y : ℕ) → x ≤ y + m → (a ≡ true → b ≡ true) → cond a x 0 ≤ cond b y 0 + m
+      by_tests false b x y le s = omega arith
+      by_tests true true x y le s = le
+      by_tests true false x y le s = absurd (let f : false ≡ true = s refl in cc)
 
   module _ (t : Option T → Option T) (e : Bool → Bool) (A : By K → Bool → Bool) (W : K → Bool → Bool) (turn : (p r : Share K T) → R p r → Turns eq t e A W p r) where
     pub asks_turned : (a : By K) → (lookup (eq k) ps ≡ None → A a false ≡ false) → (q : K) → asks eq qs q a ≡ cond (eq k q) (A a (asks eq ps q a)) (asks eq ps q a)
@@ -113,10 +126,10 @@ module _ {K T : Type 0} (eq : K → K → Bool) (law : IsEquality eq) (ps qs : L
 
   pub room_kept : ((p r : Share K T) → R p r → UsesRoom 0 0 0 p r) → KeepsRoom eq ps qs
   room_kept step = record {
-    places = λ q h. place_kept q ∙ h;
-    promises = λ q. drop_cond (eq k q) _ _ (number_kept (λ (p : Share K T). p.promise_room) 0 (λ p r i. (step p r i).promises) q);
-    askers = λ q. drop_cond (eq k q) _ _ (number_kept (λ (p : Share K T). p.asker_room) 0 (λ p r i. (step p r i).askers) q);
-    waits = λ q. drop_cond (eq k q) _ _ (number_kept (λ (p : Share K T). p.wait_room) 0 (λ p r i. (step p r i).waits) q);
+    places = place_kept (λ p r i. (step p r i).stays);
+    promises = λ q. drop_cond (eq k q) _ _ (room_left (λ (p : Share K T). p.promise_room) 0 (λ p r i. (step p r i).promises) (λ p r i. (step p r i).stays) q);
+    askers = λ q. drop_cond (eq k q) _ _ (room_left (λ (p : Share K T). p.asker_room) 0 (λ p r i. (step p r i).askers) (λ p r i. (step p r i).stays) q);
+    waits = λ q. drop_cond (eq k q) _ _ (room_left (λ (p : Share K T). p.wait_room) 0 (λ p r i. (step p r i).waits) (λ p r i. (step p r i).stays) q);
     count = (let n = count_kept 0 (λ p r i. (step p r i).count) in omega arith);
   }
     where

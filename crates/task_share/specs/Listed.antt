@@ -1,14 +1,15 @@
 -- What a table keeps of its candidates, and what becomes of one place.
-use Rattle.std.specs.Prelude.{◌≡◌, ◌≤◌, ◌<◌, ◌+◌, ℕ, Bool, true, false, not, cond, ◌&&◌, ◌||◌, eqb, List, [], length, map, Option, Some, None, is_some}
+use Rattle.std.specs.Prelude.{◌≡◌, ◌≤◌, ◌<◌, ◌+◌, ℕ, Bool, true, false, not, cond, ◌&&◌, ◌||◌, eqb, List, [], length, map, Option, Some, None, is_some, slice_get}
 use Rattle.std.specs.Arc.{arc_value}
-use Rattle.std.specs.Map.{lookup, values_of}
-use Rattle.std.specs.List.{list_any, sum_by}
+use Rattle.std.specs.Map.{lookup, keys_of, values_of}
+use Rattle.std.specs.List.{list_any, sum_by, IsDistinct}
 use Rattle.std.specs.Option.{option_map}
+use Rattle.std.specs.HashMap.{spare as map_spare}
 use Rattle.std.specs.HashSet.{spare}
 use Rattle.std.specs.declared.sync.Arc.{Arc}
 use Rattle.task_share.specs.Asked.{By, Tasked, is_by}
 pub use Rattle.task_share.specs.Seen.{IsMirrored}
-use Rattle.task_share.specs.Seen.{Share, number_for, has_live, has_by, asks, waits_at, ask_count, one_if, live_count, KeepsTasks, KeepsAsks, KeepsRoom}
+use Rattle.task_share.specs.Seen.{Share, takes_task, number_for, has_live, has_by, asks, waits_at, ask_count, one_if, live_count, KeepsTasks, KeepsAsks, KeepsRoom}
 use Rattle.task_share.specs.declared.place.Place.{Place}
 use Rattle.lists.specs.Lists.{Has}
 
@@ -18,11 +19,11 @@ share_of p = record {
   task = p.task;
   live = p.live;
   promises = p.promises.keys;
-  askers = map arc_value p.askers.keys;
-  waits = map arc_value p.waits.keys;
+  askers = map arc_value (values_of p.askers.entries);
+  waits = map arc_value (values_of p.waits.entries);
   promise_room = spare p.promises;
-  asker_room = spare p.askers;
-  wait_room = spare p.waits;
+  asker_room = map_spare p.askers;
+  wait_room = map_spare p.waits;
   name = option_map arc_value p.name;
 }
 
@@ -32,6 +33,20 @@ entry_of e = (arc_value e.0, share_of e.1)
 -- the places of a table
 abbrev pub shares_of : {K A T : Type 0} → List (Arc K A × Place K T) → List (K × Share K T)
 shares_of es = map entry_of es
+
+-- the keys of a table, in the order of their numbers
+abbrev pub names_of : {K A T : Type 0} → List (Arc K A × Place K T) → List K
+names_of es = map (λ e. arc_value e.0) es
+
+-- each of these keys stands by its number
+abbrev pub AreNumbered : {K A : Type 0} → List K → List (ℕ × Arc K A) → Type 0
+AreNumbered {K} {A} names xs = (x : ℕ × Arc K A) → Has xs x → slice_get names x.0 ≡ Some (arc_value x.1)
+
+-- each key has one place, and those who ask and what is waited for stand by their numbers
+pub record IsLinked {K A T : Type 0} (eq : K → K → Bool) (es : List (Arc K A × Place K T)) : Type 0 where
+  pub distinct : IsDistinct (λ a b. eq (arc_value a) (arc_value b)) (keys_of es)
+  pub askers : (e : Arc K A × Place K T) → Has es e → AreNumbered (names_of es) e.1.askers.entries
+  pub waits : (e : Arc K A × Place K T) → Has es e → AreNumbered (names_of es) e.1.waits.entries
 
 -- the task has not ended, and nobody asks for it
 abbrev pub is_idle : {K T : Type 0} → Share K T → Bool
@@ -46,12 +61,12 @@ released p = cond (is_idle p) p.name None
 
 -- how many keys a place may still give away
 abbrev pub kept_name : {K T : Type 0} → Share K T → ℕ
-kept_name p = one_if (is_some p.name)
+kept_name p = one_if (is_some p.name || not (is_some p.task))
 
--- a place has its key, or the key is among the candidates, as that of an idle task is; a task that has not ended is there
+-- a place with a task has its key, or the key is among the candidates, as that of an idle task is; a task that has not ended is there
 pub record IsNamed {K T : Type 0} (cs : List K) (k : K) (p : Share K T) : Type 0 where
   pub idle : is_idle p ≡ true → p.name ≡ None
-  pub listed : p.name ≡ None → Has cs k
+  pub listed : p.name ≡ None → is_some p.task ≡ true → Has cs k
   pub named : (n : K) → p.name ≡ Some n → n ≡ k
   pub runs : p.live ≡ true → is_some p.task ≡ true
 
@@ -65,14 +80,13 @@ pub record IsWhole {K T : Type 0} (eq : K → K → Bool) (ps : List (K × Share
   pub listed : IsListed eq ps cs room
   pub mirrored : IsMirrored eq ps
 
--- the place of k, before there is a task or an asker
-pub record IsVacant {K T : Type 0} (k : K) (p : Share K T) : Type 0 where
+-- a place where there is no task and no asker
+pub record IsVacant {K T : Type 0} (p : Share K T) : Type 0 where
   pub task : p.task ≡ None
   pub live : p.live ≡ false
   pub promises : p.promises ≡ []
   pub askers : p.askers ≡ []
   pub waits : p.waits ≡ []
-  pub name : p.name ≡ Some k
 
 -- what was at a key and is there now are in R, or nothing is there
 abbrev pub AreIn : {X : Type 0} → (X → X → Type 0) → Option X → Option X → Type 0
@@ -93,6 +107,7 @@ pub record UsesRoom {K T : Type 0} (m n l : ℕ) (p r : Share K T) : Type 0 wher
   pub askers : p.asker_room ≤ r.asker_room + n
   pub waits : p.wait_room ≤ r.wait_room + l
   pub count : length r.askers ≤ length p.askers + n
+  pub stays : takes_task p ≡ true → takes_task r ≡ true
 
 -- the task of a place changes by t, whether it has not ended by e, its askers by A and its waits by W
 pub record Turns {K T : Type 0} (eq : K → K → Bool) (t : Option T → Option T) (e : Bool → Bool) (A : By K → Bool → Bool) (W : K → Bool → Bool) (p r : Share K T) : Type 0 where
@@ -100,6 +115,12 @@ pub record Turns {K T : Type 0} (eq : K → K → Bool) (t : Option T → Option
   pub live : r.live ≡ e p.live
   pub asks : (a : By K) → has_by eq r a ≡ A a (has_by eq p a)
   pub waits : (d : K) → list_any (eq d) r.waits ≡ W d (list_any (eq d) p.waits)
+
+-- the place of a number changed by R, and no other; all numbers stay
+pub record IsChangedAt {K A T : Type 0} (eq : K → K → Bool) (n : ℕ) (R : Share K T → Share K T → Type 0) (es fs : List (Arc K A × Place K T)) : Type 0 where
+  pub names : names_of fs ≡ names_of es
+  pub linked : IsLinked eq fs
+  pub changed : (k : K) → slice_get (names_of es) n ≡ Some k → IsChanged eq k R (shares_of es) (shares_of fs)
 
 -- the asker a comes to those of a place, or leaves them
 abbrev pub Joined : {K T : Type 0} → (K → K → Bool) → By K → Share K T → Share K T → Type 0
@@ -136,11 +157,13 @@ pub record Withdrawing {K T : Type 0} (eq : K → K → Bool) (k : K) (all rest 
   pub split : (q : K) → list_any (eq q) all ≡ (list_any (eq q) rest || list_any (eq q) done)
   pub gone : Withdraws eq k done ps qs
 
--- the place p of k, whose task is idle, is taken out
+-- the place p of k, whose task is idle, is emptied
 pub record IsTaken {K T : Type 0} (eq : K → K → Bool) (k : K) (p : Share K T) (ps qs : List (K × Share K T)) : Type 0 where
   pub there : lookup (eq k) ps ≡ Some p
   pub idle : is_idle p ≡ true
-  pub gone : (q : K) → lookup (eq q) qs ≡ cond (eq k q) None (lookup (eq q) ps)
+  pub left : Share K T
+  pub vacant : IsVacant left
+  pub gone : (q : K) → lookup (eq q) qs ≡ cond (eq k q) (Some left) (lookup (eq q) ps)
   pub count : ask_count qs ≤ ask_count ps
   pub fewer : live_count qs < live_count ps
 

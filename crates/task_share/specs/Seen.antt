@@ -1,11 +1,12 @@
 -- A table as its users see it: a list of keys with what is kept at each, read by key.
-use Rattle.std.specs.Prelude.{◌≡◌, ◌≤◌, ◌+◌, ℕ, Bool, true, false, nat_eq, List, [], length, Option, Some, None, option_and_then, is_some}
+use Rattle.std.specs.Prelude.{◌≡◌, ◌≤◌, ◌+◌, ◌||◌, ℕ, Bool, true, false, cond, nat_eq, List, [], length, Option, Some, None, option_and_then, is_some}
 use Rattle.std.specs.Map.{lookup, values_of}
 use Rattle.std.specs.List.{list_any, sum_by}
 use Rattle.task_share.specs.Asked.{By, Promised, Tasked, Asked}
 
 -- what is kept at a key: its task, if there is one, and whether it is there and has not ended; the promises and the tasks that ask for the key, the
--- keys that its task waits for, and how many more of each there is room for; the key itself, where it is not among the candidates
+-- keys that its task waits for, and how many more of each there is room for; the key itself, where it is not among the candidates and was
+-- not taken out with its task
 pub record Share (K T : Type 0) : Type 0 where
   pub task : Option T
   pub live : Bool
@@ -33,6 +34,14 @@ number_for f (Some x) = f x
 -- there is a task, and it has not ended
 abbrev pub has_live : {K T : Type 0} → Share K T → Bool
 has_live p = p.live
+
+-- a task may be put there: there is one, or the key for it
+abbrev pub takes_task : {K T : Type 0} → Share K T → Bool
+takes_task p = is_some p.task || is_some p.name
+
+-- a number of what there is room for, where a task may be put
+abbrev pub room_in : {K T : Type 0} → (Share K T → ℕ) → Share K T → ℕ
+room_in f p = cond (takes_task p) (f p) 0
 
 -- whether this asker is among those of the key
 abbrev pub has_by : {K T : Type 0} → (K → K → Bool) → Share K T → By K → Bool
@@ -78,17 +87,17 @@ module _ {K T : Type 0} (eq : K → K → Bool) where
 
   -- there is a place for a task of the key
   abbrev pub has_place : List (K × Share K T) → K → Bool
-  has_place ps k = is_some (lookup (eq k) ps)
+  has_place ps k = is_for takes_task (lookup (eq k) ps)
 
   -- how many more promises may ask for the key without memory, how many more tasks, and how many more keys its task may wait for
   abbrev pub promise_room : List (K × Share K T) → K → ℕ
-  promise_room ps k = number_for (λ p. p.promise_room) (lookup (eq k) ps)
+  promise_room ps k = number_for (room_in (λ p. p.promise_room)) (lookup (eq k) ps)
 
   abbrev pub asker_room : List (K × Share K T) → K → ℕ
-  asker_room ps k = number_for (λ p. p.asker_room) (lookup (eq k) ps)
+  asker_room ps k = number_for (room_in (λ p. p.asker_room)) (lookup (eq k) ps)
 
   abbrev pub wait_room : List (K × Share K T) → K → ℕ
-  wait_room ps k = number_for (λ p. p.wait_room) (lookup (eq k) ps)
+  wait_room ps k = number_for (room_in (λ p. p.wait_room)) (lookup (eq k) ps)
 
   -- the tasks, and which of them have ended, are as before
   pub record KeepsTasks (ps qs : List (K × Share K T)) : Type 0 where

@@ -13,11 +13,13 @@ pub enum Asker<K> {
     Task(Arc<K>),
 }
 
-/// Those who ask for a key: the numbers of the promises and the keys of the tasks, each in no order.
+/// Those who ask for a key: the numbers of the promises and the keys of the tasks, each in no order. The table's numbers of these
+/// keys are in the order of the keys.
 #[derive(Drop)]
 pub struct Askers<'a, K> {
     pub promises: &'a [u64],
     pub tasks: &'a [Arc<K>],
+    pub numbers: &'a [usize],
 }
 
 /// One task's wait for another, with the pointers that the table keeps of it, so that it can be added without memory.
@@ -25,7 +27,6 @@ pub struct Askers<'a, K> {
 pub struct Wait<K> {
     key: Arc<K>,
     asker: Arc<K>,
-    kept_asker: Arc<K>,
 }
 
 impl<K> Model for Wait<K> {
@@ -36,8 +37,6 @@ impl<K> Model for Wait<K> {
     ghost Value = { WaitOf K };
 
     ghost view = { λ w. record { key = arc_value w.key; asker = arc_value w.asker } };
-
-    ghost invariant = { λ w. arc_value w.kept_asker ≡ arc_value w.asker };
 }
 
 impl<K> Wait<K> {
@@ -50,14 +49,13 @@ impl<K> Wait<K> {
         Ok(Wait {
             key: Arc::try_clone(key)?,
             asker: Arc::try_clone(asker)?,
-            kept_asker: Arc::try_clone(asker)?,
         })
     }
 
-    /// The key that is waited for, and the key of the waiting task twice.
-    pub fn into_parts(self) -> (Arc<K>, Arc<K>, Arc<K>)
-        ensures { (arc_value result.0 ≡ self.key) × (arc_value result.1 ≡ self.asker) × (arc_value result.2 ≡ self.asker) }
+    /// The key that is waited for, and the key of the waiting task.
+    pub fn into_parts(self) -> (Arc<K>, Arc<K>)
+        ensures { (arc_value result.0 ≡ self.key) × (arc_value result.1 ≡ self.asker) }
     {
-        (self.key, self.asker, self.kept_asker)
+        (self.key, self.asker)
     }
 }

@@ -1,21 +1,22 @@
 //! The tasks that nobody asks for: how one is found among the candidates, and how its asks are withdrawn.
-ghost use Rattle.std.specs.Prelude.{◌≡◌, ◌≤◌, ◌++◌, ◌∷◌, [], ℕ, List, false, Some, None, map, vec_capacity, IfSome, IfNone};
+ghost use Rattle.std.specs.Prelude.{◌≡◌, ◌≤◌, ◌++◌, ◌∷◌, [], ℕ, List, slice_get, false, Some, None, map, vec_capacity, IfSome, IfNone};
 ghost use Rattle.std.specs.Arc.{arc_value};
-ghost use Rattle.std.specs.Map.{lookup};
+ghost use Rattle.std.specs.Map.{lookup, values_of};
 ghost use Rattle.dice_key.specs.Lawful.{IsEquality};
 ghost use Rattle.task_share.specs.Seen.{is_for};
-ghost use Rattle.task_share.specs.Listed.{shares_of, is_idle, IsListed, IsKept, IsPopped, AllRun, NoneIdle, Withdraws};
+ghost use Rattle.task_share.specs.Listed.{shares_of, names_of, AreNumbered, IsLinked, is_idle, IsListed, IsKept, IsPopped, AllRun, NoneIdle, Withdraws};
 
-use crate::place::{Place, is_unasked};
+use crate::place::{Place, is_unasked, vacant};
 use crate::places::leave_task;
-use indexmap::IndexSet;
-use std::collections::HashMap;
+use indexmap::IndexMap;
+use std::alloc::Global;
 use std::hash::Hash;
+use std::mem;
 use std::sync::Arc;
 
 /// Whether the key has a task that has not ended, and nobody asks for it.
 fn is_idle_at<K: Eq + Hash + Drop, T: Drop>(
-    places: &HashMap<Arc<K>, Place<K, T>>,
+    places: &IndexMap<Arc<K>, Place<K, T>>,
     key: &Arc<K>,
 ) -> bool
     ensures { result ≡ is_for is_idle (lookup (K.eq (arc_value key.now)) (shares_of places.now.entries)) }
@@ -27,9 +28,11 @@ fn is_idle_at<K: Eq + Hash + Drop, T: Drop>(
 }
 
 /// Gives a key that is no candidate any more back to its place.
-fn give_back<K: Eq + Hash + Drop, T: Drop>(places: &mut HashMap<Arc<K>, Place<K, T>>, key: Arc<K>)
+fn give_back<K: Eq + Hash + Drop, T: Drop>(places: &mut IndexMap<Arc<K>, Place<K, T>>, key: Arc<K>)
     requires equality { IsEquality K.eq }
+    requires linked { IsLinked K.eq places.old.entries }
     requires busy { is_for is_idle (lookup (K.eq (arc_value key)) (shares_of places.old.entries)) ≡ false }
+    ensures linked { IsLinked K.eq places.new.entries }
     ensures listed { (cs : List K) (room : ℕ) → IsListed K.eq (shares_of places.old.entries) (cs ++ arc_value key ∷ []) room → IsListed K.eq (shares_of places.new.entries) cs room }
     ensures kept { IsKept K.eq (shares_of places.old.entries) (shares_of places.new.entries) }
 {
@@ -40,25 +43,31 @@ fn give_back<K: Eq + Hash + Drop, T: Drop>(places: &mut HashMap<Arc<K>, Place<K,
 }
 
 /// Takes the task of a key out with what it waits for, where it has not ended and nobody asks for it; else the key goes back to
-/// its place.
+/// its place. The place stays, so that all numbers do.
 fn take_idle<K: Eq + Hash + Drop, T: Drop>(
-    places: &mut HashMap<Arc<K>, Place<K, T>>,
+    places: &mut IndexMap<Arc<K>, Place<K, T>>,
+    alloc: Global,
     key: Arc<K>,
-) -> Option<(Arc<K>, T, IndexSet<Arc<K>>)>
+) -> Option<(Arc<K>, T, IndexMap<usize, Arc<K>>)>
     requires equality { IsEquality K.eq }
+    requires linked { IsLinked K.eq places.old.entries }
     requires runs { AllRun K.eq (shares_of places.old.entries) }
+    ensures linked { IsLinked K.eq places.new.entries }
     ensures listed { (cs : List K) (room : ℕ) → IsListed K.eq (shares_of places.old.entries) (cs ++ arc_value key ∷ []) room → IsListed K.eq (shares_of places.new.entries) cs room }
-    ensures some { IfSome result (λ f. IsPopped K.eq (arc_value f.0) f.1 (map arc_value f.2.keys) (shares_of places.old.entries) (shares_of places.new.entries)) }
+    ensures numbered { IfSome result (λ f. AreNumbered (names_of places.new.entries) f.2.entries) }
+    ensures some { IfSome result (λ f. IsPopped K.eq (arc_value f.0) f.1 (map arc_value (values_of f.2.entries)) (shares_of places.old.entries) (shares_of places.new.entries)) }
     ensures none { IfNone result (IsKept K.eq (shares_of places.old.entries) (shares_of places.new.entries)) }
 {
     if !is_idle_at(places, &key) {
         give_back(places, key);
         return None;
     }
-    let Some(place) = places.remove(&key) else {
+    let Some(place) = places.get_mut(&key) else {
         return None;
     };
-    let Some(found) = place.into_task() else {
+    let empty = vacant(alloc, None);
+    let taken = mem::replace(place, empty);
+    let Some(found) = taken.into_task() else {
         return None;
     };
     let (task, waits) = found;
@@ -67,37 +76,44 @@ fn take_idle<K: Eq + Hash + Drop, T: Drop>(
 
 /// Takes one task out that has not ended and that nobody asks for, with what it waits for.
 pub fn pop_idle<K: Eq + Hash + Drop, T: Drop>(
-    places: &mut HashMap<Arc<K>, Place<K, T>>,
+    places: &mut IndexMap<Arc<K>, Place<K, T>>,
     candidates: &mut Vec<Arc<K>>,
-) -> Option<(Arc<K>, T, IndexSet<Arc<K>>)>
+    alloc: Global,
+) -> Option<(Arc<K>, T, IndexMap<usize, Arc<K>>)>
     requires equality { IsEquality K.eq }
+    requires linked { IsLinked K.eq places.old.entries }
     requires listed { IsListed K.eq (shares_of places.old.entries) (map arc_value candidates.old.items) (vec_capacity candidates.old) }
+    ensures linked { IsLinked K.eq places.new.entries }
     ensures listed { IsListed K.eq (shares_of places.new.entries) (map arc_value candidates.new.items) (vec_capacity candidates.new) }
-    ensures some { IfSome result (λ f. IsPopped K.eq (arc_value f.0) f.1 (map arc_value f.2.keys) (shares_of places.old.entries) (shares_of places.new.entries)) }
+    ensures numbered { IfSome result (λ f. AreNumbered (names_of places.new.entries) f.2.entries) }
+    ensures some { IfSome result (λ f. IsPopped K.eq (arc_value f.0) f.1 (map arc_value (values_of f.2.entries)) (shares_of places.old.entries) (shares_of places.new.entries)) }
     ensures none { IfNone result (IsKept K.eq (shares_of places.old.entries) (shares_of places.new.entries) × NoneIdle K.eq (shares_of places.new.entries)) }
 {
     while let Some(key) = candidates.pop() {
-        if let Some(found) = take_idle(places, key) {
+        if let Some(found) = take_idle(places, alloc, key) {
             return Some(found);
         }
     }
     None
 }
 
-/// Withdraws what a task asks for, which is what it waits for.
+/// Withdraws what a task, which is given by its number, asks for, which is what it waits for.
 pub fn withdraw<K: Eq + Hash + Drop, T: Drop>(
-    places: &mut HashMap<Arc<K>, Place<K, T>>,
+    places: &mut IndexMap<Arc<K>, Place<K, T>>,
     candidates: &mut Vec<Arc<K>>,
-    key: &Arc<K>,
-    waits: IndexSet<Arc<K>>,
+    asker: usize,
+    waits: IndexMap<usize, Arc<K>>,
 )
     requires equality { IsEquality K.eq }
+    requires linked { IsLinked K.eq places.old.entries }
+    requires numbered { AreNumbered (names_of places.old.entries) waits.entries }
     requires listed { IsListed K.eq (shares_of places.old.entries) (map arc_value candidates.old.items) (vec_capacity candidates.old) }
+    ensures linked { IsLinked K.eq places.new.entries }
     ensures listed { IsListed K.eq (shares_of places.new.entries) (map arc_value candidates.new.items) (vec_capacity candidates.new) }
-    ensures withdrawn { Withdraws K.eq (arc_value key.now) (map arc_value waits.keys) (shares_of places.old.entries) (shares_of places.new.entries) }
+    ensures withdrawn { (k : K) → slice_get (names_of places.old.entries) asker ≡ Some k → Withdraws K.eq k (map arc_value (values_of waits.entries)) (shares_of places.old.entries) (shares_of places.new.entries) }
 {
     let mut rest = waits;
-    while let Some(asked) = rest.pop() {
-        leave_task(places, candidates, &asked, key);
+    while let Some((at, _asked)) = rest.pop() {
+        leave_task(places, candidates, at, asker);
     }
 }

@@ -1,24 +1,26 @@
 //! What a table keeps at a key.
-ghost use Rattle.std.specs.Prelude.{◌≡◌, ◌<◌, ◌≤◌, ◌++◌, Some, None, IfSome, IfNone, true, map, length, is_some, vec_capacity};
+ghost use Rattle.std.specs.Prelude.{◌≡◌, ◌<◌, ◌≤◌, ◌++◌, [], Some, None, IfSome, IfNone, true, map, length, is_some, vec_capacity};
 ghost use Rattle.std.specs.Arc.{arc_value};
 ghost use Rattle.std.specs.Option.{option_to_list};
 ghost use Rattle.task_share.specs.Seen.{has_live};
 ghost use Rattle.task_share.specs.Listed.{share_of, settled, released, is_idle, IsVacant};
 
-use indexmap::IndexSet;
+use indexmap::{IndexMap, IndexSet};
 use std::alloc::Global;
 use std::hash::Hash;
 use std::sync::Arc;
 
-/// The place of a key: its task, whether it has not ended, who asks for it, and what it waits for. A place may stand before its task does, as room.
+/// The place of a key: its task, whether it has not ended, who asks for it, and what it waits for: keys by their numbers, with a
+/// pointer to each. A place may stand before its task does, as room.
 ///
-/// The place holds its key until the key goes to the candidates, so that a key may become one without memory.
+/// The place holds its key until the key goes to the candidates, so that a key may become one without memory. A place whose task was
+/// taken out with the key has neither; it is no room until it is given the key anew.
 pub struct Place<K: Eq + Hash + Drop, T: Drop> {
     pub task: Option<T>,
     pub live: bool,
     pub promises: IndexSet<u64>,
-    pub askers: IndexSet<Arc<K>>,
-    pub waits: IndexSet<Arc<K>>,
+    pub askers: IndexMap<usize, Arc<K>>,
+    pub waits: IndexMap<usize, Arc<K>>,
     pub name: Option<Arc<K>>,
 }
 
@@ -38,8 +40,8 @@ impl<K: Eq + Hash + Drop, T: Drop> Drop for Place<K, T> {
 
 impl<K: Eq + Hash + Drop, T: Drop> Place<K, T> {
     /// The task with what it waits for, where there is one.
-    pub fn into_task(self) -> Option<(T, IndexSet<Arc<K>>)>
-        ensures some { IfSome result (λ f. (self.task ≡ Some f.0) × (f.1.keys ≡ self.waits.keys)) }
+    pub fn into_task(self) -> Option<(T, IndexMap<usize, Arc<K>>)>
+        ensures some { IfSome result (λ f. (self.task ≡ Some f.0) × (f.1.entries ≡ self.waits.entries)) }
         ensures none { IfNone result (self.task ≡ None) }
     {
         let Place {
@@ -74,6 +76,8 @@ pub fn settle<K: Eq + Hash + Drop, T: Drop>(place: &mut Place<K, T>, candidates:
     ensures place { share_of place.new ≡ settled (share_of place.old) }
     ensures candidates { map arc_value candidates.new.items ≡ map arc_value candidates.old.items ++ option_to_list (released (share_of place.old)) }
     ensures room { vec_capacity candidates.new ≡ vec_capacity candidates.old }
+    ensures askers { place.new.askers ≡ place.old.askers }
+    ensures waits { place.new.waits ≡ place.old.waits }
 {
     if is_unasked(place) {
         if let Some(name) = place.name.take() {
@@ -82,16 +86,19 @@ pub fn settle<K: Eq + Hash + Drop, T: Drop>(place: &mut Place<K, T>, candidates:
     }
 }
 
-/// The place of a key that has no task yet.
-pub fn vacant<K: Eq + Hash + Drop, T: Drop>(alloc: Global, name: Arc<K>) -> Place<K, T>
-    ensures { IsVacant (arc_value name) (share_of result) }
+/// A place without a task, an asker and a wait, which holds this key.
+pub fn vacant<K: Eq + Hash + Drop, T: Drop>(alloc: Global, name: Option<Arc<K>>) -> Place<K, T>
+    ensures vacant { IsVacant (share_of result) }
+    ensures name { result.name ≡ name }
+    ensures askers { result.askers.entries ≡ [] }
+    ensures waits { result.waits.entries ≡ [] }
 {
     Place {
         task: None,
         live: false,
         promises: IndexSet::new(alloc),
-        askers: IndexSet::new(alloc),
-        waits: IndexSet::new(alloc),
-        name: Some(name),
+        askers: IndexMap::new(alloc),
+        waits: IndexMap::new(alloc),
+        name,
     }
 }

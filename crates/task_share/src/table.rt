@@ -2,13 +2,15 @@
 ghost use Rattle.std.specs.Prelude.{◌≡◌, ◌<◌, ◌≤◌, ◌+◌, ◌⊎◌, ◌&&◌, ◌||◌, not, nat_eq, ℕ, [], true, false, Some, None, cond, map, if◌then◌else◌, IsSome, IfSome, IfNone, OnOk, OnErr};
 ghost use Rattle.std.specs.Arc.{arc_value};
 ghost use Rattle.std.specs.List.{list_any};
-ghost use Rattle.std.specs.Option.{option_copied, option_copied_mut};
+ghost use Rattle.std.specs.Map.{lookup};
+ghost use Rattle.std.specs.Option.{option_copied, option_copied_mut, option_map};
 ghost use Rattle.std.specs.Borrow.{sem};
 ghost use Rattle.dice_key.specs.Lawful.{IsEquality};
 ghost use Rattle.task_share.specs.Asked.{By, Promised, Tasked, is_by, IsDone, Takes};
 ghost use Rattle.task_share.specs.Askers.{by_of};
 ghost use Rattle.task_share.specs.Lent.{LendsTask};
 ghost use Rattle.task_share.specs.Seen.{task_at, is_live, asks, waits_at, asked_of, ask_count, live_count, IsMirrored, has_place, promise_room, asker_room, wait_room, KeepsTasks, KeepsAsks, KeepsRoom, KeepsOtherRoom, UsesRoomOf};
+ghost use Rattle.task_share.specs.Numbers.{key_at, number_of, waits_by, keys_of};
 ghost use Rattle.lists.specs.Lists.{AreDistinct};
 
 use crate::asker::{Asker, Askers, Wait};
@@ -20,8 +22,8 @@ use crate::places::{
 };
 use crate::room;
 use dice_key::NoMemory;
+use indexmap::IndexMap;
 use std::alloc::Global;
-use std::collections::HashMap;
 use std::hash::Hash;
 use std::marker::Model;
 use std::sync::Arc;
@@ -34,7 +36,7 @@ use std::sync::Arc;
 /// A call takes constant time, however many tasks and askers there are, but for growth; `ended` and `next_unasked` take it for
 /// each key that the task waited for, and `next_unasked` for each candidate, which an earlier call made.
 pub struct Table<K: Eq + Hash + Drop, T: Drop> {
-    places: HashMap<Arc<K>, Place<K, T>>,
+    places: IndexMap<Arc<K>, Place<K, T>>,
     candidates: Vec<Arc<K>>,
     alloc: Global,
 }
@@ -55,13 +57,13 @@ impl<K: Eq + Hash + Drop, T: Drop> Model for Table<K, T> {
     ghost use Rattle.std.specs.Arc.{arc_value};
     ghost use Rattle.dice_key.specs.Lawful.{IsEquality};
     ghost use Rattle.task_share.specs.Seen.{Share};
-    ghost use Rattle.task_share.specs.Listed.{shares_of, IsWhole};
+    ghost use Rattle.task_share.specs.Listed.{shares_of, IsLinked, IsWhole};
 
     ghost Value = { List (K × Share K T) };
 
     ghost view = { λ a. shares_of a.places.entries };
 
-    ghost invariant = { λ a. IsEquality K.eq × IsWhole K.eq (shares_of a.places.entries) (map arc_value a.candidates.items) (vec_capacity a.candidates) };
+    ghost invariant = { λ a. IsEquality K.eq × IsWhole K.eq (shares_of a.places.entries) (map arc_value a.candidates.items) (vec_capacity a.candidates) × IsLinked K.eq a.places.entries };
 }
 
 impl<K: Eq + Hash + Drop, T: Drop> Table<K, T> {
@@ -71,7 +73,7 @@ impl<K: Eq + Hash + Drop, T: Drop> Table<K, T> {
         ensures { result ≡ [] }
     {
         Table {
-            places: HashMap::new(alloc),
+            places: IndexMap::new(alloc),
             candidates: Vec::new(alloc),
             alloc,
         }
@@ -168,9 +170,15 @@ impl<K: Eq + Hash + Drop, T: Drop> Table<K, T> {
         ensures room { UsesRoomOf K.eq (λ q. 0) (λ q. if K.eq wait.key q then 1 else 0) (λ q. if K.eq wait.asker q then 1 else 0) self.old self.new }
         ensures count { ask_count self.new ≤ ask_count self.old + 1 }
     {
-        let (key, asker, kept_asker) = wait.into_parts();
-        add_asker(&mut self.places, &key, kept_asker);
-        add_wait(&mut self.places, &asker, key);
+        let (key, asker) = wait.into_parts();
+        let Some(at) = self.places.get_index_of(&key) else {
+            unreachable!();
+        };
+        let Some(from) = self.places.get_index_of(&asker) else {
+            unreachable!();
+        };
+        add_asker(&mut self.places, at, from, asker);
+        add_wait(&mut self.places, from, at, key);
     }
 
     /// Adds an asker to a key. At an error all is as before, but for room.
@@ -235,8 +243,14 @@ impl<K: Eq + Hash + Drop, T: Drop> Table<K, T> {
         ensures asks { (q : K) (a : By K) → asks K.eq self.new q a ≡ (asks K.eq self.old q a && not (K.eq (arc_value key.now) q && is_by K.eq (Tasked (arc_value asker.now)) a)) }
         ensures room { KeepsRoom K.eq self.old self.new }
     {
-        leave_task(&mut self.places, &mut self.candidates, key, asker);
-        drop_wait(&mut self.places, asker, key);
+        let Some(at) = self.places.get_index_of(key) else {
+            return;
+        };
+        let Some(from) = self.places.get_index_of(asker) else {
+            return;
+        };
+        leave_task(&mut self.places, &mut self.candidates, at, from);
+        drop_wait(&mut self.places, from, at);
     }
 
     /// Takes one asking task away from a key, and gives its key; `None` exactly where no task asks for the key. It takes no memory.
@@ -250,10 +264,13 @@ impl<K: Eq + Hash + Drop, T: Drop> Table<K, T> {
         ensures none { IfNone result (((j : K) → asks K.eq self.old (arc_value key.now) (Tasked j) ≡ false) × KeepsAsks K.eq self.old self.new) }
         ensures room { KeepsRoom K.eq self.old self.new }
     {
-        let Some(asker) = pop_asker(&mut self.places, &mut self.candidates, key) else {
+        let Some(at) = self.places.get_index_of(key) else {
             return None;
         };
-        drop_wait(&mut self.places, &asker, key);
+        let Some((from, asker)) = pop_asker(&mut self.places, &mut self.candidates, at) else {
+            return None;
+        };
+        drop_wait(&mut self.places, from, at);
         Some(asker)
     }
 
@@ -265,8 +282,11 @@ impl<K: Eq + Hash + Drop, T: Drop> Table<K, T> {
         ensures room { KeepsOtherRoom K.eq (arc_value key.now) self.old self.new }
         ensures count { live_count self.new ≤ live_count self.old }
     {
-        let waits = end_task(&mut self.places, self.alloc, key);
-        withdraw(&mut self.places, &mut self.candidates, key, waits);
+        let Some(at) = self.places.get_index_of(key) else {
+            return;
+        };
+        let waits = end_task(&mut self.places, self.alloc, at);
+        withdraw(&mut self.places, &mut self.candidates, at, waits);
     }
 
     /// Takes one task out that has not ended and has no asker, and withdraws its own asks; `None` exactly where there is no such
@@ -282,10 +302,14 @@ impl<K: Eq + Hash + Drop, T: Drop> Table<K, T> {
         ensures fewer { IfSome result (λ r. live_count self.new < live_count self.old) }
         ensures none { IfNone result (IsDone (asked_of K.eq self.old) × KeepsTasks K.eq self.old self.new × KeepsAsks K.eq self.old self.new × KeepsRoom K.eq self.old self.new) }
     {
-        let Some((key, task, waits)) = pop_idle(&mut self.places, &mut self.candidates) else {
+        let Some((key, task, waits)) = pop_idle(&mut self.places, &mut self.candidates, self.alloc)
+        else {
             return None;
         };
-        withdraw(&mut self.places, &mut self.candidates, &key, waits);
+        let Some(from) = self.places.get_index_of(&key) else {
+            unreachable!();
+        };
+        withdraw(&mut self.places, &mut self.candidates, from, waits);
         Some((key, task))
     }
 
@@ -303,6 +327,9 @@ impl<K: Eq + Hash + Drop, T: Drop> Table<K, T> {
         ensures value { option_copied_mut result ≡ task_at K.eq self.old (arc_value key.now) }
     {
         let place = self.places.get_mut(key)?;
+        if !place.task.is_some() {
+            return None;
+        }
         place.task.as_mut()
     }
 
@@ -320,17 +347,20 @@ impl<K: Eq + Hash + Drop, T: Drop> Table<K, T> {
     pub fn askers(&self, key: &Arc<K>) -> Askers<'_, K>
         ensures promises { (n : ℕ) → list_any (nat_eq n) result.promises.now ≡ asks K.eq self.now (arc_value key.now) (Promised n) }
         ensures tasks { (j : K) → list_any (K.eq j) (map arc_value result.tasks.now) ≡ asks K.eq self.now (arc_value key.now) (Tasked j) }
+        ensures numbers { map (key_at self.now) result.numbers.now ≡ map Some (map arc_value result.tasks.now) }
         ensures distinct { AreDistinct (map arc_value result.tasks.now) }
         ensures distinct_promises { AreDistinct result.promises.now }
     {
         match self.places.get(key) {
             Some(place) => Askers {
                 promises: place.promises.as_slice(),
-                tasks: place.askers.as_slice(),
+                tasks: place.askers.values().as_slice(),
+                numbers: place.askers.keys().as_slice(),
             },
             None => Askers {
                 promises: &[],
                 tasks: &[],
+                numbers: &[],
             },
         }
     }
@@ -340,18 +370,48 @@ impl<K: Eq + Hash + Drop, T: Drop> Table<K, T> {
         ensures { map arc_value result.now ≡ waits_at K.eq self.now (arc_value key.now) }
     {
         match self.places.get(key) {
-            Some(place) => place.waits.as_slice(),
+            Some(place) => place.waits.values().as_slice(),
+            None => &[],
+        }
+    }
+
+    /// The number of a key, if it has a place. It keeps its number as long as the table lasts.
+    pub fn number(&self, key: &Arc<K>) -> Option<usize>
+        ensures some { IfSome result (λ n. key_at self.now n ≡ Some (arc_value key.now)) }
+        ensures none { IfNone result (lookup (K.eq (arc_value key.now)) self.now ≡ None) }
+    {
+        self.places.get_index_of(key)
+    }
+
+    /// The key of a number.
+    pub fn key(&self, number: usize) -> Option<&Arc<K>>
+        ensures { option_map arc_value (option_copied result) ≡ key_at self.now number }
+    {
+        match self.places.get_index(number) {
+            Some((key, _)) => Some(key),
+            None => None,
+        }
+    }
+
+    /// The numbers of the keys that the task of a number waits for, in no order.
+    pub fn waits_of(&self, number: usize) -> &[usize]
+        ensures { result.now ≡ waits_by K.eq self.now number }
+    {
+        match self.places.get_index(number) {
+            Some((_, place)) => place.waits.keys().as_slice(),
             None => &[],
         }
     }
 }
 
-/// What every table keeps: keys that are equal are the same, a task waits for just the keys that it asks for, and a key whose task
-/// has not ended has one. It does no work, and hands these facts to its caller.
+/// What every table keeps: keys that are equal are the same, a task waits for just the keys that it asks for, a key whose task has
+/// not ended has one, no key stands twice, and each key that is waited for has its number. It does no work, and hands these facts to its caller.
 pub fn table_in_order<K: Eq + Hash + Drop, T: Drop>(table: &Table<K, T>)
     ensures equality { IsEquality K.eq }
     ensures waits { IsMirrored K.eq table.now }
     ensures there { (k : K) → is_live K.eq table.now k ≡ true → IsSome (task_at K.eq table.now k) }
+    ensures distinct { AreDistinct (keys_of table.now) }
+    ensures numbered { (k d : K) → list_any (K.eq d) (waits_at K.eq table.now k) ≡ true → key_at table.now (number_of K.eq table.now d) ≡ Some d }
 {
     let _ = &table.places;
 }

@@ -28,7 +28,7 @@ loop-key-preserved g c =
     let m = popped c.loop-key.candidates.items c.pop.new.self.items c.pop.result c.in-Some.key c.pop.ensures.items c.in-Some.is in
     let l = subst (λ r. IsListed eq (shares_of c.take_idle.new.places.entries) (map arc_value c.pop.new.self.items) r) (sym c.pop.ensures.capacity)
     (c.take_idle.ensures.listed (map arc_value c.pop.new.self.items) (vec_capacity c.loop-key.candidates) (subst (λ cs. IsListed eq (shares_of c.loop-key.places.entries) cs (vec_capacity c.loop-key.candidates)) m c.loop-key.invariant.listed)) in
-    record { listed = l; kept = kept_on eq (shares_of c.args.places.now.entries) (shares_of c.loop-key.places.entries) (shares_of c.take_idle.new.places.entries) c.loop-key.invariant.kept c.in_default-take_idle.ensures.none }
+    record { linked = c.take_idle.ensures.linked; listed = l; kept = kept_on eq (shares_of c.args.places.now.entries) (shares_of c.loop-key.places.entries) (shares_of c.take_idle.new.places.entries) c.loop-key.invariant.kept c.in_default-take_idle.ensures.none }
 
 pub returns-clause-none : goal.returns-clause-none
 returns-clause-none g c =

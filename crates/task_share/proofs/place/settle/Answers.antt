@@ -28,6 +28,8 @@ returns-in_default g c =
       place = ap (λ n. record p { name = option_map arc_value n }) c.take.ensures.after ∙ ap (λ b. record p { name = cond b None p.name }) (sym idle);
       candidates = sym (append-nil old) ∙ ap (λ o. old ++ option_to_list o) e;
       room = refl;
+      askers = refl;
+      waits = refl;
     }
 
 pub returns-else-is_unasked : goal.returns-else-is_unasked
@@ -39,4 +41,6 @@ returns-else-is_unasked g c =
       place = ap (λ b. record p { name = cond b None p.name }) (sym busy);
       candidates = sym (append-nil old) ∙ ap (λ b. old ++ option_to_list (cond b p.name None)) (sym busy);
       room = refl;
+      askers = refl;
+      waits = refl;
     }

@@ -1,50 +1,62 @@
-use Rattle.std.proofs.Common.{◌≡◌, ◌<◌, ◌⊎◌, true, cond, Some, None, refl, sym, ap, ◌∙◌, subst, arith}
-use Rattle.std.specs.Prelude.{IsSome}
-use Rattle.std.specs.Arc.{arc_value, arc_with_value}
-use Rattle.std.specs.Map.{lookup}
+use Rattle.std.proofs.Common.{◌≡◌, ◌<◌, ◌⊎◌, ◌++◌, ◌∷◌, [], true, false, cond, length, map, is_some, nat_eq, Option, Some, None, ℕ, refl, sym, ap, ◌∙◌, subst, arith, append-nil, slice_get}
+use Rattle.std.specs.Prelude.{IsSome, IfSome, IfNone}
+use Rattle.std.specs.Arc.{arc_value}
 use Rattle.std.specs.List.{list_any}
-use Rattle.std.specs.HashSet.{spare}
-use Rattle.std.specs.Option.{option_map}
-use Rattle.std.specs.Option.{option_copied_mut}
-use Rattle.task_share.specs.Seen.{Share, list_for, number_for}
-use Rattle.task_share.specs.Listed.{share_of}
+use Rattle.std.specs.Map.{lookup, values_of}
+use Rattle.std.specs.Option.{option_to_list}
+use Rattle.std.specs.HashMap.{spare as map_spare}
+use Rattle.std.specs.Vec.{vec_capacity}
+use Rattle.std.proofs.lemmas.Option.{none-some, same_Some}
+use Rattle.indexmap.specs.IndexMap.{set_value_at}
+use Rattle.task_share.specs.Asked.{By, Tasked}
+use Rattle.task_share.specs.Seen.{Share, takes_task, room_in, has_by, is_for, list_for, number_for}
+use Rattle.task_share.specs.Listed.{share_of, shares_of, names_of, AreNumbered, IsListed, IsChangedAt}
 use Rattle.task_share.specs.declared.place.Place.{Place}
-use Rattle.task_share.proofs.PlaceLemmas.{lookup_shares, IsWritten, changed_none, changed_written, joined_wait, list_any_values, kept_listed, kept_none, inserted}
+use Rattle.task_share.proofs.PlaceLemmas.{written_listed, has_room, left_task, left_wait, joined_task, joined_wait, same_asks, fewer_count, more_count, fewer_by_one, popped_fewer, settled_takes, runs_at, kept_listed, inserted_at, with_room, asked_busy, ended_busy, if_some, if_none, any_last}
+use Rattle.task_share.proofs.NumberLemmas.{entry_of_value, has_at, written_at, lookup_at, changed_at, numbered_on, same_number, any_numbered, any_on, share_at, key_named}
+use Rattle.task_share.proofs.IdleLemmas.{popped_value}
+use Rattle.lists.proofs.Members.{none_left, has_end, has_left}
 use Rattle.task_share.proofs.places.add_wait.Goals as goal
-
-pub returns-in_default-clause-listed : goal.returns-in_default-clause-listed
-returns-in_default-clause-listed g c = kept_none g.K.PartialEq.eq c.requires.equality c.args.places.now.entries c.get_mut.follows.lender-at-none.entries (ap (λ m. m.entries) c.get_mut.follows.holds-at-none)
-
-pub returns-in_default-clause-changed : goal.returns-in_default-clause-changed
-returns-in_default-clause-changed g c =
-    let eq = g.K.PartialEq.eq in
-    let key = c.args.key.now in
-    let e : lookup (λ a. eq (arc_value key) (arc_value a)) c.args.places.now.entries ≡ None = sym c.get_mut.ensures.value ∙ ap option_copied_mut c.in_default.is in
-    changed_none eq c.requires.equality c.args.places.now.entries c.get_mut.follows.lender-at-none.entries (arc_value key) _ (ap (λ m. m.entries) c.get_mut.follows.holds-at-none) e
 
 pub returns-clause-listed : goal.returns-clause-listed
 returns-clause-listed g c =
     let eq = g.K.PartialEq.eq in
-    let key = c.args.key.now in
+    let law = c.requires.equality in
+    let es = c.args.places.now.entries in
     let h = c.in-Some.place.now in
     let w : Place g.row.K.Denot g.row.T.Denot = record { task = h.task; live = h.live; promises = h.promises; askers = h.askers; waits = c.insert.new.self; name = h.name } in
-    let known : lookup (λ a. eq (arc_value key) (arc_value a)) c.args.places.now.entries ≡ Some h = sym c.get_mut.ensures.value ∙ ap option_copied_mut c.in-Some.is in
-    let o = c.get_mut.follows.holds w in
-    let u = o.3 (subst IsSome (sym known) refl) in
-    let i : IsWritten eq key c.args.places.now.entries (c.get_mut.follows.lender w).entries h w = record { known = known; set = o.0; here = u.1; others = u.2 } in
-    kept_listed eq c.requires.equality key c.args.places.now.entries (c.get_mut.follows.lender w).entries h w i refl (λ e. e) (λ r. r)
+    let e = entry_of_value es c.args.at h c.in-Some.ensures.value in
+    let i = written_at eq law es (set_value_at es c.args.at w) c.args.at e.0 h w c.requires.linked.distinct e.1 refl in
+    let names = names_of es in
+    let same = same_number eq law es c.requires.linked.distinct in
+    let before = c.requires.linked.waits (e.0, h) (has_at es c.args.at (e.0, h) e.1) in
+    let named = key_named eq law es c.args.at e.0 h e.1 in
+    let found = share_at eq law es c.args.at e.0 h (arc_value e.0) c.requires.linked.distinct e.1 named in
+    let b : (is_some (lookup (nat_eq c.args.number) h.waits.entries) ≡ true) ⊎ (0 < map_spare h.waits) = subst (λ t. (t ≡ true) ⊎ (0 < map_spare h.waits)) (any_numbered eq law names same h.waits.entries c.args.number (arc_value c.args.asked) before c.requires.named)
+    (with_room (takes_task (share_of h)) _ (map_spare h.waits) (subst (λ o. (list_any (eq (arc_value c.args.asked)) (list_for (λ (p : Share g.row.K.Denot g.row.T.Denot). p.waits) o) ≡ true) ⊎ (0 < number_for (room_in (λ (p : Share g.row.K.Denot g.row.T.Denot). p.wait_room)) o)) found (c.requires.room (arc_value e.0) named))) in
+    let d = inserted_at c.insert.result (lookup (nat_eq c.args.number) h.waits.entries) (map_spare h.waits) _ c.insert.ensures.updates c.insert.ensures.absent c.insert.ensures.succeeds b in
+    let after = numbered_on names h.waits.entries c.insert.new.self.entries c.args.number (Some c.args.asked) before c.insert.ensures.unique (λ m. d.0 m) (λ a z. c.requires.named ∙ ap (λ x. Some (arc_value x)) (same_Some c.args.asked a z)) in
+    let any = any_on eq law names same h.waits.entries c.insert.new.self.entries c.args.number (arc_value c.args.asked) (Some c.args.asked) before after c.requires.named (λ m. d.0 m) in
+    kept_listed eq law e.0 es (set_value_at es c.args.at w) h w i refl refl (λ z. z) (λ r. r)
 
 pub returns-clause-changed : goal.returns-clause-changed
 returns-clause-changed g c =
     let eq = g.K.PartialEq.eq in
-    let key = c.args.key.now in
+    let law = c.requires.equality in
+    let es = c.args.places.now.entries in
     let h = c.in-Some.place.now in
     let w : Place g.row.K.Denot g.row.T.Denot = record { task = h.task; live = h.live; promises = h.promises; askers = h.askers; waits = c.insert.new.self; name = h.name } in
-    let known : lookup (λ a. eq (arc_value key) (arc_value a)) c.args.places.now.entries ≡ Some h = sym c.get_mut.ensures.value ∙ ap option_copied_mut c.in-Some.is in
-    let o = c.get_mut.follows.holds w in
-    let u = o.3 (subst IsSome (sym known) refl) in
-    let i : IsWritten eq key c.args.places.now.entries (c.get_mut.follows.lender w).entries h w = record { known = known; set = o.0; here = u.1; others = u.2 } in
-    let found = lookup_shares (eq (arc_value key)) c.args.places.now.entries ∙ ap (option_map share_of) known in
-    let b : (list_any (λ x. eq (arc_value c.args.asked) (arc_value x)) h.waits.keys ≡ true) ⊎ (0 < spare h.waits) = subst (λ t. (t ≡ true) ⊎ (0 < spare h.waits)) (list_any_values (eq (arc_value c.args.asked)) h.waits.keys) (subst (λ o. (list_any (eq (arc_value c.args.asked)) (list_for (λ (p : Share g.row.K.Denot g.row.T.Denot). p.waits) o) ≡ true) ⊎ (0 < number_for (λ (p : Share g.row.K.Denot g.row.T.Denot). p.wait_room) o)) found c.requires.room) in
-    let d = inserted c.insert.result (list_any (λ x. eq (arc_value c.args.asked) (arc_value x)) h.waits.keys) (spare h.waits) _ c.insert.ensures.updates c.insert.ensures.absent c.insert.ensures.succeeds b in
-    changed_written eq c.requires.equality key c.args.places.now.entries (c.get_mut.follows.lender w).entries h w _ i (record { task = refl; live = refl; asks = λ a. refl; waits = joined_wait eq (share_of h) (share_of w) (arc_value c.args.asked) (λ q. list_any_values (eq q) w.waits.keys ∙ (d.0 (arc_with_value c.args.asked q) ∙ ap (cond (eq (arc_value c.args.asked) q) true) (sym (list_any_values (eq q) h.waits.keys)))) }, record { promises = omega arith; askers = omega arith; waits = omega (arith, c.insert.ensures.spare); count = omega arith })
+    let e = entry_of_value es c.args.at h c.in-Some.ensures.value in
+    let i = written_at eq law es (set_value_at es c.args.at w) c.args.at e.0 h w c.requires.linked.distinct e.1 refl in
+    let names = names_of es in
+    let same = same_number eq law es c.requires.linked.distinct in
+    let before = c.requires.linked.waits (e.0, h) (has_at es c.args.at (e.0, h) e.1) in
+    let named = key_named eq law es c.args.at e.0 h e.1 in
+    let found = share_at eq law es c.args.at e.0 h (arc_value e.0) c.requires.linked.distinct e.1 named in
+    let b : (is_some (lookup (nat_eq c.args.number) h.waits.entries) ≡ true) ⊎ (0 < map_spare h.waits) = subst (λ t. (t ≡ true) ⊎ (0 < map_spare h.waits)) (any_numbered eq law names same h.waits.entries c.args.number (arc_value c.args.asked) before c.requires.named)
+    (with_room (takes_task (share_of h)) _ (map_spare h.waits) (subst (λ o. (list_any (eq (arc_value c.args.asked)) (list_for (λ (p : Share g.row.K.Denot g.row.T.Denot). p.waits) o) ≡ true) ⊎ (0 < number_for (room_in (λ (p : Share g.row.K.Denot g.row.T.Denot). p.wait_room)) o)) found (c.requires.room (arc_value e.0) named))) in
+    let d = inserted_at c.insert.result (lookup (nat_eq c.args.number) h.waits.entries) (map_spare h.waits) _ c.insert.ensures.updates c.insert.ensures.absent c.insert.ensures.succeeds b in
+    let after = numbered_on names h.waits.entries c.insert.new.self.entries c.args.number (Some c.args.asked) before c.insert.ensures.unique (λ m. d.0 m) (λ a z. c.requires.named ∙ ap (λ x. Some (arc_value x)) (same_Some c.args.asked a z)) in
+    let any = any_on eq law names same h.waits.entries c.insert.new.self.entries c.args.number (arc_value c.args.asked) (Some c.args.asked) before after c.requires.named (λ m. d.0 m) in
+    changed_at eq law es (set_value_at es c.args.at w) c.args.at e.0 h w _ c.requires.linked e.1 refl (λ n. n) (λ _. after)
+    (record { task = refl; live = refl; asks = λ a. refl; waits = joined_wait eq (share_of h) (share_of w) (arc_value c.args.asked) any }, record { promises = omega arith; askers = omega arith; waits = omega (arith, c.insert.ensures.spare); count = omega arith; stays = λ t. t })

@@ -1,62 +1,65 @@
-use Rattle.std.proofs.Common.{◌≡◌, false, map, Some, None, refl, sym, ap, ◌∙◌, subst, arith}
-use Rattle.std.specs.Prelude.{IsSome}
+use Rattle.std.proofs.Common.{◌≡◌, ◌<◌, ◌⊎◌, ◌++◌, ◌∷◌, [], true, false, cond, length, map, is_some, nat_eq, Option, Some, None, ℕ, refl, sym, ap, ◌∙◌, subst, arith, append-nil, slice_get}
+use Rattle.std.specs.Prelude.{IsSome, IfSome, IfNone}
 use Rattle.std.specs.Arc.{arc_value}
-use Rattle.std.specs.Map.{lookup}
 use Rattle.std.specs.List.{list_any}
-use Rattle.std.specs.Option.{option_map}
-use Rattle.std.specs.Option.{option_copied_mut}
-use Rattle.task_share.specs.Seen.{Share, list_for}
-use Rattle.task_share.specs.Listed.{share_of}
+use Rattle.std.specs.Map.{lookup, values_of}
+use Rattle.std.specs.Option.{option_to_list}
+use Rattle.std.specs.HashMap.{spare as map_spare}
+use Rattle.std.specs.Vec.{vec_capacity}
+use Rattle.std.proofs.lemmas.Option.{none-some, same_Some}
+use Rattle.indexmap.specs.IndexMap.{set_value_at}
+use Rattle.task_share.specs.Asked.{By, Tasked}
+use Rattle.task_share.specs.Seen.{Share, takes_task, room_in, has_by, is_for, list_for, number_for}
+use Rattle.task_share.specs.Listed.{share_of, shares_of, names_of, AreNumbered, IsListed, IsChangedAt}
 use Rattle.task_share.specs.declared.place.Place.{Place}
-use Rattle.task_share.proofs.PlaceLemmas.{lookup_shares, IsWritten, changed_none, changed_written, kept_listed, kept_none, ended_busy}
+use Rattle.task_share.proofs.PlaceLemmas.{written_listed, has_room, left_task, left_wait, joined_task, joined_wait, same_asks, fewer_count, more_count, fewer_by_one, popped_fewer, settled_takes, runs_at, kept_listed, inserted_at, with_room, asked_busy, ended_busy, if_some, if_none, any_last}
+use Rattle.task_share.proofs.NumberLemmas.{entry_of_value, has_at, written_at, lookup_at, changed_at, numbered_on, same_number, any_numbered, any_on, share_at, key_named, names_at_set}
+use Rattle.task_share.proofs.IdleLemmas.{popped_value}
+use Rattle.lists.specs.Lists.{Has}
+use Rattle.lists.proofs.Members.{none_left, has_end, has_left}
 use Rattle.task_share.proofs.places.end_task.Goals as goal
-
-pub returns-in_default-clause-listed : goal.returns-in_default-clause-listed
-returns-in_default-clause-listed g c = kept_none g.K.PartialEq.eq c.requires c.args.places.now.entries c.get_mut.follows.lender-at-none.entries (ap (λ m. m.entries) c.get_mut.follows.holds-at-none)
-
-pub returns-in_default-clause-waits : goal.returns-in_default-clause-waits
-returns-in_default-clause-waits g c = ap (map arc_value) c.new-none.ensures.empty ∙ sym (ap (list_for (λ (p : Share g.row.K.Denot g.row.T.Denot). p.waits)) (lookup_shares (g.K.PartialEq.eq (arc_value c.args.key.now)) c.args.places.now.entries ∙ ap (option_map share_of) (sym c.get_mut.ensures.value ∙ ap option_copied_mut c.in_default.is)))
-
-pub returns-in_default-clause-changed : goal.returns-in_default-clause-changed
-returns-in_default-clause-changed g c =
-    let eq = g.K.PartialEq.eq in
-    let key = c.args.key.now in
-    let e : lookup (λ a. eq (arc_value key) (arc_value a)) c.args.places.now.entries ≡ None = sym c.get_mut.ensures.value ∙ ap option_copied_mut c.in_default.is in
-    changed_none eq c.requires c.args.places.now.entries c.get_mut.follows.lender-at-none.entries (arc_value key) _ (ap (λ m. m.entries) c.get_mut.follows.holds-at-none) e
 
 pub returns-clause-listed : goal.returns-clause-listed
 returns-clause-listed g c =
     let eq = g.K.PartialEq.eq in
-    let key = c.args.key.now in
+    let law = c.requires.equality in
+    let es = c.args.places.now.entries in
     let h = c.in-Some.place.now in
     let w : Place g.row.K.Denot g.row.T.Denot = record { task = h.task; live = false; promises = h.promises; askers = h.askers; waits = c.replace.new.dest; name = h.name } in
-    let known : lookup (λ a. eq (arc_value key) (arc_value a)) c.args.places.now.entries ≡ Some h = sym c.get_mut.ensures.value ∙ ap option_copied_mut c.in-Some.is in
-    let o = c.get_mut.follows.holds w in
-    let u = o.3 (subst IsSome (sym known) refl) in
-    let i : IsWritten eq key c.args.places.now.entries (c.get_mut.follows.lender w).entries h w = record { known = known; set = o.0; here = u.1; others = u.2 } in
-    kept_listed eq c.requires key c.args.places.now.entries (c.get_mut.follows.lender w).entries h w i refl (λ e. absurd (ended_busy eq c.requires (share_of w) refl e)) (λ r e. cc)
+    let e = entry_of_value es c.args.at h c.in-Some.ensures.value in
+    let i = written_at eq law es (set_value_at es c.args.at w) c.args.at e.0 h w c.requires.linked.distinct e.1 refl in
+    kept_listed eq law e.0 es (set_value_at es c.args.at w) h w i refl refl (λ b. absurd (ended_busy eq law (share_of w) refl b)) (λ r b. cc)
+
+pub returns-clause-numbered : goal.returns-clause-numbered
+returns-clause-numbered g c =
+    let eq = g.K.PartialEq.eq in
+    let es = c.args.places.now.entries in
+    let h = c.in-Some.place.now in
+    let e = entry_of_value es c.args.at h c.in-Some.ensures.value in
+    let w : Place g.row.K.Denot g.row.T.Denot = record { task = h.task; live = false; promises = h.promises; askers = h.askers; waits = c.replace.new.dest; name = h.name } in
+    let l = c.requires.linked.waits (e.0, h) (has_at es c.args.at (e.0, h) e.1) in
+    subst (λ ns. AreNumbered ns c.replace.result.entries) (sym (names_at_set es c.args.at w)) (subst (λ m. AreNumbered (names_of es) m.entries) (sym c.replace.ensures.value) l)
 
 pub returns-clause-waits : goal.returns-clause-waits
-returns-clause-waits g c =
+returns-clause-waits g c = λ k named.
     let eq = g.K.PartialEq.eq in
-    let key = c.args.key.now in
+    let law = c.requires.equality in
+    let es = c.args.places.now.entries in
     let h = c.in-Some.place.now in
     let w : Place g.row.K.Denot g.row.T.Denot = record { task = h.task; live = false; promises = h.promises; askers = h.askers; waits = c.replace.new.dest; name = h.name } in
-    let known : lookup (λ a. eq (arc_value key) (arc_value a)) c.args.places.now.entries ≡ Some h = sym c.get_mut.ensures.value ∙ ap option_copied_mut c.in-Some.is in
-    let o = c.get_mut.follows.holds w in
-    let u = o.3 (subst IsSome (sym known) refl) in
-    let i : IsWritten eq key c.args.places.now.entries (c.get_mut.follows.lender w).entries h w = record { known = known; set = o.0; here = u.1; others = u.2 } in
-    let found = lookup_shares (eq (arc_value key)) c.args.places.now.entries ∙ ap (option_map share_of) known in
-    ap (λ s. map arc_value s.keys) c.replace.ensures.value ∙ sym (ap (list_for (λ (p : Share g.row.K.Denot g.row.T.Denot). p.waits)) found)
+    let e = entry_of_value es c.args.at h c.in-Some.ensures.value in
+    let i = written_at eq law es (set_value_at es c.args.at w) c.args.at e.0 h w c.requires.linked.distinct e.1 refl in
+    ap (λ m. map arc_value (values_of m.entries)) c.replace.ensures.value ∙ sym (ap (list_for (λ (p : Share g.row.K.Denot g.row.T.Denot). p.waits)) (share_at eq law es c.args.at e.0 h k c.requires.linked.distinct e.1 named))
 
 pub returns-clause-changed : goal.returns-clause-changed
 returns-clause-changed g c =
     let eq = g.K.PartialEq.eq in
-    let key = c.args.key.now in
+    let law = c.requires.equality in
+    let es = c.args.places.now.entries in
     let h = c.in-Some.place.now in
     let w : Place g.row.K.Denot g.row.T.Denot = record { task = h.task; live = false; promises = h.promises; askers = h.askers; waits = c.replace.new.dest; name = h.name } in
-    let known : lookup (λ a. eq (arc_value key) (arc_value a)) c.args.places.now.entries ≡ Some h = sym c.get_mut.ensures.value ∙ ap option_copied_mut c.in-Some.is in
-    let o = c.get_mut.follows.holds w in
-    let u = o.3 (subst IsSome (sym known) refl) in
-    let i : IsWritten eq key c.args.places.now.entries (c.get_mut.follows.lender w).entries h w = record { known = known; set = o.0; here = u.1; others = u.2 } in
-    changed_written eq c.requires key c.args.places.now.entries (c.get_mut.follows.lender w).entries h w _ i (record { task = refl; live = refl; asks = λ a. refl; waits = λ d. ap (λ s. list_any (eq d) (map arc_value s.keys)) c.replace.ensures.after ∙ ap (λ ks. list_any (eq d) (map arc_value ks)) c.new-none.ensures.empty }, record { promises = omega arith; askers = omega arith; waits = omega arith; count = omega arith })
+    let e = entry_of_value es c.args.at h c.in-Some.ensures.value in
+    let i = written_at eq law es (set_value_at es c.args.at w) c.args.at e.0 h w c.requires.linked.distinct e.1 refl in
+    let none : c.replace.new.dest.entries ≡ [] = ap (λ m. m.entries) c.replace.ensures.after ∙ c.new-none.ensures.empty in
+    changed_at eq law es (set_value_at es c.args.at w) c.args.at e.0 h w _ c.requires.linked e.1 refl (λ n. n) (λ n x y. absurd (subst (λ xs. Has xs x) none y))
+    (record { task = refl; live = refl; asks = λ a. refl; waits = λ d. ap (λ xs. list_any (eq d) (map arc_value (values_of xs))) none }, record { promises = omega arith; askers = omega arith; waits = omega arith; count = omega arith; stays = λ t. t })

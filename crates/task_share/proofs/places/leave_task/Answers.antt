@@ -1,48 +1,76 @@
-use Rattle.std.proofs.Common.{◌≡◌, false, cond, map, Some, None, refl, sym, ap, ◌∙◌, subst, arith}
-use Rattle.std.specs.Prelude.{IsSome}
-use Rattle.std.specs.Arc.{arc_value, arc_with_value}
-use Rattle.std.specs.Map.{lookup}
-use Rattle.std.specs.Option.{option_copied_mut}
+use Rattle.std.proofs.Common.{◌≡◌, ◌<◌, ◌⊎◌, ◌++◌, ◌∷◌, [], true, false, cond, length, map, is_some, nat_eq, Option, Some, None, ℕ, refl, sym, ap, ◌∙◌, subst, arith, append-nil, slice_get}
+use Rattle.std.specs.Prelude.{IsSome, IfSome, IfNone}
+use Rattle.std.specs.Arc.{arc_value}
+use Rattle.std.specs.List.{list_any}
+use Rattle.std.specs.Map.{lookup, values_of}
+use Rattle.std.specs.Option.{option_to_list}
+use Rattle.std.specs.HashMap.{spare as map_spare}
 use Rattle.std.specs.Vec.{vec_capacity}
-use Rattle.task_share.specs.Listed.{share_of, shares_of, IsListed}
+use Rattle.std.proofs.lemmas.Option.{none-some, same_Some}
+use Rattle.indexmap.specs.IndexMap.{set_value_at}
+use Rattle.task_share.specs.Asked.{By, Tasked}
+use Rattle.task_share.specs.Seen.{Share, takes_task, room_in, has_by, is_for, list_for, number_for}
+use Rattle.task_share.specs.Listed.{share_of, shares_of, names_of, AreNumbered, IsListed, IsChangedAt}
 use Rattle.task_share.specs.declared.place.Place.{Place}
-use Rattle.task_share.proofs.PlaceLemmas.{fewer_count, IsWritten, changed_none, changed_written, written_listed, has_room, left_task, list_any_values}
+use Rattle.task_share.proofs.PlaceLemmas.{written_listed, has_room, left_task, left_wait, joined_task, joined_wait, same_asks, fewer_count, more_count, fewer_by_one, popped_fewer, settled_takes, runs_at, kept_listed, inserted_at, with_room, asked_busy, ended_busy, if_some, if_none, any_last}
+use Rattle.task_share.proofs.NumberLemmas.{entry_of_value, has_at, written_at, lookup_at, changed_at, numbered_on, same_number, any_numbered, any_on, share_at, key_named, linked_set, names_at_set}
+use Rattle.task_share.proofs.IdleLemmas.{popped_value}
+use Rattle.lists.proofs.Members.{none_left, has_end, has_left}
 use Rattle.task_share.proofs.places.leave_task.Goals as goal
 
-pub returns-in_default-clause-changed : goal.returns-in_default-clause-changed
-returns-in_default-clause-changed g c =
-    let eq = g.K.PartialEq.eq in
-    let key = c.args.key.now in
-    let e : lookup (λ a. eq (arc_value key) (arc_value a)) c.args.places.now.entries ≡ None = sym c.get_mut.ensures.value ∙ ap option_copied_mut c.in_default.is in
-    changed_none eq c.requires.equality c.args.places.now.entries c.get_mut.follows.lender-at-none.entries (arc_value key) _ (ap (λ m. m.entries) c.get_mut.follows.holds-at-none) e
-
 pub settle-requires : goal.settle-requires
-settle-requires g c = λ e. has_room g.K.PartialEq.eq c.requires.equality c.args.key.now c.args.places.now.entries c.args.candidates.now.items (vec_capacity c.args.candidates.now) c.in-Some.place.now c.requires.listed (sym c.get_mut.ensures.value ∙ ap option_copied_mut c.in-Some.is) e
+settle-requires g c = λ n.
+    let eq = g.K.PartialEq.eq in
+    let es = c.args.places.now.entries in
+    let e = entry_of_value es c.args.at c.in-Some.place.now c.in-Some.ensures.value in
+    has_room eq c.requires.equality e.0 es c.args.candidates.now.items (vec_capacity c.args.candidates.now) c.in-Some.place.now c.requires.listed (lookup_at eq c.requires.equality es c.args.at (e.0, c.in-Some.place.now) c.requires.linked.distinct e.1) n
 
 pub returns-clause-listed : goal.returns-clause-listed
 returns-clause-listed g c =
     let eq = g.K.PartialEq.eq in
-    let key = c.args.key.now in
+    let law = c.requires.equality in
+    let es = c.args.places.now.entries in
     let h = c.in-Some.place.now in
     let w : Place g.row.K.Denot g.row.T.Denot = c.settle.new.place in
-    let known : lookup (λ a. eq (arc_value key) (arc_value a)) c.args.places.now.entries ≡ Some h = sym c.get_mut.ensures.value ∙ ap option_copied_mut c.in-Some.is in
-    let o = c.get_mut.follows.holds w in
-    let u = o.3 (subst IsSome (sym known) refl) in
-    let i : IsWritten eq key c.args.places.now.entries (c.get_mut.follows.lender w).entries h w = record { known = known; set = o.0; here = u.1; others = u.2 } in
+    let e = entry_of_value es c.args.at h c.in-Some.ensures.value in
+    let i = written_at eq law es (set_value_at es c.args.at w) c.args.at e.0 h w c.requires.linked.distinct e.1 refl in
     let mid : Place g.row.K.Denot g.row.T.Denot = record { task = h.task; live = h.live; promises = h.promises; askers = c.swap_remove.new.self; waits = h.waits; name = h.name } in
-    subst (IsListed eq (shares_of (c.get_mut.follows.lender w).entries) (map arc_value c.settle.new.candidates.items)) (sym c.settle.ensures.room)
-    (written_listed eq c.requires.equality key c.args.places.now.entries (c.get_mut.follows.lender w).entries c.args.candidates.now.items c.settle.new.candidates.items (vec_capacity c.args.candidates.now) h w (share_of mid) i c.requires.listed refl (λ r. r) c.settle.ensures.place c.settle.ensures.candidates)
+    subst (IsListed eq (shares_of (set_value_at es c.args.at w)) (map arc_value c.settle.new.candidates.items)) (sym c.settle.ensures.room)
+    (written_listed eq law e.0 es (set_value_at es c.args.at w) c.args.candidates.now.items c.settle.new.candidates.items (vec_capacity c.args.candidates.now) h w (share_of mid) i c.requires.listed refl (λ t. t) (λ _ t. t) (λ r. r) c.settle.ensures.place c.settle.ensures.candidates)
 
 pub returns-clause-changed : goal.returns-clause-changed
-returns-clause-changed g c =
+returns-clause-changed g c = λ j named.
     let eq = g.K.PartialEq.eq in
-    let key = c.args.key.now in
+    let law = c.requires.equality in
+    let es = c.args.places.now.entries in
     let h = c.in-Some.place.now in
     let w : Place g.row.K.Denot g.row.T.Denot = c.settle.new.place in
-    let known : lookup (λ a. eq (arc_value key) (arc_value a)) c.args.places.now.entries ≡ Some h = sym c.get_mut.ensures.value ∙ ap option_copied_mut c.in-Some.is in
-    let o = c.get_mut.follows.holds w in
-    let u = o.3 (subst IsSome (sym known) refl) in
-    let i : IsWritten eq key c.args.places.now.entries (c.get_mut.follows.lender w).entries h w = record { known = known; set = o.0; here = u.1; others = u.2 } in
+    let e = entry_of_value es c.args.at h c.in-Some.ensures.value in
+    let i = written_at eq law es (set_value_at es c.args.at w) c.args.at e.0 h w c.requires.linked.distinct e.1 refl in
     let mid : Place g.row.K.Denot g.row.T.Denot = record { task = h.task; live = h.live; promises = h.promises; askers = c.swap_remove.new.self; waits = h.waits; name = h.name } in
-    changed_written eq c.requires.equality key c.args.places.now.entries (c.get_mut.follows.lender w).entries h w _ i
-    (rw c.settle.ensures.place (record { task = refl; live = refl; asks = left_task eq (share_of h) (share_of mid) (arc_value c.args.asker.now) refl (λ q. list_any_values (eq q) mid.askers.keys ∙ (c.swap_remove.ensures.updates.0 (arc_with_value c.args.asker.now q) ∙ ap (cond (eq (arc_value c.args.asker.now) q) false) (sym (list_any_values (eq q) h.askers.keys)))); waits = λ d. refl }, record { promises = omega arith; askers = omega (arith, c.swap_remove.ensures.room.0); waits = omega arith; count = fewer_count c.swap_remove.result h.askers.keys c.swap_remove.new.self.keys c.swap_remove.ensures.len }))
+    let names = names_of es in
+    let before = c.requires.linked.askers (e.0, h) (has_at es c.args.at (e.0, h) e.1) in
+    let after = numbered_on names h.askers.entries c.swap_remove.new.self.entries c.args.asker None before c.swap_remove.ensures.unique (λ m. c.swap_remove.ensures.updates.0 m) (λ a z. absurd (none-some a z)) in
+    let same = same_number eq law es c.requires.linked.distinct in
+    changed_at eq law es (set_value_at es c.args.at w) c.args.at e.0 h w _ c.requires.linked e.1 refl (λ _. subst (λ m. AreNumbered names m.entries) (sym c.settle.ensures.askers) after) (λ n. subst (λ m. AreNumbered (names_of es) m.entries) (sym c.settle.ensures.waits) n)
+    (rw c.settle.ensures.place (record { task = refl; live = refl; asks = left_task eq (share_of h) (share_of mid) j refl (any_on eq law names same h.askers.entries c.swap_remove.new.self.entries c.args.asker j None before after named (λ m. c.swap_remove.ensures.updates.0 m)); waits = λ d. refl }, record { promises = omega arith; askers = omega (arith, c.swap_remove.ensures.room.0); waits = omega arith; count = fewer_count (is_some c.swap_remove.result) h.askers.entries c.swap_remove.new.self.entries c.swap_remove.ensures.len; stays = settled_takes (share_of mid) (runs_at eq law e.0 es (map arc_value c.args.candidates.now.items) (vec_capacity c.args.candidates.now) h c.requires.listed i.known) }))
+
+pub returns-clause-linked : goal.returns-clause-linked
+returns-clause-linked g c =
+    let eq = g.K.PartialEq.eq in
+    let law = c.requires.equality in
+    let es = c.args.places.now.entries in
+    let h = c.in-Some.place.now in
+    let w : Place g.row.K.Denot g.row.T.Denot = c.settle.new.place in
+    let e = entry_of_value es c.args.at h c.in-Some.ensures.value in
+    let i = written_at eq law es (set_value_at es c.args.at w) c.args.at e.0 h w c.requires.linked.distinct e.1 refl in
+    let mid : Place g.row.K.Denot g.row.T.Denot = record { task = h.task; live = h.live; promises = h.promises; askers = c.swap_remove.new.self; waits = h.waits; name = h.name } in
+    let names = names_of es in
+    let before = c.requires.linked.askers (e.0, h) (has_at es c.args.at (e.0, h) e.1) in
+    let after = numbered_on names h.askers.entries c.swap_remove.new.self.entries c.args.asker None before c.swap_remove.ensures.unique (λ m. c.swap_remove.ensures.updates.0 m) (λ a z. absurd (none-some a z)) in
+    let same = same_number eq law es c.requires.linked.distinct in
+    linked_set eq (λ b. eq (arc_value e.0) (arc_value b)) es (set_value_at es c.args.at w) h w c.requires.linked i.set i.known (λ _. subst (λ m. AreNumbered names m.entries) (sym c.settle.ensures.askers) after) (λ n. subst (λ m. AreNumbered (names_of es) m.entries) (sym c.settle.ensures.waits) n)
+
+pub returns-clause-names : goal.returns-clause-names
+returns-clause-names g c =
+    names_at_set c.args.places.now.entries c.args.at c.settle.new.place

@@ -1,93 +1,125 @@
-use Rattle.std.proofs.Common.{◌≡◌, ◌++◌, append-nil, false, cond, [], map, Some, None, is_some, refl, sym, ap, ◌∙◌, subst, arith}
-use Rattle.std.specs.Prelude.{IsSome}
-use Rattle.std.specs.Arc.{arc_value, arc_with_value}
-use Rattle.std.specs.Map.{lookup}
+use Rattle.std.proofs.Common.{◌≡◌, ◌<◌, ◌⊎◌, ◌++◌, ◌∷◌, [], true, false, cond, length, map, is_some, nat_eq, Option, Some, None, ℕ, refl, sym, ap, ◌∙◌, subst, arith, append-nil, slice_get}
+use Rattle.std.specs.Prelude.{IsSome, IfSome, IfNone}
+use Rattle.std.specs.Arc.{arc_value}
 use Rattle.std.specs.List.{list_any}
-use Rattle.std.specs.Option.{option_map, option_to_list}
-use Rattle.std.specs.Option.{option_copied_mut}
+use Rattle.std.specs.Map.{lookup, values_of}
+use Rattle.std.specs.Option.{option_to_list}
+use Rattle.std.specs.HashMap.{spare as map_spare}
 use Rattle.std.specs.Vec.{vec_capacity}
-use Rattle.task_share.specs.Asked.{Tasked}
-use Rattle.task_share.specs.Seen.{Share, has_by, is_for}
-use Rattle.task_share.specs.Listed.{share_of, shares_of, IsListed}
+use Rattle.std.proofs.lemmas.Option.{none-some, same_Some}
+use Rattle.indexmap.specs.IndexMap.{set_value_at}
+use Rattle.task_share.specs.Asked.{By, Tasked}
+use Rattle.task_share.specs.Seen.{Share, takes_task, room_in, has_by, is_for, list_for, number_for}
+use Rattle.task_share.specs.Listed.{share_of, shares_of, names_of, AreNumbered, IsListed, IsChangedAt}
 use Rattle.task_share.specs.declared.place.Place.{Place}
-use Rattle.task_share.proofs.PlaceLemmas.{lookup_shares, popped_fewer, fewer_by_one, fewer_count, same_asks, if_some, if_none, any_last, IsWritten, changed_none, changed_written, written_listed, has_room, left_task, list_any_values}
+use Rattle.task_share.proofs.PlaceLemmas.{written_listed, has_room, left_task, left_wait, joined_task, joined_wait, same_asks, fewer_count, more_count, fewer_by_one, popped_fewer, settled_takes, runs_at, kept_listed, inserted_at, with_room, asked_busy, ended_busy, if_some, if_none, any_last}
+use Rattle.task_share.proofs.NumberLemmas.{entry_of_value, has_at, written_at, lookup_at, changed_at, numbered_on, same_number, any_numbered, any_on, share_at, key_named}
+use Rattle.task_share.proofs.IdleLemmas.{popped_value}
+use Rattle.lists.specs.Lists.{Has}
+use Rattle.lists.proofs.Members.{none_left, has_end, has_left}
 use Rattle.task_share.proofs.places.pop_asker.Goals as goal
-use Rattle.lists.proofs.Members.{none_left}
-
-pub returns-in_default-clause-none : goal.returns-in_default-clause-none
-returns-in_default-clause-none g c =
-    let eq = g.K.PartialEq.eq in
-    let key = c.args.key.now in
-    let e : lookup (λ a. eq (arc_value key) (arc_value a)) c.args.places.now.entries ≡ None = sym c.get_mut.ensures.value ∙ ap option_copied_mut c.in_default.is in (
-      λ j. ap (is_for (λ (p : Share g.row.K.Denot g.row.T.Denot). has_by eq p (Tasked j))) (lookup_shares (eq (arc_value key)) c.args.places.now.entries ∙ ap (option_map share_of) e),
-      changed_none eq c.requires.equality c.args.places.now.entries c.get_mut.follows.lender-at-none.entries (arc_value key) _ (ap (λ m. m.entries) c.get_mut.follows.holds-at-none) e,
-    )
 
 pub settle-requires : goal.settle-requires
-settle-requires g c = λ e. has_room g.K.PartialEq.eq c.requires.equality c.args.key.now c.args.places.now.entries c.args.candidates.now.items (vec_capacity c.args.candidates.now) c.in-Some.place.now c.requires.listed (sym c.get_mut.ensures.value ∙ ap option_copied_mut c.in-Some.is) e
+settle-requires g c = λ n.
+    let eq = g.K.PartialEq.eq in
+    let es = c.args.places.now.entries in
+    let e = entry_of_value es c.args.at c.in-Some.place.now c.in-Some.ensures.value in
+    has_room eq c.requires.equality e.0 es c.args.candidates.now.items (vec_capacity c.args.candidates.now) c.in-Some.place.now c.requires.listed (lookup_at eq c.requires.equality es c.args.at (e.0, c.in-Some.place.now) c.requires.linked.distinct e.1) n
 
 pub returns-clause-listed : goal.returns-clause-listed
 returns-clause-listed g c =
     let eq = g.K.PartialEq.eq in
-    let key = c.args.key.now in
+    let law = c.requires.equality in
+    let es = c.args.places.now.entries in
     let h = c.in-Some.place.now in
     let w : Place g.row.K.Denot g.row.T.Denot = c.settle.new.place in
-    let known : lookup (λ a. eq (arc_value key) (arc_value a)) c.args.places.now.entries ≡ Some h = sym c.get_mut.ensures.value ∙ ap option_copied_mut c.in-Some.is in
-    let o = c.get_mut.follows.holds w in
-    let u = o.3 (subst IsSome (sym known) refl) in
-    let i : IsWritten eq key c.args.places.now.entries (c.get_mut.follows.lender w).entries h w = record { known = known; set = o.0; here = u.1; others = u.2 } in
+    let e = entry_of_value es c.args.at h c.in-Some.ensures.value in
+    let i = written_at eq law es (set_value_at es c.args.at w) c.args.at e.0 h w c.requires.linked.distinct e.1 refl in
     let mid : Place g.row.K.Denot g.row.T.Denot = record { task = h.task; live = h.live; promises = h.promises; askers = c.pop-asker.new.self; waits = h.waits; name = h.name } in
-    subst (IsListed eq (shares_of (c.get_mut.follows.lender w).entries) (map arc_value c.settle.new.candidates.items)) (sym c.settle.ensures.room)
-    (written_listed eq c.requires.equality key c.args.places.now.entries (c.get_mut.follows.lender w).entries c.args.candidates.now.items c.settle.new.candidates.items (vec_capacity c.args.candidates.now) h w (share_of mid) i c.requires.listed refl (λ r. r) c.settle.ensures.place c.settle.ensures.candidates)
+    subst (IsListed eq (shares_of (set_value_at es c.args.at w)) (map arc_value c.settle.new.candidates.items)) (sym c.settle.ensures.room)
+    (written_listed eq law e.0 es (set_value_at es c.args.at w) c.args.candidates.now.items c.settle.new.candidates.items (vec_capacity c.args.candidates.now) h w (share_of mid) i c.requires.listed refl (λ t. t) (λ _ t. t) (λ r. r) c.settle.ensures.place c.settle.ensures.candidates)
+
+pub returns-clause-named : goal.returns-clause-named
+returns-clause-named g c =
+    let eq = g.K.PartialEq.eq in
+    let law = c.requires.equality in
+    let es = c.args.places.now.entries in
+    let h = c.in-Some.place.now in
+    let w : Place g.row.K.Denot g.row.T.Denot = c.settle.new.place in
+    let e = entry_of_value es c.args.at h c.in-Some.ensures.value in
+    let i = written_at eq law es (set_value_at es c.args.at w) c.args.at e.0 h w c.requires.linked.distinct e.1 refl in
+    let mid : Place g.row.K.Denot g.row.T.Denot = record { task = h.task; live = h.live; promises = h.promises; askers = c.pop-asker.new.self; waits = h.waits; name = h.name } in
+    let before = c.requires.linked.askers (e.0, h) (has_at es c.args.at (e.0, h) e.1) in
+    if_some c.pop-asker.result (λ x z up. before x (subst (λ xs. Has xs x) (sym (c.pop-asker.ensures.entries ∙ ap (λ r. c.pop-asker.new.self.entries ++ option_to_list r) z)) (has_end c.pop-asker.new.self.entries x))) c.pop-asker.ensures.updates
+
+pub returns-clause-asked : goal.returns-clause-asked
+returns-clause-asked g c = λ k named.
+    let eq = g.K.PartialEq.eq in
+    let law = c.requires.equality in
+    let es = c.args.places.now.entries in
+    let h = c.in-Some.place.now in
+    let w : Place g.row.K.Denot g.row.T.Denot = c.settle.new.place in
+    let e = entry_of_value es c.args.at h c.in-Some.ensures.value in
+    let i = written_at eq law es (set_value_at es c.args.at w) c.args.at e.0 h w c.requires.linked.distinct e.1 refl in
+    let mid : Place g.row.K.Denot g.row.T.Denot = record { task = h.task; live = h.live; promises = h.promises; askers = c.pop-asker.new.self; waits = h.waits; name = h.name } in
+    if_some c.pop-asker.result (λ x z up. ap (is_for (λ (p : Share g.row.K.Denot g.row.T.Denot). has_by eq p (Tasked (arc_value x.1)))) (share_at eq law es c.args.at e.0 h k c.requires.linked.distinct e.1 named)
+    ∙ (ap (list_any (eq (arc_value x.1))) (popped_value h.askers.entries c.pop-asker.new.self.entries x (c.pop-asker.ensures.entries ∙ ap (λ r. c.pop-asker.new.self.entries ++ option_to_list r) z)) ∙ any_last (eq (arc_value x.1)) (map arc_value (values_of c.pop-asker.new.self.entries)) (arc_value x.1) (law.itself (arc_value x.1)))) c.pop-asker.ensures.updates
 
 pub returns-clause-some : goal.returns-clause-some
 returns-clause-some g c =
     let eq = g.K.PartialEq.eq in
-    let key = c.args.key.now in
+    let law = c.requires.equality in
+    let es = c.args.places.now.entries in
     let h = c.in-Some.place.now in
     let w : Place g.row.K.Denot g.row.T.Denot = c.settle.new.place in
-    let known : lookup (λ a. eq (arc_value key) (arc_value a)) c.args.places.now.entries ≡ Some h = sym c.get_mut.ensures.value ∙ ap option_copied_mut c.in-Some.is in
-    let o = c.get_mut.follows.holds w in
-    let u = o.3 (subst IsSome (sym known) refl) in
-    let i : IsWritten eq key c.args.places.now.entries (c.get_mut.follows.lender w).entries h w = record { known = known; set = o.0; here = u.1; others = u.2 } in
+    let e = entry_of_value es c.args.at h c.in-Some.ensures.value in
+    let i = written_at eq law es (set_value_at es c.args.at w) c.args.at e.0 h w c.requires.linked.distinct e.1 refl in
     let mid : Place g.row.K.Denot g.row.T.Denot = record { task = h.task; live = h.live; promises = h.promises; askers = c.pop-asker.new.self; waits = h.waits; name = h.name } in
-    let found = lookup_shares (eq (arc_value key)) c.args.places.now.entries ∙ ap (option_map share_of) known in
-    if_some c.pop-asker.result (λ j e up. (
-      ap (is_for (λ (p : Share g.row.K.Denot g.row.T.Denot). has_by eq p (Tasked (arc_value j)))) found ∙ (list_any_values (eq (arc_value j)) h.askers.keys ∙ (ap (list_any (λ a. eq (arc_value j) (arc_value a))) (c.pop-asker.ensures.keys ∙ ap (λ r. mid.askers.keys ++ option_to_list r) e) ∙ any_last (λ a. eq (arc_value j) (arc_value a)) mid.askers.keys j (c.requires.equality.itself (arc_value j)))),
-      changed_written eq c.requires.equality key c.args.places.now.entries (c.get_mut.follows.lender w).entries h w _ i
-          (rw c.settle.ensures.place (record { task = refl; live = refl; asks = left_task eq (share_of h) (share_of mid) (arc_value j) refl (λ q. list_any_values (eq q) mid.askers.keys ∙ (up.0 (arc_with_value j q) ∙ ap (cond (eq (arc_value j) q) false) (sym (list_any_values (eq q) h.askers.keys)))); waits = λ d. refl }, record { promises = omega arith; askers = omega (arith, c.pop-asker.ensures.room.0); waits = omega arith; count = fewer_count (is_some c.pop-asker.result) h.askers.keys c.pop-asker.new.self.keys c.pop-asker.ensures.len })),
-    )
-    ) c.pop-asker.ensures.updates
+    let before = c.requires.linked.askers (e.0, h) (has_at es c.args.at (e.0, h) e.1) in
+    let names = names_of es in
+    let same = same_number eq law es c.requires.linked.distinct in
+    if_some c.pop-asker.result (λ x z up.
+    let after = numbered_on names h.askers.entries c.pop-asker.new.self.entries x.0 None before c.pop-asker.ensures.unique (λ m. up.0 m) (λ a y. absurd (none-some a y)) in
+    changed_at eq law es (set_value_at es c.args.at w) c.args.at e.0 h w _ c.requires.linked e.1 refl (λ _. subst (λ m. AreNumbered names m.entries) (sym c.settle.ensures.askers) after) (λ n. subst (λ m. AreNumbered (names_of es) m.entries) (sym c.settle.ensures.waits) n)
+    (rw c.settle.ensures.place (record { task = refl; live = refl; asks = left_task eq (share_of h) (share_of mid) (arc_value x.1) refl (any_on eq law names same h.askers.entries c.pop-asker.new.self.entries x.0 (arc_value x.1) None before after (before x (subst (λ xs. Has xs x) (sym (c.pop-asker.ensures.entries ∙ ap (λ r. c.pop-asker.new.self.entries ++ option_to_list r) z)) (has_end c.pop-asker.new.self.entries x))) (λ m. up.0 m)); waits = λ d. refl }, record { promises = omega arith; askers = omega (arith, c.pop-asker.ensures.room.0); waits = omega arith; count = fewer_count (is_some c.pop-asker.result) h.askers.entries c.pop-asker.new.self.entries c.pop-asker.ensures.len; stays = settled_takes (share_of mid) (runs_at eq law e.0 es (map arc_value c.args.candidates.now.items) (vec_capacity c.args.candidates.now) h c.requires.listed i.known) }))) c.pop-asker.ensures.updates
 
 pub returns-clause-fewer : goal.returns-clause-fewer
 returns-clause-fewer g c =
     let eq = g.K.PartialEq.eq in
-    let key = c.args.key.now in
+    let law = c.requires.equality in
+    let es = c.args.places.now.entries in
     let h = c.in-Some.place.now in
     let w : Place g.row.K.Denot g.row.T.Denot = c.settle.new.place in
-    let known : lookup (λ a. eq (arc_value key) (arc_value a)) c.args.places.now.entries ≡ Some h = sym c.get_mut.ensures.value ∙ ap option_copied_mut c.in-Some.is in
-    let o = c.get_mut.follows.holds w in
-    let u = o.3 (subst IsSome (sym known) refl) in
-    let i : IsWritten eq key c.args.places.now.entries (c.get_mut.follows.lender w).entries h w = record { known = known; set = o.0; here = u.1; others = u.2 } in
+    let e = entry_of_value es c.args.at h c.in-Some.ensures.value in
+    let i = written_at eq law es (set_value_at es c.args.at w) c.args.at e.0 h w c.requires.linked.distinct e.1 refl in
     let mid : Place g.row.K.Denot g.row.T.Denot = record { task = h.task; live = h.live; promises = h.promises; askers = c.pop-asker.new.self; waits = h.waits; name = h.name } in
-    if_some c.pop-asker.result (λ j e up. popped_fewer eq c.requires.equality key c.args.places.now.entries (c.get_mut.follows.lender w).entries h w (share_of mid) i c.settle.ensures.place (fewer_by_one c.pop-asker.result j h.askers.keys c.pop-asker.new.self.keys e c.pop-asker.ensures.len)) c.pop-asker.ensures.updates
+    if_some c.pop-asker.result (λ x z up. popped_fewer eq law e.0 es (set_value_at es c.args.at w) h w (share_of mid) i c.settle.ensures.place (fewer_by_one c.pop-asker.result x h.askers.entries c.pop-asker.new.self.entries z c.pop-asker.ensures.len)) c.pop-asker.ensures.updates
+
+pub returns-clause-alone : goal.returns-clause-alone
+returns-clause-alone g c = λ k named.
+    let eq = g.K.PartialEq.eq in
+    let law = c.requires.equality in
+    let es = c.args.places.now.entries in
+    let h = c.in-Some.place.now in
+    let w : Place g.row.K.Denot g.row.T.Denot = c.settle.new.place in
+    let e = entry_of_value es c.args.at h c.in-Some.ensures.value in
+    let i = written_at eq law es (set_value_at es c.args.at w) c.args.at e.0 h w c.requires.linked.distinct e.1 refl in
+    let mid : Place g.row.K.Denot g.row.T.Denot = record { task = h.task; live = h.live; promises = h.promises; askers = c.pop-asker.new.self; waits = h.waits; name = h.name } in
+    let empty : c.pop-asker.result ≡ None → h.askers.entries ≡ [] = λ z. none_left h.askers.entries (λ lt. let y = subst IsSome z (c.pop-asker.ensures.found.1 lt) in cc) in
+    if_none c.pop-asker.result (λ z j. ap (is_for (λ (p : Share g.row.K.Denot g.row.T.Denot). has_by eq p (Tasked j))) (share_at eq law es c.args.at e.0 h k c.requires.linked.distinct e.1 named) ∙ ap (λ xs. list_any (eq j) (map arc_value (values_of xs))) (empty z))
 
 pub returns-clause-none : goal.returns-clause-none
 returns-clause-none g c =
     let eq = g.K.PartialEq.eq in
-    let key = c.args.key.now in
+    let law = c.requires.equality in
+    let es = c.args.places.now.entries in
     let h = c.in-Some.place.now in
     let w : Place g.row.K.Denot g.row.T.Denot = c.settle.new.place in
-    let known : lookup (λ a. eq (arc_value key) (arc_value a)) c.args.places.now.entries ≡ Some h = sym c.get_mut.ensures.value ∙ ap option_copied_mut c.in-Some.is in
-    let o = c.get_mut.follows.holds w in
-    let u = o.3 (subst IsSome (sym known) refl) in
-    let i : IsWritten eq key c.args.places.now.entries (c.get_mut.follows.lender w).entries h w = record { known = known; set = o.0; here = u.1; others = u.2 } in
+    let e = entry_of_value es c.args.at h c.in-Some.ensures.value in
+    let i = written_at eq law es (set_value_at es c.args.at w) c.args.at e.0 h w c.requires.linked.distinct e.1 refl in
     let mid : Place g.row.K.Denot g.row.T.Denot = record { task = h.task; live = h.live; promises = h.promises; askers = c.pop-asker.new.self; waits = h.waits; name = h.name } in
-    let found = lookup_shares (eq (arc_value key)) c.args.places.now.entries ∙ ap (option_map share_of) known in
-    if_none c.pop-asker.result (λ e.
-    let empty : h.askers.keys ≡ [] = none_left h.askers.keys (λ lt. let z = subst IsSome e (c.pop-asker.ensures.found.1 lt) in cc) in
-    let same : mid.askers.keys ≡ h.askers.keys = sym (append-nil mid.askers.keys) ∙ sym (c.pop-asker.ensures.keys ∙ ap (λ r. mid.askers.keys ++ option_to_list r) e) in (
-      λ j. ap (is_for (λ (p : Share g.row.K.Denot g.row.T.Denot). has_by eq p (Tasked j))) found ∙ ap (λ ks. list_any (eq j) (map arc_value ks)) empty,
-      changed_written eq c.requires.equality key c.args.places.now.entries (c.get_mut.follows.lender w).entries h w _ i
-          (rw c.settle.ensures.place (record { task = refl; live = refl; asks = same_asks eq (share_of h) (share_of mid) refl (ap (map arc_value) same); waits = λ d. refl }, record { promises = omega arith; askers = omega (arith, c.pop-asker.ensures.room.0); waits = omega arith; count = fewer_count (is_some c.pop-asker.result) h.askers.keys c.pop-asker.new.self.keys c.pop-asker.ensures.len })),
-    ))
+    let before = c.requires.linked.askers (e.0, h) (has_at es c.args.at (e.0, h) e.1) in
+    if_none c.pop-asker.result (λ z.
+    let kept : c.pop-asker.new.self.entries ≡ h.askers.entries = sym (append-nil c.pop-asker.new.self.entries) ∙ sym (c.pop-asker.ensures.entries ∙ ap (λ r. c.pop-asker.new.self.entries ++ option_to_list r) z) in
+    changed_at eq law es (set_value_at es c.args.at w) c.args.at e.0 h w _ c.requires.linked e.1 refl (λ n. subst (λ m. AreNumbered (names_of es) m.entries) (sym c.settle.ensures.askers) (subst (AreNumbered (names_of es)) (sym kept) n)) (λ n. subst (λ m. AreNumbered (names_of es) m.entries) (sym c.settle.ensures.waits) n)
+    (rw c.settle.ensures.place (record { task = refl; live = refl; asks = same_asks eq (share_of h) (share_of mid) refl (ap (λ xs. map arc_value (values_of xs)) kept); waits = λ d. refl }, record { promises = omega arith; askers = omega (arith, c.pop-asker.ensures.room.0); waits = omega arith; count = fewer_count (is_some c.pop-asker.result) h.askers.entries c.pop-asker.new.self.entries c.pop-asker.ensures.len; stays = settled_takes (share_of mid) (runs_at eq law e.0 es (map arc_value c.args.candidates.now.items) (vec_capacity c.args.candidates.now) h c.requires.listed i.known) })))

@@ -10,7 +10,7 @@ pub add_promise-requires-clause-room : goal.add_promise-requires-clause-room
 add_promise-requires-clause-room g c = subst (λ (ps : List (g.row.K.Denot × Share g.row.K.Denot g.row.T.Denot)). (asks g.K.PartialEq.eq ps (arc_value c.args.key.now) (Promised c.args.number) ≡ true) ⊎ (0 < promise_room g.K.PartialEq.eq ps (arc_value c.args.key.now))) (sym c.self.view_is) c.requires
 
 pub invariant_of-self : goal.invariant_of-self
-invariant_of-self g c = (c.self.invariant.0, record { listed = c.add_promise.ensures.listed _ _ c.self.invariant.1.listed; mirrored = promise_joined_mirrored g.K.PartialEq.eq c.self.invariant.0 (shares_of c.self.inside.places.entries) (shares_of c.add_promise.new.places.entries) (arc_value c.args.key.now) c.args.number c.add_promise.ensures.changed (subst (λ (ps : List (g.row.K.Denot × Share g.row.K.Denot g.row.T.Denot)). (asks g.K.PartialEq.eq ps (arc_value c.args.key.now) (Promised c.args.number) ≡ true) ⊎ (0 < promise_room g.K.PartialEq.eq ps (arc_value c.args.key.now))) (sym c.self.view_is) c.requires) c.self.invariant.1.mirrored })
+invariant_of-self g c = (c.self.invariant.0, record { listed = c.add_promise.ensures.listed _ _ c.self.invariant.1.listed; mirrored = promise_joined_mirrored g.K.PartialEq.eq c.self.invariant.0 (shares_of c.self.inside.places.entries) (shares_of c.add_promise.new.places.entries) (arc_value c.args.key.now) c.args.number c.add_promise.ensures.changed (subst (λ (ps : List (g.row.K.Denot × Share g.row.K.Denot g.row.T.Denot)). (asks g.K.PartialEq.eq ps (arc_value c.args.key.now) (Promised c.args.number) ≡ true) ⊎ (0 < promise_room g.K.PartialEq.eq ps (arc_value c.args.key.now))) (sym c.self.view_is) c.requires) c.self.invariant.1.mirrored }, c.add_promise.ensures.linked)
 
 pub returns-clause-tasks : goal.returns-clause-tasks
 returns-clause-tasks g c = subst (λ (ps : List (g.row.K.Denot × Share g.row.K.Denot g.row.T.Denot)). KeepsTasks g.K.PartialEq.eq ps (shares_of c.add_promise.new.places.entries)) c.self.view_is

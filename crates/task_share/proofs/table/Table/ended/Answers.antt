@@ -1,33 +1,51 @@
-use Rattle.std.proofs.Common.{◌≡◌, subst, not, ◌&&◌, map, List, ◌≤◌}
+use Rattle.std.proofs.Common.{◌≡◌, ◌≤◌, ◌<◌, ◌+◌, ◌⊎◌, ◌&&◌, ◌||◌, not, cond, true, false, nat_eq, ℕ, List, [], map, Option, Some, None, is_some, refl, sym, ap, ◌∙◌, subst, arith, slice_get}
+use Rattle.std.specs.Prelude.{IfSome, IfNone}
 use Rattle.std.specs.Arc.{arc_value}
-use Rattle.task_share.specs.Asked.{By, Tasked, is_by}
-use Rattle.task_share.specs.Seen.{Share, live_count, task_at, is_live, asks, KeepsOtherRoom}
-use Rattle.task_share.specs.Listed.{shares_of}
-use Rattle.task_share.proofs.TableLemmas.{ended_asks, ended_tasks, ended_live, ended_mirrored, ended_room, ended_count}
+use Rattle.std.specs.Map.{lookup, keys_of, values_of}
+use Rattle.std.specs.List.{list_any}
+use Rattle.std.specs.Option.{option_copied, option_map}
+use Rattle.task_share.specs.Asked.{By, Promised, Tasked, is_by, IsDone, Takes}
+use Rattle.task_share.specs.Seen.{Share, is_for, list_for, has_by, task_at, is_live, asks, waits_at, asked_of, ask_count, live_count, has_place, asker_room, wait_room, number_for, room_in, KeepsTasks, KeepsAsks, KeepsRoom, KeepsOtherRoom, UsesRoomOf}
+use Rattle.task_share.specs.Listed.{share_of, shares_of, names_of, Turns, UsesRoom, Stays}
+use Rattle.task_share.specs.Numbers.{key_at, number_of, waits_by}
+use Rattle.task_share.proofs.PlaceLemmas.{lookup_shares}
+use Rattle.lists.proofs.Options.{is_missing}
+use Rattle.task_share.proofs.TableLemmas.{ended_asks, ended_tasks, ended_live, ended_mirrored, ended_room, ended_count, none_lives, none_asks, other_itself}
+use Rattle.task_share.proofs.NumberLemmas.{found_number}
 use Rattle.task_share.proofs.table.Table.ended.Goals as goal
 
 pub withdraw-requires-clause-listed : goal.withdraw-requires-clause-listed
 withdraw-requires-clause-listed g c = c.end_task-waits.ensures.listed _ _ c.self.invariant.1.listed
 
 pub invariant_of-self : goal.invariant_of-self
-invariant_of-self g c = (c.self.invariant.0, record { listed = c.withdraw.ensures.listed; mirrored = ended_mirrored g.K.PartialEq.eq c.self.invariant.0 (shares_of c.self.inside.places.entries) (shares_of c.end_task-waits.new.places.entries) (shares_of c.withdraw.new.places.entries) (arc_value c.args.key.now) (map arc_value c.end_task-waits.result.keys) c.end_task-waits.ensures.changed c.end_task-waits.ensures.waits c.withdraw.ensures.withdrawn c.self.invariant.1.mirrored })
+invariant_of-self g c = (c.self.invariant.0, record { listed = c.withdraw.ensures.listed; mirrored = ended_mirrored g.K.PartialEq.eq c.self.invariant.0 (shares_of c.self.inside.places.entries) (shares_of c.end_task-waits.new.places.entries) (shares_of c.withdraw.new.places.entries) (arc_value c.args.key.now) (map arc_value (values_of c.end_task-waits.result.entries)) (c.end_task-waits.ensures.changed.changed (arc_value c.args.key.now) (found_number g.K.PartialEq.eq c.self.invariant.0 c.self.inside.places.entries c.args.key.now c.in-Some.at c.in-Some.ensures.index)) (c.end_task-waits.ensures.waits (arc_value c.args.key.now) (found_number g.K.PartialEq.eq c.self.invariant.0 c.self.inside.places.entries c.args.key.now c.in-Some.at c.in-Some.ensures.index)) (c.withdraw.ensures.withdrawn (arc_value c.args.key.now) (ap (λ ns. slice_get ns c.in-Some.at) c.end_task-waits.ensures.changed.names ∙ (found_number g.K.PartialEq.eq c.self.invariant.0 c.self.inside.places.entries c.args.key.now c.in-Some.at c.in-Some.ensures.index))) c.self.invariant.1.mirrored }, c.withdraw.ensures.linked)
 
 pub returns-clause-tasks : goal.returns-clause-tasks
 returns-clause-tasks g c = subst (λ (ps : List (g.row.K.Denot × Share g.row.K.Denot g.row.T.Denot)). (q : g.row.K.Denot) → task_at g.K.PartialEq.eq (shares_of c.withdraw.new.places.entries) q ≡ task_at g.K.PartialEq.eq ps q) c.self.view_is
-    (ended_tasks g.K.PartialEq.eq c.self.invariant.0 (shares_of c.self.inside.places.entries) (shares_of c.end_task-waits.new.places.entries) (shares_of c.withdraw.new.places.entries) (arc_value c.args.key.now) (map arc_value c.end_task-waits.result.keys) c.end_task-waits.ensures.changed c.end_task-waits.ensures.waits c.withdraw.ensures.withdrawn c.self.invariant.1.mirrored)
+    (ended_tasks g.K.PartialEq.eq c.self.invariant.0 (shares_of c.self.inside.places.entries) (shares_of c.end_task-waits.new.places.entries) (shares_of c.withdraw.new.places.entries) (arc_value c.args.key.now) (map arc_value (values_of c.end_task-waits.result.entries)) (c.end_task-waits.ensures.changed.changed (arc_value c.args.key.now) (found_number g.K.PartialEq.eq c.self.invariant.0 c.self.inside.places.entries c.args.key.now c.in-Some.at c.in-Some.ensures.index)) (c.end_task-waits.ensures.waits (arc_value c.args.key.now) (found_number g.K.PartialEq.eq c.self.invariant.0 c.self.inside.places.entries c.args.key.now c.in-Some.at c.in-Some.ensures.index)) (c.withdraw.ensures.withdrawn (arc_value c.args.key.now) (ap (λ ns. slice_get ns c.in-Some.at) c.end_task-waits.ensures.changed.names ∙ (found_number g.K.PartialEq.eq c.self.invariant.0 c.self.inside.places.entries c.args.key.now c.in-Some.at c.in-Some.ensures.index))) c.self.invariant.1.mirrored)
 
 pub returns-clause-live : goal.returns-clause-live
 returns-clause-live g c = subst (λ (ps : List (g.row.K.Denot × Share g.row.K.Denot g.row.T.Denot)). (q : g.row.K.Denot) → is_live g.K.PartialEq.eq (shares_of c.withdraw.new.places.entries) q ≡ (is_live g.K.PartialEq.eq ps q && not (g.K.PartialEq.eq (arc_value c.args.key.now) q))) c.self.view_is
-    (ended_live g.K.PartialEq.eq c.self.invariant.0 (shares_of c.self.inside.places.entries) (shares_of c.end_task-waits.new.places.entries) (shares_of c.withdraw.new.places.entries) (arc_value c.args.key.now) (map arc_value c.end_task-waits.result.keys) c.end_task-waits.ensures.changed c.end_task-waits.ensures.waits c.withdraw.ensures.withdrawn c.self.invariant.1.mirrored)
+    (ended_live g.K.PartialEq.eq c.self.invariant.0 (shares_of c.self.inside.places.entries) (shares_of c.end_task-waits.new.places.entries) (shares_of c.withdraw.new.places.entries) (arc_value c.args.key.now) (map arc_value (values_of c.end_task-waits.result.entries)) (c.end_task-waits.ensures.changed.changed (arc_value c.args.key.now) (found_number g.K.PartialEq.eq c.self.invariant.0 c.self.inside.places.entries c.args.key.now c.in-Some.at c.in-Some.ensures.index)) (c.end_task-waits.ensures.waits (arc_value c.args.key.now) (found_number g.K.PartialEq.eq c.self.invariant.0 c.self.inside.places.entries c.args.key.now c.in-Some.at c.in-Some.ensures.index)) (c.withdraw.ensures.withdrawn (arc_value c.args.key.now) (ap (λ ns. slice_get ns c.in-Some.at) c.end_task-waits.ensures.changed.names ∙ (found_number g.K.PartialEq.eq c.self.invariant.0 c.self.inside.places.entries c.args.key.now c.in-Some.at c.in-Some.ensures.index))) c.self.invariant.1.mirrored)
 
 pub returns-clause-asks : goal.returns-clause-asks
 returns-clause-asks g c = subst (λ (ps : List (g.row.K.Denot × Share g.row.K.Denot g.row.T.Denot)). (q : g.row.K.Denot) (a : By g.row.K.Denot) → asks g.K.PartialEq.eq (shares_of c.withdraw.new.places.entries) q a ≡ (asks g.K.PartialEq.eq ps q a && not (is_by g.K.PartialEq.eq (Tasked (arc_value c.args.key.now)) a))) c.self.view_is
-    (ended_asks g.K.PartialEq.eq c.self.invariant.0 (shares_of c.self.inside.places.entries) (shares_of c.end_task-waits.new.places.entries) (shares_of c.withdraw.new.places.entries) (arc_value c.args.key.now) (map arc_value c.end_task-waits.result.keys) c.end_task-waits.ensures.changed c.end_task-waits.ensures.waits c.withdraw.ensures.withdrawn c.self.invariant.1.mirrored)
+    (ended_asks g.K.PartialEq.eq c.self.invariant.0 (shares_of c.self.inside.places.entries) (shares_of c.end_task-waits.new.places.entries) (shares_of c.withdraw.new.places.entries) (arc_value c.args.key.now) (map arc_value (values_of c.end_task-waits.result.entries)) (c.end_task-waits.ensures.changed.changed (arc_value c.args.key.now) (found_number g.K.PartialEq.eq c.self.invariant.0 c.self.inside.places.entries c.args.key.now c.in-Some.at c.in-Some.ensures.index)) (c.end_task-waits.ensures.waits (arc_value c.args.key.now) (found_number g.K.PartialEq.eq c.self.invariant.0 c.self.inside.places.entries c.args.key.now c.in-Some.at c.in-Some.ensures.index)) (c.withdraw.ensures.withdrawn (arc_value c.args.key.now) (ap (λ ns. slice_get ns c.in-Some.at) c.end_task-waits.ensures.changed.names ∙ (found_number g.K.PartialEq.eq c.self.invariant.0 c.self.inside.places.entries c.args.key.now c.in-Some.at c.in-Some.ensures.index))) c.self.invariant.1.mirrored)
 
 pub returns-clause-room : goal.returns-clause-room
 returns-clause-room g c = subst (λ (ps : List (g.row.K.Denot × Share g.row.K.Denot g.row.T.Denot)). KeepsOtherRoom g.K.PartialEq.eq (arc_value c.args.key.now) ps (shares_of c.withdraw.new.places.entries)) c.self.view_is
-    (ended_room g.K.PartialEq.eq c.self.invariant.0 (shares_of c.self.inside.places.entries) (shares_of c.end_task-waits.new.places.entries) (shares_of c.withdraw.new.places.entries) (arc_value c.args.key.now) (map arc_value c.end_task-waits.result.keys) c.end_task-waits.ensures.changed c.end_task-waits.ensures.waits c.withdraw.ensures.withdrawn c.self.invariant.1.mirrored)
+    (ended_room g.K.PartialEq.eq c.self.invariant.0 (shares_of c.self.inside.places.entries) (shares_of c.end_task-waits.new.places.entries) (shares_of c.withdraw.new.places.entries) (arc_value c.args.key.now) (map arc_value (values_of c.end_task-waits.result.entries)) (c.end_task-waits.ensures.changed.changed (arc_value c.args.key.now) (found_number g.K.PartialEq.eq c.self.invariant.0 c.self.inside.places.entries c.args.key.now c.in-Some.at c.in-Some.ensures.index)) (c.end_task-waits.ensures.waits (arc_value c.args.key.now) (found_number g.K.PartialEq.eq c.self.invariant.0 c.self.inside.places.entries c.args.key.now c.in-Some.at c.in-Some.ensures.index)) (c.withdraw.ensures.withdrawn (arc_value c.args.key.now) (ap (λ ns. slice_get ns c.in-Some.at) c.end_task-waits.ensures.changed.names ∙ (found_number g.K.PartialEq.eq c.self.invariant.0 c.self.inside.places.entries c.args.key.now c.in-Some.at c.in-Some.ensures.index))) c.self.invariant.1.mirrored)
 
 pub returns-clause-count : goal.returns-clause-count
 returns-clause-count g c = subst (λ (ps : List (g.row.K.Denot × Share g.row.K.Denot g.row.T.Denot)). live_count (shares_of c.withdraw.new.places.entries) ≤ live_count ps) c.self.view_is
-    (ended_count g.K.PartialEq.eq c.self.invariant.0 (shares_of c.self.inside.places.entries) (shares_of c.end_task-waits.new.places.entries) (shares_of c.withdraw.new.places.entries) (arc_value c.args.key.now) (map arc_value c.end_task-waits.result.keys) c.end_task-waits.ensures.changed c.end_task-waits.ensures.waits c.withdraw.ensures.withdrawn c.self.invariant.1.mirrored)
+    (ended_count g.K.PartialEq.eq c.self.invariant.0 (shares_of c.self.inside.places.entries) (shares_of c.end_task-waits.new.places.entries) (shares_of c.withdraw.new.places.entries) (arc_value c.args.key.now) (map arc_value (values_of c.end_task-waits.result.entries)) (c.end_task-waits.ensures.changed.changed (arc_value c.args.key.now) (found_number g.K.PartialEq.eq c.self.invariant.0 c.self.inside.places.entries c.args.key.now c.in-Some.at c.in-Some.ensures.index)) (c.end_task-waits.ensures.waits (arc_value c.args.key.now) (found_number g.K.PartialEq.eq c.self.invariant.0 c.self.inside.places.entries c.args.key.now c.in-Some.at c.in-Some.ensures.index)) (c.withdraw.ensures.withdrawn (arc_value c.args.key.now) (ap (λ ns. slice_get ns c.in-Some.at) c.end_task-waits.ensures.changed.names ∙ (found_number g.K.PartialEq.eq c.self.invariant.0 c.self.inside.places.entries c.args.key.now c.in-Some.at c.in-Some.ensures.index))) c.self.invariant.1.mirrored)
+
+pub returns-in_default-clause-live : goal.returns-in_default-clause-live
+returns-in_default-clause-live g c =
+    subst (λ (ps : List (g.row.K.Denot × Share g.row.K.Denot g.row.T.Denot)). (q : g.row.K.Denot) → is_live g.K.PartialEq.eq ps q ≡ (is_live g.K.PartialEq.eq ps q && not (g.K.PartialEq.eq (arc_value c.args.key.now) q))) c.self.view_is
+    (none_lives g.K.PartialEq.eq c.self.invariant.0 (shares_of c.self.inside.places.entries) (arc_value c.args.key.now) (lookup_shares (g.K.PartialEq.eq (arc_value c.args.key.now)) c.self.inside.places.entries ∙ ap (option_map share_of) (is_missing _ (sym c.get_index_of.ensures.found ∙ ap is_some c.in_default.is))))
+
+pub returns-in_default-clause-asks : goal.returns-in_default-clause-asks
+returns-in_default-clause-asks g c =
+    subst (λ (ps : List (g.row.K.Denot × Share g.row.K.Denot g.row.T.Denot)). (q : g.row.K.Denot) (a : By g.row.K.Denot) → asks g.K.PartialEq.eq ps q a ≡ (asks g.K.PartialEq.eq ps q a && not (is_by g.K.PartialEq.eq (Tasked (arc_value c.args.key.now)) a))) c.self.view_is
+    (none_asks g.K.PartialEq.eq c.self.invariant.0 (shares_of c.self.inside.places.entries) (arc_value c.args.key.now) (lookup_shares (g.K.PartialEq.eq (arc_value c.args.key.now)) c.self.inside.places.entries ∙ ap (option_map share_of) (is_missing _ (sym c.get_index_of.ensures.found ∙ ap is_some c.in_default.is))) c.self.invariant.1.mirrored)

@@ -7,7 +7,7 @@ use Rattle.task_share.proofs.TableLemmas.{promise_left_asks, promise_left_tasks,
 use Rattle.task_share.proofs.table.Table.leave_by_promise.Goals as goal
 
 pub invariant_of-self : goal.invariant_of-self
-invariant_of-self g c = (c.self.invariant.0, record { listed = c.leave_promise.ensures.listed; mirrored = promise_left_mirrored g.K.PartialEq.eq c.self.invariant.0 (shares_of c.self.inside.places.entries) (shares_of c.leave_promise.new.places.entries) (arc_value c.args.key.now) c.args.number c.leave_promise.ensures.changed c.self.invariant.1.mirrored })
+invariant_of-self g c = (c.self.invariant.0, record { listed = c.leave_promise.ensures.listed; mirrored = promise_left_mirrored g.K.PartialEq.eq c.self.invariant.0 (shares_of c.self.inside.places.entries) (shares_of c.leave_promise.new.places.entries) (arc_value c.args.key.now) c.args.number c.leave_promise.ensures.changed c.self.invariant.1.mirrored }, c.leave_promise.ensures.linked)
 
 pub returns-clause-tasks : goal.returns-clause-tasks
 returns-clause-tasks g c = subst (λ (ps : List (g.row.K.Denot × Share g.row.K.Denot g.row.T.Denot)). KeepsTasks g.K.PartialEq.eq ps (shares_of c.leave_promise.new.places.entries)) c.self.view_is

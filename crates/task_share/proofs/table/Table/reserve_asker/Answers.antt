@@ -8,7 +8,7 @@ use Rattle.task_share.proofs.TableLemmas.{mirrored_same}
 use Rattle.task_share.proofs.table.Table.reserve_asker.Goals as goal
 
 pub invariant_of-self : goal.invariant_of-self
-invariant_of-self g c = (c.self.invariant.0, record { listed = c.reserve_asker.ensures.listed _ _ c.self.invariant.1.listed; mirrored = (let k = (stays_kept g.K.PartialEq.eq c.self.invariant.0 (shares_of c.self.inside.places.entries) (shares_of c.reserve_asker.new.places.entries) (arc_value c.args.key.now) (λ p r. Stays g.K.PartialEq.eq p r × UsesRoom 0 0 0 p r) c.reserve_asker.ensures.changed (λ p r x. x)) in mirrored_same g.K.PartialEq.eq c.self.invariant.0 (shares_of c.self.inside.places.entries) (shares_of c.reserve_asker.new.places.entries) k.asks k.waits c.self.invariant.1.mirrored) })
+invariant_of-self g c = (c.self.invariant.0, record { listed = c.reserve_asker.ensures.listed _ _ c.self.invariant.1.listed; mirrored = (let k = (stays_kept g.K.PartialEq.eq c.self.invariant.0 (shares_of c.self.inside.places.entries) (shares_of c.reserve_asker.new.places.entries) (arc_value c.args.key.now) (λ p r. Stays g.K.PartialEq.eq p r × UsesRoom 0 0 0 p r) c.reserve_asker.ensures.changed (λ p r x. x)) in mirrored_same g.K.PartialEq.eq c.self.invariant.0 (shares_of c.self.inside.places.entries) (shares_of c.reserve_asker.new.places.entries) k.asks k.waits c.self.invariant.1.mirrored) }, c.reserve_asker.ensures.linked)
 
 pub returns-clause-tasks : goal.returns-clause-tasks
 returns-clause-tasks g c = tasks_on g.K.PartialEq.eq c.args.self.now c.reserve.new.self (shares_of c.reserve_asker.new.places.entries) c.in_ok-reserve.ensures.tasks (subst (λ (ps : List (g.row.K.Denot × Share g.row.K.Denot g.row.T.Denot)). KeepsTasks g.K.PartialEq.eq ps (shares_of c.reserve_asker.new.places.entries)) c.self.view_is
