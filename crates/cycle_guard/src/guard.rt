@@ -7,7 +7,7 @@ ghost use Rattle.task_share.specs.Numbers.{keys_of, names_at};
 ghost use Rattle.cycle_guard.specs.WaitCycle.{IsWaitCycle};
 
 use dice_key::{NoMemory, Path};
-use number_walk::way;
+use number_walk::{Waits, way};
 use std::alloc::Global;
 use std::hash::Hash;
 use std::sync::Arc;

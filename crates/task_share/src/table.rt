@@ -10,7 +10,7 @@ ghost use Rattle.task_share.specs.Asked.{By, Promised, Tasked, is_by, IsDone, Ta
 ghost use Rattle.task_share.specs.Askers.{by_of};
 ghost use Rattle.task_share.specs.Lent.{LendsTask};
 ghost use Rattle.task_share.specs.Seen.{task_at, is_live, asks, waits_at, asked_of, ask_count, live_count, IsMirrored, has_place, promise_room, asker_room, wait_room, KeepsTasks, KeepsAsks, KeepsRoom, KeepsOtherRoom, UsesRoomOf};
-ghost use Rattle.task_share.specs.Numbers.{key_at, number_of, waits_by, keys_of};
+ghost use Rattle.task_share.specs.Numbers.{key_at, number_of, keys_of};
 ghost use Rattle.lists.specs.Lists.{AreDistinct};
 
 use crate::asker::{Asker, Askers, Wait};
@@ -23,6 +23,7 @@ use crate::places::{
 use crate::room;
 use dice_key::NoMemory;
 use indexmap::IndexMap;
+use number_walk::Waits;
 use std::alloc::Global;
 use std::hash::Hash;
 use std::marker::Model;
@@ -392,11 +393,18 @@ impl<K: Eq + Hash + Drop, T: Drop> Table<K, T> {
             None => None,
         }
     }
+}
+
+impl<K: Eq + Hash + Drop, T: Drop> Waits for Table<K, T> {
+    ghost use Rattle.std.specs.Prelude.{length};
+    ghost use Rattle.task_share.specs.Numbers.{waits_by};
+
+    ghost waits = { λ ps n. waits_by K.eq ps n };
+
+    ghost count = { λ ps. length ps };
 
     /// The numbers of the keys that the task of a number waits for, in no order.
-    pub fn waits_of(&self, number: usize) -> &[usize]
-        ensures { result.now ≡ waits_by K.eq self.now number }
-    {
+    fn waits_of(&self, number: usize) -> &[usize] {
         match self.places.get_index(number) {
             Some((_, place)) => place.waits.keys().as_slice(),
             None => &[],

@@ -11,7 +11,7 @@ use Rattle.task_share.specs.Numbers.{key_at, number_of, waits_by}
 use Rattle.task_share.proofs.PlaceLemmas.{lookup_shares}
 use Rattle.lists.proofs.Options.{is_missing}
 use Rattle.task_share.proofs.NumberLemmas.{waits_numbered, no_waits}
-use Rattle.task_share.proofs.table.Table.waits_of.Goals as goal
+use Rattle.task_share.proofs.table.TableWaits.waits_of.Goals as goal
 
 pub returns-in-Some : goal.returns-in-Some
 returns-in-Some g c =
