@@ -21,7 +21,7 @@ use Rattle.core_laws.specs.Changes.{Puts, SameAsks, SameLives, Lives, Withdraws,
 use Rattle.core_laws.proofs.Shapes.{not_both, same_or_other, put_each, put_fact, put_none, Shape, shape_of, asks_nothing, eased}
 use Rattle.core_laws.proofs.OfKey.{asked_before, asked_by_another, promise_stays, others_stay, LeavesOthers, named, start_leaves, keep_leaves, end_leaves, lost_leaves, task_with, task_on}
 use Rattle.lists.specs.Lists.{Has}
-use Rattle.dice_jobs.proofs.Followed.{changed_front, same_front}
+use Rattle.dice_jobs.proofs.Followed.{changed_front, goes_changed, same_front}
 use Rattle.dice_jobs.specs.Jobs.{Checks, Computes, Work}
 use Rattle.dice_jobs.specs.Truths.{Follows}
 
@@ -177,13 +177,13 @@ module _ {K V : Type 0} (eq : K → K → Bool) (equality : IsEquality eq) (m : 
       found : Goes eq m (commits_of R) v k [] T × (m.next k T v ≡ Ends x) × HasValue eq m (commits_of R) v k x
       found = same_answers eq m law (commits_of R) (commits_of R) seen.finished v k T x c seen.traced.goes seen.traced.ends seen.lasts (subst (AllTrue (HasValue eq m (commits_of R) v)) same a.work.2)
 
-  -- a check with a changed answer: its Start is allowed, with that cause, and its task computes
-  pub differs : (T A : List (Answered K V)) (x : V) (b : ℕ) (d : K) → t.standing ≡ Works (Checks x T b) IsOut A → ChangesFirst T A d → IsWanted eq m R v k → SameAsks eq s u → SameLives eq s u → Puts eq k (Some (record { born = t.born; standing = Works Computes IsReady [] })) ts us
+  -- a check with a changed answer: its Start is allowed, with that cause, and its task computes from the answers that it has
+  pub differs : (T A : List (Answered K V)) (x : V) (b : ℕ) (d : K) → t.standing ≡ Works (Checks x T b) IsOut A → ChangesFirst T A d → IsWanted eq m R v k → SameAsks eq s u → SameLives eq s u → Puts eq k (Some (record { born = t.born; standing = Works Computes IsReady A })) ts us
       → IsAllowed eq m R (Start v k (Differs b d)) × VersionStands eq m (Start v k (Differs b d) ∷ R) v W u us
   differs T A x b d e f wanted sa sl p = (
     (wanted, (a.undecided, runs_as (Works (Checks x T b) IsOut A) e), (seen.base, seen.finished, backs, cause)),
-    task_turns eq equality m R (Start v k (Differs b d) ∷ R) v k (start_leaves eq equality R v k (Differs b d)) W s u ts us h t there (ap goes_on e) (Works Computes IsReady []) (ap waits_for e) refl refl sa sl p
-        (record { undecided = a.undecided; work = tt; asks = tt }) (ap (λ b. b || is_running eq R v k) (named eq equality v k)),
+    task_turns eq equality m R (Start v k (Differs b d) ∷ R) v k (start_leaves eq equality R v k (Differs b d)) W s u ts us h t there (ap goes_on e) (Works Computes IsReady A) (ap waits_for e) refl refl sa sl p
+        (record { undecided = a.undecided; work = goes; asks = tt }) (ap (λ b. b || is_running eq R v k) (named eq equality v k)),
   )
     where
       a : AtWork eq m R v k (Checks x T b) IsOut A
@@ -201,8 +201,20 @@ module _ {K V : Type 0} (eq : K → K → Bool) (equality : IsEquality eq) (m : 
       last : Answered K V
       last = record { keys = f.batch.keys; values = f.answers }
 
+      answered : A ≡ f.before ++ last ∷ []
+      answered = changed_front f.before f.later A f.batch f.answers (subst (λ B. Follows B A) f.trace_is a.work.1) f.answered
+
+      there_now : AllTrue (HasValue eq m (commits_of R) v) (f.before ++ last ∷ [])
+      there_now = subst (AllTrue (HasValue eq m (commits_of R) v)) answered a.work.2
+
+      was_traced : Goes eq m (commits_of R) seen.finished k [] (f.before ++ f.batch ∷ f.later)
+      was_traced = subst (Goes eq m (commits_of R) seen.finished k []) f.trace_is seen.traced.goes
+
+      goes : Goes eq m (commits_of R) v k [] A
+      goes = subst (Goes eq m (commits_of R) v k []) (sym answered) (goes_changed eq m law (commits_of R) seen.finished v k f.before f.later f.batch f.answers was_traced there_now)
+
       split : AllTrue (HasValue eq m (commits_of R) v) f.before × AllZip (HasValue eq m (commits_of R) v) f.batch.keys f.answers
-      split = last_values eq m (commits_of R) v f.before last (subst (AllTrue (HasValue eq m (commits_of R) v)) (changed_front f.before f.later A f.batch f.answers (subst (λ B. Follows B A) f.trace_is a.work.1) f.answered) a.work.2)
+      split = last_values eq m (commits_of R) v f.before last there_now
 
       first : AllZip (HasValue eq m (commits_of R) v) f.keys_before f.same × HasValue eq m (commits_of R) v d f.now
       first = zip_split (HasValue eq m (commits_of R) v) f.keys_before f.keys_later d f.same f.now_later f.now f.counted
@@ -214,7 +226,7 @@ module _ {K V : Type 0} (eq : K → K → Bool) (equality : IsEquality eq) (m : 
         before = f.before;
         batch = f.batch;
         later = f.later;
-        goes = subst (Goes eq m (commits_of R) seen.finished k []) f.trace_is seen.traced.goes;
+        goes = was_traced;
         value = x;
         ends = subst (λ B. m.next k B seen.finished ≡ Ends x) f.trace_is seen.traced.ends;
         agreed = split.0;

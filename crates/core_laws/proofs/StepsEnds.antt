@@ -40,10 +40,10 @@ module _ {K V : Type 0} (eq : K → K → Bool) (equality : IsEquality eq) (m : 
       let r = keeps eq equality m law R v W s u ts us k t (stands_here eq equality m R v W s ts w d owed st) there T A x b at equal wanted withdrawn lives put in
       (r.0, event_on eq equality m law R v w W s u ts us k d e owed owed2 _ st put turns room (k ∷ W) (Keep v k b) (λ n f. f) r.0 r.1, r.2, r.3)
 
-  -- a check with a changed answer: its task computes
+  -- a check with a changed answer: its task computes from the answers that it has
   pub differs_stand : (w : World K V) (W : List K) (s u : Asked K) (ts us : K → Option (Task K V)) (k : K) (t : Task K V) (T A : List (Answered K V)) (x : V) (b : ℕ) (i : K) (d e : Desk K) (owed owed2 : ℕ) → Stand eq m R v W (with_version v s ts w) d owed
-      → ts k ≡ Some t → t.standing ≡ Works (Checks x T b) IsOut A → ChangesFirst T A i → IsWanted eq m R v k → SameAsks eq s u → SameLives eq s u → Puts eq k (Some (record { born = t.born; standing = Works Computes IsReady [] })) ts us
-      → DeskTurns v k (ts k) (Some (record { born = t.born; standing = Works Computes IsReady [] })) d e → 2 * e.live + owed2 ≤ e.spare
+      → ts k ≡ Some t → t.standing ≡ Works (Checks x T b) IsOut A → ChangesFirst T A i → IsWanted eq m R v k → SameAsks eq s u → SameLives eq s u → Puts eq k (Some (record { born = t.born; standing = Works Computes IsReady A })) ts us
+      → DeskTurns v k (ts k) (Some (record { born = t.born; standing = Works Computes IsReady A })) d e → 2 * e.live + owed2 ≤ e.spare
       → IsAllowed eq m R (Start v k (Differs b i)) × Stand eq m (Start v k (Differs b i) ∷ R) v W (with_version v u us w) e owed2
   differs_stand w W s u ts us k t T A x b i d e owed owed2 st there at changed wanted same lives put turns room =
       let r = differs eq equality m law R v W s u ts us k t (stands_here eq equality m R v W s ts w d owed st) there T A x b i at changed wanted same lives put in

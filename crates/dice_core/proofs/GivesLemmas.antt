@@ -4,13 +4,13 @@ use Rattle.std.specs.Prelude.{OnOk}
 use Rattle.std.specs.List.{AllByRecursion}
 use Rattle.dice_key.specs.Meaning.{Meaning, Answered}
 use Rattle.dice_key.specs.Lawful.{IsEquality}
-use Rattle.dice_jobs.specs.Jobs.{Assigned, Stepped, Checks, Wanting, Changed}
+use Rattle.dice_jobs.specs.Jobs.{Assigned, Stepped, Checks, Wanting, Changed, computing}
 use Rattle.task_share.specs.Seen.{Share, task_at}
 use Rattle.journal.specs.declared.event.Told.{Told}
 use Rattle.journal.specs.declared.event.Told.TheVariants.{Start, Keep, Drop}
 use Rattle.journal.specs.declared.event.Reason.TheVariants.{Differs}
 use Rattle.injected.specs.Seen.{Seen}
-use Rattle.core_laws.specs.Tasks.{IsOut, IsWaiting, Outcome, WithValue}
+use Rattle.core_laws.specs.Tasks.{IsReady, IsOut, IsWaiting, Outcome, WithValue}
 use Rattle.core_laws.specs.Desk.{out_in}
 use Rattle.dice_steps.specs.Batches.{IsOfMakes, IsGiven, IsToldOf, TakesUp, ending_events}
 use Rattle.dice_steps.specs.Finishings.{EndsAndWakes}
@@ -18,7 +18,6 @@ use Rattle.dice_tasks.specs.Endings.{told_end}
 use Rattle.dice_core.specs.Givings.{IsToldBy, Gives}
 use Rattle.dice_tasks.specs.Hands.{DeskSeen}
 use Rattle.dice_tasks.specs.Helds.{Held, held_of, held_ended}
-use Rattle.dice_tasks.specs.Makings.{held_run}
 use Rattle.dice_tasks.specs.Waitings.{IsTurned}
 use Rattle.dice_core.specs.Cores.{IsWorkAt}
 use Rattle.dice_core.proofs.EventLemmas.{GivesUp, all_tell, all_given_up, all_drops, all_both, all_works}
@@ -47,29 +46,29 @@ module _ {K V : Type 0} (eq : K → K → Bool) (equality : IsEquality eq) (s : 
       let w : ⊥ = cc in w
 
   -- its check found a change, and it computes
-  pub begun_gives : (x : V) (T : List (Answered K V)) (b : ℕ) (dep : K) → s.job.work ≡ Checks x T b → s.outcome ≡ Changed dep → IsTurned eq s.job.name.key (held_of s.job IsOut) (held_run s.job.name) ps qs → e.events ≡ d.events ++ Start v s.job.name.key (Differs b dep) ∷ [] → Gives eq v s ps qs d e
+  pub begun_gives : (x : V) (T : List (Answered K V)) (b : ℕ) (dep : K) → s.job.work ≡ Checks x T b → s.outcome ≡ Changed dep → IsTurned eq s.job.name.key (held_of s.job IsOut) (held_of (computing s.job) IsReady) ps qs → e.events ≡ d.events ++ Start v s.job.name.key (Differs b dep) ∷ [] → Gives eq v s ps qs d e
   begun_gives x T b dep checks changed turned told = record {
     was = was;
     out = record {
-      stay = λ q a other is. inl (turned.tasks q ∙ (ap (λ c. cond c (Some (held_run s.job.name)) (task_at eq ps q)) other ∙ is));
+      stay = λ q a other is. inl (turned.tasks q ∙ (ap (λ c. cond c (Some (held_of (computing s.job) IsReady)) (task_at eq ps q)) other ∙ is));
       only = λ q a is. only q a is (eq s.job.name.key q) refl;
     };
-    home = home_by (held_run s.job.name) refl (turned.tasks s.job.name.key ∙ ap (λ c. cond c (Some (held_run s.job.name)) (task_at eq ps s.job.name.key)) (equality.itself s.job.name.key));
+    home = home_by (held_of (computing s.job) IsReady) refl (turned.tasks s.job.name.key ∙ ap (λ c. cond c (Some (held_of (computing s.job) IsReady)) (task_at eq ps s.job.name.key)) (equality.itself s.job.name.key));
     events = Start v s.job.name.key (Differs b dep) ∷ [];
     told = told;
     works = (refl, tt);
     by = subst (λ o. IsToldBy v s.job.name.key s.job.work o (Start v s.job.name.key (Differs b dep) ∷ [])) (sym changed) (x, T, b, checks, refl);
   }
     where
-      not_run : (a : Assigned K V) → Some (held_run s.job.name) ≡ Some (held_of a IsOut) → ⊥
+      not_run : (a : Assigned K V) → Some (held_of (computing s.job) IsReady) ≡ Some (held_of a IsOut) → ⊥
       not_run a i =
-          let y : held_run s.job.name ≡ held_of a IsOut = cc in
+          let y : held_of (computing s.job) IsReady ≡ held_of a IsOut = cc in
           let z : false ≡ true = ap (λ (h : Held K V). out_in h.standing) y in
           let w : ⊥ = cc in w
 
       only : (q : K) (a : Assigned K V) → task_at eq qs q ≡ Some (held_of a IsOut) → (c : Bool) → eq s.job.name.key q ≡ c → task_at eq ps q ≡ Some (held_of a IsOut)
-      only q a is true i = absurd (not_run a (sym (turned.tasks q ∙ ap (λ c. cond c (Some (held_run s.job.name)) (task_at eq ps q)) i) ∙ is))
-      only q a is false i = sym (turned.tasks q ∙ ap (λ c. cond c (Some (held_run s.job.name)) (task_at eq ps q)) i) ∙ is
+      only q a is true i = absurd (not_run a (sym (turned.tasks q ∙ ap (λ c. cond c (Some (held_of (computing s.job) IsReady)) (task_at eq ps q)) i) ∙ is))
+      only q a is false i = sym (turned.tasks q ∙ ap (λ c. cond c (Some (held_of (computing s.job) IsReady)) (task_at eq ps q)) i) ∙ is
 
   -- it ends the task with a value
   pub ended_gives : (m : Meaning K V) (cells : Seen K V) (x : V) (t : Told K V) → EndsAndWakes eq m cells v s.job.name.key x s.job.name ps qs → e.events ≡ d.events ++ t ∷ [] → IsWorkAt v t → IsToldBy v s.job.name.key s.job.work s.outcome (t ∷ []) → Gives eq v s ps qs d e

@@ -2,17 +2,16 @@
 use Rattle.std.specs.Prelude.{◌≡◌, ◌⊎◌, ℕ, Bool, List, [], ◌∷◌, ◌++◌, Option, Some, None}
 use Rattle.std.specs.List.{AllByRecursion}
 use Rattle.dice_key.specs.Meaning.{Meaning, Answered}
-use Rattle.dice_jobs.specs.Jobs.{Work, Checks, Assigned, Outcome, Stepped, Wanting, Valued, Unchanged, Changed}
+use Rattle.dice_jobs.specs.Jobs.{Work, Checks, Assigned, Outcome, Stepped, Wanting, Valued, Unchanged, Changed, computing}
 use Rattle.task_share.specs.Seen.{Share, task_at}
 use Rattle.injected.specs.Seen.{Seen}
 use Rattle.journal.specs.declared.event.Told.{Told}
 use Rattle.journal.specs.declared.event.Told.TheVariants.{Start, Keep, End}
 use Rattle.journal.specs.declared.event.Reason.TheVariants.{Differs}
 use Rattle.versioned_graph.specs.Entries.{Stored}
-use Rattle.core_laws.specs.Tasks.{IsOut, Outcome as Ended}
+use Rattle.core_laws.specs.Tasks.{IsReady, IsOut, Outcome as Ended}
 use Rattle.dice_tasks.specs.Helds.{Held, held_of}
 use Rattle.dice_tasks.specs.Hands.{DeskSeen}
-use Rattle.dice_tasks.specs.Makings.{held_run}
 use Rattle.dice_tasks.specs.Waitings.{IsTurned}
 use Rattle.dice_steps.specs.Batches.{LeavesOut, IsOfMakes, TakesUp, ending_events}
 use Rattle.dice_steps.specs.Finishings.{IsFinished, EndsAndWakes}
@@ -55,9 +54,9 @@ module _ {K V : Type 0} (eq : K → K → Bool) (m : Meaning K V) (veq : V → V
     pub entries : IsFinished eq m veq cells v s.job.name.key x s.job.answered es fs
 
   -- what becomes of the tasks and the entries by a step: its value ends its task; a check that found all as it was ends it with the value that was
-  -- checked; one that found a change makes it compute from the beginning; and a batch is taken up
+  -- checked; one that found a change makes it compute, from the answers that the check has; and a batch is taken up
   abbrev pub IsTakenUp : DeskSeen K V → DeskSeen K V → Outcome K V → Type 0
   IsTakenUp d e (Valued x) = EndsIn x
   IsTakenUp d e Unchanged = (x : V) × (T : List (Answered K V)) × (b : ℕ) × (s.job.work ≡ Checks x T b) × EndsIn x
-  IsTakenUp d e (Changed j) = IsTurned eq s.job.name.key (held_of s.job IsOut) (held_run s.job.name) ps qs × (fs ≡ es)
+  IsTakenUp d e (Changed j) = IsTurned eq s.job.name.key (held_of s.job IsOut) (held_of (computing s.job) IsReady) ps qs × (fs ≡ es)
   IsTakenUp d e (Wanting ks) = TakesUp eq m v s.job ks ps d qs e × IsBatchDone eq m v s.job ks cells ps d es qs e fs

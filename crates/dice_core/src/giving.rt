@@ -146,7 +146,7 @@ fn end_or_differ<U: Universe>(
             alloc, universe, cells, graph, desk, tasks, owed, version, key, step, earlier,
         ),
         (Report::Differs(dep), Some(earlier)) => {
-            differs::<U>(alloc, desk, tasks, owed, version, key, step, earlier, dep)
+            differs::<U>(desk, tasks, owed, version, key, step, earlier, dep)
         }
         _ => unreachable!(),
     }

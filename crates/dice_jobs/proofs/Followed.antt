@@ -1,11 +1,14 @@
 -- Answers that follow a trace: those that are as they were make up its beginning.
-use Rattle.std.proofs.Common.{◌≡◌, ℕ, Bool, List, [], ◌∷◌, ◌++◌, length, refl, subst, append_assoc, append-nil, arith}
+use Rattle.std.proofs.Common.{◌≡◌, ℕ, Bool, List, [], ◌∷◌, ◌++◌, length, refl, subst, append_assoc, append-nil, arith, sym}
 use Rattle.std.specs.List.{AllZip}
+use Rattle.std.proofs.lemmas.Slice.Zip.{AllZip-long}
 use Rattle.dice_key.specs.Meaning.{Meaning, Answered, Asks}
 use Rattle.dice_key.specs.Lawful.{IsLawful}
 use Rattle.dice_model.specs.Eval.{HasValue}
 use Rattle.dice_model.specs.Asks.{AllTrue, Goes}
+use Rattle.dice_model.proofs.Finite.{goes_last}
 use Rattle.dep_recorder.specs.Checks.{values_of}
+use Rattle.dice_jobs.specs.Jobs.{AsksThese}
 use Rattle.dice_jobs.specs.Truths.{Follows}
 
 module _ {K V : Type 0} where
@@ -77,3 +80,18 @@ module _ {K V : Type 0} (eq : K → K → Bool) (m : Meaning K V) (law : IsLawfu
   pub asks_here : (acc before after : List (Answered K V)) (b : Answered K V) → Goes eq m C w k acc (before ++ b ∷ after) → m.next k (acc ++ before) v ≡ Asks b.keys
   asks_here acc [] after b g = rw append-nil (law.asks_alike k acc w v b.keys g.0)
   asks_here acc (c ∷ cs) after b g = subst (λ A. m.next k A v ≡ Asks b.keys) (append_assoc acc (c ∷ []) cs) (asks_here (acc ++ c ∷ []) cs after b g.2)
+
+  -- a trace of k at w whose batches are answered as they were, up to one that has other values at v: k asks these at v
+  pub goes_changed : (before after : List (Answered K V)) (b : Answered K V) (ys : List V) → Goes eq m C w k [] (before ++ b ∷ after) → AllTrue (HasValue eq m C v) (before ++ record { keys = b.keys; values = ys } ∷ []) → Goes eq m C v k [] (before ++ record { keys = b.keys; values = ys } ∷ [])
+  goes_changed before after b ys g t =
+      let l : Answered K V = record { keys = b.keys; values = ys } in
+      goes_last eq m law C v k [] before l (goes_here [] before (b ∷ after) g (true_front (HasValue eq m C v) before (l ∷ []) t)) (asks_here [] before after b g) (true_end (HasValue eq m C v) before l t)
+
+module _ {K V : Type 0} (eq : K → K → Bool) (m : Meaning K V) (C : List (List (K × V))) (v : ℕ) (k : K) where
+  asked_there : (acc before after : List (Answered K V)) (b : Answered K V) → Goes eq m C v k acc (before ++ b ∷ after) → (m.next k (acc ++ before) v ≡ Asks b.keys) × (length b.values ≡ length b.keys)
+  asked_there acc [] after b g = (subst (λ A. m.next k A v ≡ Asks b.keys) (sym (append-nil acc)) g.0, AllZip-long (HasValue eq m C v) b.keys b.values g.1)
+  asked_there acc (c ∷ cs) after b g = let r = asked_there (acc ++ c ∷ []) cs after b g.2 in (subst (λ A. m.next k A v ≡ Asks b.keys) (append_assoc acc (c ∷ []) cs) r.0, r.1)
+
+  -- what k goes through at v are batches that it asks, with a value for each key
+  pub asks_these : (A : List (Answered K V)) → Goes eq m C v k [] A → AsksThese m k v A
+  asks_these A g before after b e = asked_there [] before after b (subst (λ B. Goes eq m C v k [] B) e g)

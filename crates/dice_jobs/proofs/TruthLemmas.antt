@@ -9,9 +9,9 @@ use Rattle.dice_model.specs.Asks.{AllTrue, Goes, AsksFor, IsTrace}
 use Rattle.dice_model.proofs.Finite.{goes_last}
 use Rattle.dice_model.proofs.Stable.{goes_stable, true_stable}
 use Rattle.dep_recorder.specs.Checks.{Finding, Wants, IsSame, HasChanged, finding, values_of, IsNextBatch}
-use Rattle.dice_jobs.specs.Jobs.{Name, Work, Computes, Checks, Assigned, Outcome, Wanting, Valued, Unchanged, Changed, Stepped, of_move, of_finding, comes, Explains, IsExplained, IsStepOf, answered_more}
+use Rattle.dice_jobs.specs.Jobs.{Name, Work, Computes, Checks, Assigned, Outcome, Wanting, Valued, Unchanged, Changed, Stepped, of_move, of_finding, comes, Explains, IsExplained, IsStepOf, AsksThese, answered_more, computing}
 use Rattle.dice_jobs.specs.Truths.{Follows, IsEarlier, AreAnswers, IsTrueJob, ChangesFirst}
-use Rattle.dice_jobs.proofs.Followed.{same_front, changed_front, follows_next, true_last, true_end, true_front, zip_front, goes_here, asks_here}
+use Rattle.dice_jobs.proofs.Followed.{same_front, changed_front, follows_next, true_last, true_end, true_front, zip_front, goes_here, asks_here, goes_changed, asks_these}
 use Rattle.lists.specs.Lists.{Has}
 
 module _ {K V : Type 0} where
@@ -102,6 +102,13 @@ module _ {K V : Type 0} (eq : K → K → Bool) (m : Meaning K V) (law : IsLawfu
           other = c.changed;
         }
 
+    -- what a check that found a change was answered, its key asks
+    turned : (x : V) (T A : List (Answered K V)) (d : K) → IsEarlier eq m C n.key T x → Follows T A → AllTrue (HasValue eq m C n.version) A → Explains T (values_of A) (Changed d) → Goes eq m C n.version n.key [] A
+    turned x T A d e f t h =
+        let c = h.2 in
+        let s : A ≡ c.before ++ record { keys = c.batch.keys; values = c.answers } ∷ [] = changed_front c.before c.after A c.batch c.answers (subst (λ U. Follows U A) c.trace_is f) c.fed_is in
+        subst (λ B. Goes eq m C n.version n.key [] B) (sym s) (goes_changed eq m law C e.version n.version n.key c.before c.after c.batch c.answers (subst (λ U. Goes eq m C e.version n.key [] U) c.trace_is e.traced.goes) (subst (λ B. AllTrue (HasValue eq m C n.version) B) s t))
+
   module _ (veq : V → V → Bool) (a : Assigned K V) (s : Stepped K V) (j : IsTrueJob eq m C a) (i : IsStepOf m veq s a) where
     pub step_asks : (ks : List K) (k : K) → s.outcome ≡ Wanting ks → Has ks k → AsksFor eq m C a.name.version a.name.key k
     step_asks ks k w h =
@@ -130,7 +137,17 @@ module _ {K V : Type 0} (eq : K → K → Bool) (m : Meaning K V) (law : IsLawfu
         let e : IsExplained (Checks x T b) a.answered (Changed d) = subst (λ W. IsExplained W a.answered (Changed d)) q (subst (λ o. IsExplained a.work a.answered o) w i.explained) in
         changed veq a.name T a.answered d h.1 h.2 e
 
+    pub stays_turned : (x : V) (T : List (Answered K V)) (b : ℕ) (d : K) → a.work ≡ Checks x T b → s.outcome ≡ Changed d → IsTrueJob eq m C (computing a)
+    stays_turned x T b d q w =
+        let h : AreAnswers eq m C a.name.key a.name.version (Checks x T b) a.answered = subst (λ W. AreAnswers eq m C a.name.key a.name.version W a.answered) q j.answers in
+        let e : IsExplained (Checks x T b) a.answered (Changed d) = subst (λ W. IsExplained W a.answered (Changed d)) q (subst (λ o. IsExplained a.work a.answered o) w i.explained) in
+        record { computed = j.computed; within = j.within; answers = turned veq a.name x T a.answered d h.0 h.1 h.2 e }
+
 module _ {K V : Type 0} (eq : K → K → Bool) (m : Meaning K V) (C D : List (List (K × V))) where
+  -- a true computation asks the batches that it was answered
+  pub true_asks : (a : Assigned K V) → IsTrueJob eq m C a → a.work ≡ Computes → AsksThese m a.name.key a.name.version a.answered
+  true_asks a j e = asks_these eq m C a.name.version a.name.key a.answered (subst (λ W. AreAnswers eq m C a.name.key a.name.version W a.answered) e j.answers)
+
   earlier_stays : (k : K) (T : List (Answered K V)) (x : V) → IsEarlier eq m C k T x → IsEarlier eq m (C ++ D) k T x
   earlier_stays k T x e =
       let l = length-append C D in

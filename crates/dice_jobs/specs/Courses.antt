@@ -4,7 +4,7 @@ use Rattle.std.specs.Arc.{arc_value}
 use Rattle.dice_key.specs.Meaning.{Meaning, Answered, Running, Asks, Ends, Takes, next_of, resumed}
 use Rattle.dice_key.specs.declared.universe.Kind.TheVariants.{Injected}
 use Rattle.dep_recorder.specs.Checks.{Checked, Wants, IsSame, HasChanged, IsWantingOf, finding, values_of}
-use Rattle.dice_jobs.specs.Jobs.{Work, Computes, Checks, Assigned, Outcome, Wanting, Valued, Unchanged, Changed, stand_of, outcome_of, Explains, IsExplained}
+use Rattle.dice_jobs.specs.Jobs.{Work, Computes, Checks, Assigned, Outcome, Wanting, Valued, Unchanged, Changed, AsksThese, stand_of, outcome_of, Explains, IsExplained}
 use Rattle.dice_jobs.specs.declared.parked.Course.{Course}
 use Rattle.dice_jobs.specs.declared.parked.Course.TheVariants.{Run, Check}
 use Rattle.dice_jobs.specs.declared.job.Ready.{Ready}
@@ -58,10 +58,10 @@ module _ {U K V R : Type 0} (m : Meaning K V) (eq : V → V → Bool) (running :
   GoesWith a ks (Run r) = (a.work ≡ Computes) × (running r.value ≡ stand_of a) × (m.next a.name.key a.answered a.name.version ≡ Asks ks)
   GoesWith a ks (Check c) = HasTrace a.work c.value.trace × (c.value.fed ≡ values_of a.answered) × (finding eq c.value.trace c.value.fed ≡ Wants ks)
 
-  -- what the job goes on with is ready for it: at its beginning; or when the answers to the batch last asked are at hand, which
+  -- what the job goes on with is ready for it: where a run begins, which asks the batches that are answered; or when the answers to the batch last asked are at hand, which
   -- are the last that the job was answered
   abbrev pub IsReady : Assigned K V → Ready U K V R → Type 0
-  IsReady a ready.Begin = (a.work ≡ Computes) × (a.answered ≡ []) × (m.kind a.name.key ≢ Injected)
+  IsReady a ready.Begin = (a.work ≡ Computes) × (m.kind a.name.key ≢ Injected) × AsksThese m a.name.key a.name.version a.answered
   IsReady a (ready.Resume r xs) = (a.work ≡ Computes) × Takes (next_of m (running r.value)) (length xs) × (resumed m (running r.value) xs ≡ stand_of a)
   IsReady a (ready.Check c) = HasTrace a.work c.value.trace × (c.value.fed ≡ values_of a.answered)
   IsReady a (ready.Feed c xs) = HasTrace a.work c.value.trace × IsWantingOf (length xs) (finding eq c.value.trace c.value.fed) × (c.value.fed ++ xs ∷ [] ≡ values_of a.answered)

@@ -57,6 +57,14 @@ module _ {K V : Type 0} where
   abbrev pub answered_more : Assigned K V → List K → List V → Assigned K V
   answered_more a ks xs = record { name = a.name; answered = a.answered ++ record { keys = ks; values = xs } ∷ []; work = a.work }
 
+  -- the same key, and the same batches answered, from which its value is computed
+  abbrev pub computing : Assigned K V → Assigned K V
+  computing a = record { name = a.name; answered = a.answered; work = Computes }
+
+  -- the same key, and the same batches answered, by which an earlier value is checked
+  abbrev pub checking : Assigned K V → V → List (Answered K V) → ℕ → Assigned K V
+  checking a x T b = record { name = a.name; answered = a.answered; work = Checks x T b }
+
   -- the job that a step leaves waiting, where it wants keys
   abbrev pub waiting_after : Assigned K V → Outcome K V → Option (Waits K V)
   waiting_after a (Wanting ks) = Some (record { job = a; keys = ks })
@@ -76,6 +84,11 @@ module _ {K V : Type 0} where
   abbrev pub IsExplained : Work K V → List (Answered K V) → Outcome K V → Type 0
   IsExplained Computes A o = Unit {0}
   IsExplained (Checks x T b) A o = Explains T (values_of A) o
+
+module _ {K V : Type 0} (m : Meaning K V) where
+  -- k asks these batches at v, one after the other, and each has a value for each of its keys
+  abbrev pub AsksThese : K → ℕ → List (Answered K V) → Type 0
+  AsksThese k v A = (before after : List (Answered K V)) (b : Answered K V) → A ≡ before ++ b ∷ after → (m.next k before v ≡ Asks b.keys) × (length b.values ≡ length b.keys)
 
 module _ {K V : Type 0} (m : Meaning K V) (eq : V → V → Bool) where
   -- what comes of this work for a key at a version, after these answered batches: of a computation the key's next move; of a check

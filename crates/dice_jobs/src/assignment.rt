@@ -2,7 +2,7 @@
 ghost use Rattle.std.specs.Prelude.{◌≡◌, [], length, IfOk, IsTrue, ◌↔◌, Some};
 ghost use Rattle.std.specs.Option.{option_copied};
 ghost use Rattle.std.specs.Arc.{arc_value};
-ghost use Rattle.dice_jobs.specs.Jobs.{answered_more, Computes};
+ghost use Rattle.dice_jobs.specs.Jobs.{answered_more, computing, Computes};
 ghost use Rattle.dice_jobs.specs.Shapes.{answers_in, batches_in, work_in, work_of};
 
 use crate::name::JobName;
@@ -138,6 +138,26 @@ impl<U: Universe> Assignment<U> {
         }
     }
 
+    /// The answered batches, where there are any.
+    pub(crate) fn batches(&self) -> Option<&Arc<Trace<U>>>
+        ensures { batches_in (option_copied result) ≡ self.now.answered }
+    {
+        answers_of(&self.progress)
+    }
+
+    /// The same answered batches, from which the key's value is computed. They are shared, not copied.
+    pub fn computing(&self) -> Result<Assignment<U>, NoMemory>
+        ensures { IfOk result (λ a. a ≡ computing self.now) }
+    {
+        let name = self.name.try_clone()?;
+        let progress = run_after(&self.progress)?;
+        Ok(Assignment {
+            alloc: self.alloc,
+            name,
+            progress,
+        })
+    }
+
     /// The same assignment again. All that it holds is shared, not copied.
     pub fn try_clone(&self) -> Result<Assignment<U>, NoMemory>
         ensures { IfOk result (λ a. a ≡ self.now) }
@@ -235,6 +255,17 @@ fn copied<U: Universe>(progress: &Progress<U>) -> Result<Progress<U>, NoMemory>
         Progress::Begins => Ok(Progress::Begins),
         Progress::Runs(trace) => Ok(Progress::Runs(Arc::try_clone(trace)?)),
         Progress::Checks(checking) => Ok(Progress::Checks(Arc::try_clone(checking)?)),
+    }
+}
+
+/// The same answered batches, shared, from which the key's value is computed.
+fn run_after<U: Universe>(progress: &Progress<U>) -> Result<Progress<U>, NoMemory>
+    ensures answers { IfOk result (λ p. answers_in p ≡ answers_in progress.now) }
+    ensures work { IfOk result (λ p. work_in p ≡ Computes) }
+{
+    match answers_of(progress) {
+        Some(trace) => Ok(Progress::Runs(Arc::try_clone(trace)?)),
+        None => Ok(Progress::Begins),
     }
 }
 

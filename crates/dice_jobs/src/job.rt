@@ -3,7 +3,8 @@ ghost use Rattle.std.specs.Prelude.{◌≡◌, ◌≢◌, [], length, IfOk, IfEr
 ghost use Rattle.dice_key.specs.declared.universe.Kind.TheVariants.{Injected};
 ghost use Rattle.dice_key.specs.Meaning.{Takes, next_of, resumed};
 ghost use Rattle.dice_key.specs.Lawful.{IsStep};
-ghost use Rattle.dice_jobs.specs.Jobs.{Computes, IsStepOf};
+ghost use Rattle.dep_recorder.specs.Recordings.{values_in};
+ghost use Rattle.dice_jobs.specs.Jobs.{Computes, AsksThese, IsStepOf, stand_of};
 ghost use Rattle.dice_jobs.specs.Shapes.{work_of};
 ghost use Rattle.dice_jobs.specs.Courses.{IsReady, IsEnding, RunEnds, CheckEnds};
 
@@ -20,7 +21,7 @@ use std::sync::Arc;
 /// How a job goes on.
 #[derive(Drop)]
 pub(crate) enum Ready<U: Universe> {
-    /// A run begins.
+    /// A run begins, and goes through the batches that are answered.
     Begin,
     /// The run goes on with the answers to the batch that it last asked.
     Resume(Box<U::Run>, Answers<U::Value>),
@@ -84,6 +85,20 @@ impl<U: Universe> Job<U> {
         })
     }
 
+    /// A run of a key that is not injected, after these answered batches, which are those that it asks first. It begins, and goes
+    /// through them, when it is advanced. It takes no memory.
+    pub fn replay(assignment: Assignment<U>) -> Job<U>
+        requires work { assignment.work ≡ Computes }
+        requires kind { U.meaning.kind assignment.name.key ≢ Injected }
+        requires asks { AsksThese U.meaning assignment.name.key assignment.name.version assignment.answered }
+        ensures { result ≡ assignment }
+    {
+        Job {
+            assignment,
+            ready: Ready::Begin,
+        }
+    }
+
     /// What the job is for.
     pub fn assignment(&self) -> &Assignment<U>
         ensures { result.now ≡ self.now }
@@ -124,7 +139,7 @@ fn ending_of<U: Universe>(
     ensures { IfOk result (λ e. IsEnding U.meaning U.Value.eq U.running assignment.now e) }
 {
     match ready {
-        Ready::Begin => begun(assignment.alloc(), universe, assignment.name()),
+        Ready::Begin => begun(universe, assignment),
         Ready::Resume(run, answers) => resumed(universe, run, &answers),
         Ready::Check(check) => checked(assignment.alloc(), check),
         Ready::Feed(mut check, answers) => {
@@ -134,19 +149,41 @@ fn ending_of<U: Universe>(
     }
 }
 
-/// The first move of a run.
-fn begun<U: Universe>(alloc: Global, universe: &U, name: &JobName<U>) -> Result<Ending<U>, NoMemory>
-    requires { U.meaning.kind name.now.key ≢ Injected }
-    ensures { IfOk result (λ e. RunEnds U.meaning U.running (record { key = name.now.key; version = name.now.version; answered = [] }) e) }
+/// The move of a run after the batches that were answered so far: it begins, and goes through them.
+fn begun<U: Universe>(universe: &U, assignment: &Assignment<U>) -> Result<Ending<U>, NoMemory>
+    requires kind { U.meaning.kind assignment.now.name.key ≢ Injected }
+    requires asks { AsksThese U.meaning assignment.now.name.key assignment.now.name.version assignment.now.answered }
+    ensures { IfOk result (RunEnds U.meaning U.running (stand_of assignment.now)) }
 {
-    let (run, step) = universe.begin(name.key(), name.version())?;
+    let name = assignment.name();
+    let (mut run, mut step) = universe.begin(name.key(), name.version())?;
+    if let Some(trace) = assignment.batches() {
+        for at in 0..trace.len() {
+            let answers = copied_values(assignment.alloc(), trace.batch(at))?;
+            step = universe.resume(&mut run, &answers)?;
+        }
+    }
     match step {
         Move::Ask(batch) => {
-            let run = Box::new(alloc, run)?;
+            let run = Box::new(assignment.alloc(), run)?;
             Ok(Ending::Asks(batch, Course::Run(run)))
         }
         Move::Done(value) => Ok(Ending::Done(value)),
     }
+}
+
+/// The answers of a batch. They are shared, not copied.
+fn copied_values<K, V: Drop>(
+    alloc: Global,
+    pairs: &[(Arc<K>, Arc<V>)],
+) -> Result<Answers<V>, NoMemory>
+    ensures { IfOk result (λ a. a ≡ values_in pairs.now) }
+{
+    let mut values = Vec::with_capacity(alloc, pairs.len())?;
+    for (_, value) in pairs {
+        values.push(Arc::try_clone(value)?)?;
+    }
+    Ok(Answers::from_values(values))
 }
 
 /// The next move of a run.

@@ -5,19 +5,22 @@ ghost use Rattle.dice_key.specs.Meaning.{Answered};
 ghost use Rattle.dice_key.specs.declared.universe.Kind.TheVariants.{Injected};
 ghost use Rattle.dice_model.specs.Eval.{HasValue};
 ghost use Rattle.dice_model.specs.Asks.{AsksFor, IsTrace};
-ghost use Rattle.dice_jobs.specs.Jobs.{Name, Assigned, Stepped, Computes, Checks, Wanting, Valued, Unchanged, Changed, IsStepOf, answered_more};
+ghost use Rattle.dice_jobs.specs.Jobs.{Name, Assigned, Stepped, Computes, Checks, Wanting, Valued, Unchanged, Changed, IsStepOf, AsksThese, answered_more, computing};
 ghost use Rattle.dice_jobs.specs.Truths.{IsEarlier, IsTrueJob, ChangesFirst};
 ghost use Rattle.lists.specs.Lists.{Has};
 
 use dice_key::{Universe, laws_of};
 
-/// A job whose answers are the values at its version stays so: at its beginning, over every log that goes on, and when the keys
-/// that its step wants are answered with their values.
+/// A job whose answers are the values at its version stays so: at its beginning, over every log that goes on, when the keys that
+/// its step wants are answered with their values, and where a check that found a change goes on as a computation with the answers
+/// that it has. Such a computation asks the batches that it was answered.
 pub fn jobs_stay_true<U: Universe>()
     ensures begun { (C : List (List (U.Key × U.Value))) (n : Name U.Key) → U.meaning.kind n.key ≢ Injected → n.version ≤ length C → IsTrueJob U.Key.eq U.meaning C (record { name = n; answered = []; work = Computes }) }
     ensures checked { (C : List (List (U.Key × U.Value))) (n : Name U.Key) (x : U.Value) (T : List (Answered U.Key U.Value)) (b : ℕ) → U.meaning.kind n.key ≢ Injected → n.version ≤ length C → IsEarlier U.Key.eq U.meaning C n.key T x → IsTrueJob U.Key.eq U.meaning C (record { name = n; answered = []; work = Checks x T b }) }
     ensures longer { (C D : List (List (U.Key × U.Value))) (a : Assigned U.Key U.Value) → IsTrueJob U.Key.eq U.meaning C a → IsTrueJob U.Key.eq U.meaning (C ++ D) a }
     ensures answered { (C : List (List (U.Key × U.Value))) (a : Assigned U.Key U.Value) (s : Stepped U.Key U.Value) (ks : List U.Key) (xs : List U.Value) → IsTrueJob U.Key.eq U.meaning C a → IsStepOf U.meaning U.Value.eq s a → s.outcome ≡ Wanting ks → AllZip (HasValue U.Key.eq U.meaning C a.name.version) ks xs → IsTrueJob U.Key.eq U.meaning C (answered_more a ks xs) }
+    ensures changed { (C : List (List (U.Key × U.Value))) (a : Assigned U.Key U.Value) (s : Stepped U.Key U.Value) (x : U.Value) (T : List (Answered U.Key U.Value)) (b : ℕ) (d : U.Key) → IsTrueJob U.Key.eq U.meaning C a → IsStepOf U.meaning U.Value.eq s a → a.work ≡ Checks x T b → s.outcome ≡ Changed d → IsTrueJob U.Key.eq U.meaning C (computing a) }
+    ensures asked { (C : List (List (U.Key × U.Value))) (a : Assigned U.Key U.Value) → IsTrueJob U.Key.eq U.meaning C a → a.work ≡ Computes → AsksThese U.meaning a.name.key a.name.version a.answered }
 {
     laws_of::<U>();
 }

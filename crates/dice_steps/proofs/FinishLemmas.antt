@@ -5,10 +5,13 @@ use Rattle.std.specs.Option.{option_map}
 use Rattle.dice_key.specs.Lawful.{IsEquality, IsLawful}
 use Rattle.dice_key.specs.Meaning.{Meaning, Answered, Step, Asks, Ends}
 use Rattle.dice_key.specs.declared.universe.Kind.TheVariants.{Injected}
-use Rattle.dice_model.specs.Asks.{IsTrace}
+use Rattle.dice_model.specs.Asks.{AllTrue, Goes, IsTrace}
+use Rattle.dice_model.specs.Eval.{HasValue}
 use Rattle.dice_model.proofs.Traces.{trace_value}
 use Rattle.dep_recorder.specs.Checks.{Finding, Wants, IsSame, HasChanged, finding, values_of}
-use Rattle.dice_jobs.specs.Jobs.{Name, Work, Computes, Checks, Assigned, Stepped, Wanting, Valued, Unchanged, Changed, Explains, IsExplained, IsStepOf, comes, outcome_of, of_move, of_finding}
+use Rattle.dice_jobs.specs.Jobs.{Name, Work, Computes, Checks, Assigned, Stepped, Wanting, Valued, Unchanged, Changed, Explains, IsExplained, IsStepOf, AsksThese, comes, outcome_of, of_move, of_finding}
+use Rattle.dice_jobs.specs.Truths.{Follows}
+use Rattle.dice_jobs.proofs.Followed.{changed_front, goes_changed, asks_these}
 use Rattle.task_share.specs.Asked.{By, Promised, Tasked, is_by}
 use Rattle.task_share.specs.Seen.{Share, task_at, is_live, asks, asked_of}
 use Rattle.injected.specs.Seen.{Seen}
@@ -19,7 +22,7 @@ use Rattle.journal.specs.declared.event.Reason.{Reason}
 use Rattle.journal.specs.Events.{commits_of, open_count}
 use Rattle.versioned_graph.specs.Entries.{Stored}
 use Rattle.core_laws.specs.Tasks.{IsReady, IsOut, WithValue, Works, batch_of, waits_for, goes_on}
-use Rattle.core_laws.specs.Stands.{VersionStands}
+use Rattle.core_laws.specs.Stands.{WorkStands, VersionStands}
 use Rattle.core_laws.specs.Changes.{ChangesFirst}
 use Rattle.core_laws.specs.Desk.{World, ready_in}
 use Rattle.core_laws.proofs.Shapes.{same_or_other}
@@ -149,6 +152,18 @@ module _ {K V : Type 0} (eq : K → K → Bool) (equality : IsEquality eq) (m : 
 
     pub computed : m.kind k ≢ Injected
     computed = (stands.each k (task_of (held_of a IsOut)) (ap (option_map task_of) out)).computed
+
+    -- where a check found a change, the key asks the batches that the check was answered
+    pub turned_asks : (x : V) (T : List (Answered K V)) (b : ℕ) (d : K) → a.work ≡ Checks x T b → ChangesFirst T a.answered d → AsksThese m k v a.answered
+    turned_asks x T b d work f =
+        let C = commits_of R in
+        let t = stands.each k (task_of (held_of a IsOut)) (ap (option_map task_of) out) in
+        let h : WorkStands eq m R v k (Checks x T b) a.answered = subst (λ z. WorkStands eq m R v k z a.answered) work t.standing.work in
+        let l : Answered K V = record { keys = f.batch.keys; values = f.answers } in
+        let e : a.answered ≡ f.before ++ l ∷ [] = changed_front f.before f.later a.answered f.batch f.answers (subst (λ B. Follows B a.answered) f.trace_is h.1) f.answered in
+        let was : Goes eq m C h.0.finished k [] (f.before ++ f.batch ∷ f.later) = subst (Goes eq m C h.0.finished k []) f.trace_is h.0.traced.goes in
+        let g = goes_changed eq m law C h.0.finished v k f.before f.later f.batch f.answers was (subst (AllTrue (HasValue eq m C v)) e h.2) in
+        asks_these eq m C v k a.answered (subst (Goes eq m C v k []) (sym e) g)
 
   pub stands_at : (w : World K V) (owed : ℕ) (ps : List (K × Share K (Held K V))) (d : DeskSeen K V) (es : List (K × Stored K V)) (s : Seen K V) → AtHand eq m v w owed ps d es s → VersionStands eq m (reverse d.events) v [] (asked_of eq ps) (tasks_of eq ps)
   stands_at w owed ps d es s at = stands_here eq equality m (reverse d.events) v [] (asked_of eq ps) (tasks_of eq ps) w (desk_of d) owed at.working.stand

@@ -1,7 +1,7 @@
 //! Steps that ask no batch: a run that is done, and a check that found all the same or a change.
 ghost use Rattle.std.specs.Prelude.{◌≡◌, ◌<◌, ◌++◌, ◌∷◌, [], List, Some, IfOk, OnOk, OnErr};
 ghost use Rattle.std.specs.Arc.{arc_value};
-ghost use Rattle.dice_jobs.specs.Jobs.{Valued, Unchanged, Changed, IsStepOf};
+ghost use Rattle.dice_jobs.specs.Jobs.{Valued, Unchanged, Changed, IsStepOf, computing};
 ghost use Rattle.dice_jobs.specs.Shapes.{work_of};
 ghost use Rattle.task_share.specs.Seen.{task_at};
 ghost use Rattle.injected.specs.Seen.{Seen};
@@ -9,13 +9,12 @@ ghost use Rattle.versioned_graph.specs.Entries.{Stored};
 ghost use Rattle.journal.specs.declared.event.Told.TheVariants.{Start, Keep, End};
 ghost use Rattle.journal.specs.declared.event.Reason.TheVariants.{Differs};
 ghost use Rattle.journal.specs.Tell.{told};
-ghost use Rattle.core_laws.specs.Tasks.{IsOut};
+ghost use Rattle.core_laws.specs.Tasks.{IsReady, IsOut};
 ghost use Rattle.core_laws.specs.Desk.{World};
 ghost use Rattle.dice_steps.specs.AtHand.{AtHand};
 ghost use Rattle.dice_steps.specs.Finishings.{EndsWith, IsFinished, EndsAndWakes, IsRefused};
 ghost use Rattle.dice_tasks.specs.Hands.{KeepsHands, KeepsDeskRoom};
 ghost use Rattle.dice_tasks.specs.Helds.{held_of};
-ghost use Rattle.dice_tasks.specs.Makings.{held_run};
 ghost use Rattle.dice_tasks.specs.Waitings.{IsTurned};
 ghost use Rattle.dice_steps.specs.Wokens.{HasAnswers, AreWoken};
 
@@ -103,9 +102,8 @@ pub fn same<U: Universe>(
 }
 
 /// A check of an earlier value that was out found that the answer to this key has changed: a Start tells it, and the task computes
-/// the value from the beginning. At an error nothing that is seen has changed.
+/// the value, from the answers that the check has. At an error nothing that is seen has changed.
 pub fn differs<U: Universe>(
-    alloc: Global,
     desk: &mut Desk<U>,
     tasks: &mut Tasks<U>,
     owed: usize,
@@ -121,14 +119,14 @@ pub fn differs<U: Universe>(
     requires differs { step.now.outcome ≡ Changed (arc_value dep.now) }
     requires earlier { work_of (Some earlier.now) ≡ step.now.job.work }
     ensures events { OnOk result (desk.new.events ≡ desk.old.events ++ Start version (arc_value key.now) (Differs earlier.now.base (arc_value dep.now)) ∷ []) }
-    ensures given { OnOk result (IsTurned U.Key.eq (arc_value key.now) (held_of step.now.job IsOut) (held_run step.now.job.name) tasks.old tasks.new) }
+    ensures given { OnOk result (IsTurned U.Key.eq (arc_value key.now) (held_of step.now.job IsOut) (held_of (computing step.now.job) IsReady) tasks.old tasks.new) }
     ensures err { OnErr result ((tasks.new ≡ tasks.old) × KeepsHands desk.old desk.new × KeepsDeskRoom desk.old desk.new) }
     ensures kept { (w : World U.Key U.Value) (es : List (U.Key × Stored U.Key U.Value)) (cells : Seen U.Key U.Value) → AtHand U.Key.eq U.meaning version w owed tasks.old desk.old es cells → AtHand U.Key.eq U.meaning version w owed tasks.new desk.new es cells }
 {
     laws_of::<U>();
     let cause = Cause::Differs(earlier.base, Arc::try_clone(dep)?);
     let event = Event::Start(version, Arc::try_clone(key)?, cause);
-    let job = Job::begin(alloc, step.assignment().name().try_clone()?);
+    let job = Job::replay(step.assignment().computing()?);
     let own = job.assignment().try_clone()?;
     desk.reserve(owed, 1, 0)?;
     differ(desk, tasks, version, key, event, job, own);

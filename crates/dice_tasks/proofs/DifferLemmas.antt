@@ -19,24 +19,24 @@ use Rattle.dice_tasks.specs.Endings.{Quits, Knows, BeginsAnew}
 use Rattle.dice_tasks.proofs.EndsLemmas.{back_more, outs_after, puts_of, named_put, working_knows}
 use Rattle.dice_jobs.specs.Jobs.{Checks, Computes}
 
--- a task that computes from the beginning
-abbrev pub anew : {K V : Type 0} → Held K V → Held K V
-anew h = record { name = h.name; standing = Works Computes IsReady [] }
+-- a task that computes from these answers
+abbrev pub anew : {K V : Type 0} → Held K V → List (Answered K V) → Held K V
+anew h A = record { name = h.name; standing = Works Computes IsReady A }
 
 module _ {K V : Type 0} (eq : K → K → Bool) (equality : IsEquality eq) (m : Meaning K V) (law : IsLawful m) (v : ℕ) where
   module _ (k : K) (h : Held K V) (ps qs : List (K × Share K (Held K V))) (d e : DeskSeen K V) (T A : List (Answered K V)) (y : V) (b : ℕ) (i : K) (at : h.standing ≡ Works (Checks y T b) IsOut A) where
     -- the desk follows
-    begins_turns : (r : DeskSeen K V) (x : Told K V) → Returns (v, k) d r → DeskTurns v k (Some (task_of h)) (Some (task_of (anew h))) (desk_of d) (desk_of (with_event r x))
-    begins_turns r x q = subst (λ s. DeskTurns v k (Some (record { born = h.name.born; standing = s })) (Some (task_of (anew h))) (desk_of d) (desk_of (with_event r x))) (sym at) (record { ready = q.ready; out = q.count; live = q.rest.live })
+    begins_turns : (r : DeskSeen K V) (x : Told K V) → Returns (v, k) d r → DeskTurns v k (Some (task_of h)) (Some (task_of (anew h A))) (desk_of d) (desk_of (with_event r x))
+    begins_turns r x q = subst (λ s. DeskTurns v k (Some (record { born = h.name.born; standing = s })) (Some (task_of (anew h A))) (desk_of d) (desk_of (with_event r x))) (sym at) (record { ready = q.ready; out = q.count; live = q.rest.live })
 
-    pub differs_on : BeginsAnew eq v k h (anew h) (Start v k (Differs b i)) ps qs d e → ChangesFirst T A i → (W : List K) (w : World K V) (owed : ℕ) → Working eq m v W w (owed + 1) ps d → Working eq m v W w owed qs e
+    pub differs_on : BeginsAnew eq v k h (anew h A) (Start v k (Differs b i)) ps qs d e → ChangesFirst T A i → (W : List K) (w : World K V) (owed : ℕ) → Working eq m v W w (owed + 1) ps d → Working eq m v W w owed qs e
     differs_on begins changed W w owed work =
         let step = differs_stand eq equality m law (reverse d.events) v w W (asked_of eq ps) (asked_of eq qs) (tasks_of eq ps) (tasks_of eq qs) k (task_of h) T A y b i (desk_of d) (desk_of (with_event begins.ready (Start v k (Differs b i)))) (owed + 1) owed work.stand
         there at changed (work.wanted k live) begins.asks begins.live put turns room in
         subst (λ (z : DeskSeen K V). Working eq m v W w owed qs z) (sym begins.desk) (record {
           stand = subst (λ z. Stand eq m z v W (seen_world eq v qs w) (desk_of (with_event begins.ready (Start v k (Differs b i)))) owed) (sym told) step.1;
-          outs = outs_after eq equality v k (Some (task_of (anew h))) (asked_of eq ps) (asked_of eq qs) (tasks_of eq ps) (tasks_of eq qs) w put refl d (record begins.ready { ready = d.ready }) (task_of h) there quits work.outs;
-          named = named_put eq equality v k (anew h) ps qs begins.tasks (work.named k h begins.was) work.named;
+          outs = outs_after eq equality v k (Some (task_of (anew h A))) (asked_of eq ps) (asked_of eq qs) (tasks_of eq ps) (tasks_of eq qs) w put refl d (record begins.ready { ready = d.ready }) (task_of h) there quits work.outs;
+          named = named_put eq equality v k (anew h A) ps qs begins.tasks (work.named k h begins.was) work.named;
           wanted = subst (λ z. AllWanted eq m z v (asked_of eq qs)) (sym told) (all_wanted_on eq equality m law (reverse d.events) v (asked_of eq qs) (Start v k (Differs b i)) tt (all_wanted_same eq equality m law (reverse d.events) v (asked_of eq ps) (asked_of eq qs) work.wanted begins.live));
         })
       where
@@ -52,11 +52,11 @@ module _ {K V : Type 0} (eq : K → K → Bool) (equality : IsEquality eq) (m : 
         told : reverse (begins.ready.events ++ Start v k (Differs b i) ∷ []) ≡ Start v k (Differs b i) ∷ reverse d.events
         told = back_more begins.ready.events (Start v k (Differs b i)) ∙ ap (λ (z : List (Told K V)). Start v k (Differs b i) ∷ reverse z) begins.returns.rest.events
 
-        put : Puts eq k (Some (task_of (anew h))) (tasks_of eq ps) (tasks_of eq qs)
-        put = puts_of eq k (Some (anew h)) ps qs begins.tasks
+        put : Puts eq k (Some (task_of (anew h A))) (tasks_of eq ps) (tasks_of eq qs)
+        put = puts_of eq k (Some (anew h A)) ps qs begins.tasks
 
-        turns : DeskTurns v k (tasks_of eq ps k) (Some (task_of (anew h))) (desk_of d) (desk_of (with_event begins.ready (Start v k (Differs b i))))
-        turns = subst (λ (z : Option (Task K V)). DeskTurns v k z (Some (task_of (anew h))) (desk_of d) (desk_of (with_event begins.ready (Start v k (Differs b i))))) (sym there) (begins_turns begins.ready (Start v k (Differs b i)) begins.returns)
+        turns : DeskTurns v k (tasks_of eq ps k) (Some (task_of (anew h A))) (desk_of d) (desk_of (with_event begins.ready (Start v k (Differs b i))))
+        turns = subst (λ (z : Option (Task K V)). DeskTurns v k z (Some (task_of (anew h A))) (desk_of d) (desk_of (with_event begins.ready (Start v k (Differs b i))))) (sym there) (begins_turns begins.ready (Start v k (Differs b i)) begins.returns)
 
         room : 2 * begins.ready.live + owed ≤ begins.ready.spare - 1
         room = let r = work.stand.room in let l = begins.returns.rest.live in let s = begins.returns.rest.spare in omega arith

@@ -6,7 +6,7 @@ ghost use Rattle.task_share.specs.Seen.{task_at};
 ghost use Rattle.journal.specs.declared.event.Told.TheVariants.{Start};
 ghost use Rattle.journal.specs.declared.event.Reason.TheVariants.{Differs};
 ghost use Rattle.journal.specs.Tell.{told};
-ghost use Rattle.dice_jobs.specs.Jobs.{Computes, Checks};
+ghost use Rattle.dice_jobs.specs.Jobs.{Computes, checking};
 ghost use Rattle.core_laws.specs.Tasks.{IsReady, IsOut};
 ghost use Rattle.core_laws.specs.Changes.{ChangesFirst};
 ghost use Rattle.core_laws.specs.Desk.{World};
@@ -21,7 +21,7 @@ use dice_key::{KeyRef, Universe, laws_of};
 use journal::Event;
 
 /// The check of a key, which is out, found a changed answer: this event, a Start, tells it, and the task computes the key's value by
-/// this job, of which it keeps a copy. It takes no memory.
+/// this job, which goes on from the answers of the check, and of which it keeps a copy. It takes no memory.
 pub fn differ<U: Universe>(
     desk: &mut Desk<U>,
     tasks: &mut Tasks<U>,
@@ -32,12 +32,12 @@ pub fn differ<U: Universe>(
     own: Assignment<U>,
 )
     requires known { Knows U.Key.eq version tasks.old desk.old }
-    requires check { (x : U.Value) × (T : List (Answered U.Key U.Value)) × (b : ℕ) × (A : List (Answered U.Key U.Value)) × (task_at U.Key.eq tasks.old (arc_value key.now) ≡ Some (held_of (record { name = job.name; answered = A; work = Checks x T b }) IsOut)) }
+    requires check { (x : U.Value) × (T : List (Answered U.Key U.Value)) × (b : ℕ) × (task_at U.Key.eq tasks.old (arc_value key.now) ≡ Some (held_of (checking job x T b) IsOut)) }
     requires own { own ≡ job }
-    requires job { job ≡ record { name = job.name; answered = []; work = Computes } }
-    ensures begun { (x : U.Value) × (T : List (Answered U.Key U.Value)) × (b : ℕ) × (A : List (Answered U.Key U.Value)) × BeginsAnew U.Key.eq version (arc_value key.now) (held_of (record { name = job.name; answered = A; work = Checks x T b }) IsOut) (held_of job IsReady) (told event) tasks.old tasks.new desk.old desk.new }
+    requires job { job.work ≡ Computes }
+    ensures begun { (x : U.Value) × (T : List (Answered U.Key U.Value)) × (b : ℕ) × BeginsAnew U.Key.eq version (arc_value key.now) (held_of (checking job x T b) IsOut) (held_of job IsReady) (told event) tasks.old tasks.new desk.old desk.new }
     ensures tasked { AreTasked U.Key.eq tasks.old → AreTasked U.Key.eq tasks.new }
-    ensures kept { (w : World U.Key U.Value) (W : List U.Key) (owed : ℕ) (x : U.Value) (T A : List (Answered U.Key U.Value)) (base : ℕ) (changed : U.Key) → Working U.Key.eq U.meaning version W w (owed + 1) tasks.old desk.old → told event ≡ Start version (arc_value key.now) (Differs base changed) → task_at U.Key.eq tasks.old (arc_value key.now) ≡ Some (held_of (record { name = job.name; answered = A; work = Checks x T base }) IsOut) → ChangesFirst T A changed → Working U.Key.eq U.meaning version W w owed tasks.new desk.new }
+    ensures kept { (w : World U.Key U.Value) (W : List U.Key) (owed : ℕ) (x : U.Value) (T : List (Answered U.Key U.Value)) (base : ℕ) (changed : U.Key) → Working U.Key.eq U.meaning version W w (owed + 1) tasks.old desk.old → told event ≡ Start version (arc_value key.now) (Differs base changed) → task_at U.Key.eq tasks.old (arc_value key.now) ≡ Some (held_of (checking job x T base) IsOut) → ChangesFirst T job.answered changed → Working U.Key.eq U.meaning version W w owed tasks.new desk.new }
 {
     laws_of::<U>();
     let Some(task) = tasks.task_mut(key) else {

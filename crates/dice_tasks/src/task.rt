@@ -4,7 +4,7 @@ ghost use Rattle.std.specs.Arc.{arc_value};
 ghost use Rattle.std.specs.Option.{option_map};
 ghost use Rattle.dice_key.specs.declared.universe.Kind.TheVariants.{Injected};
 ghost use Rattle.dice_key.specs.Meaning.{Answered};
-ghost use Rattle.dice_jobs.specs.Jobs.{Waits, Computes, Checks, answered_more};
+ghost use Rattle.dice_jobs.specs.Jobs.{Waits, Computes, answered_more, checking};
 ghost use Rattle.dice_jobs.specs.Shapes.{work_of};
 ghost use Rattle.core_laws.specs.Tasks.{Phase, IsReady, IsOut, IsWaiting, Ended, WithValue, WithNothing, goes_on, waits_for, value_in};
 ghost use Rattle.core_laws.specs.Desk.{ready_in, out_in};
@@ -329,11 +329,12 @@ impl<U: Universe> Task<U> {
         put(&mut parts.load, Load::Job(job, own));
     }
 
-    /// The check that was out found a difference: the key's value is computed. It takes no memory.
+    /// The check that was out found a difference: the key's value is computed, from the answers that the check has. It takes no
+    /// memory.
     pub(crate) fn begin_anew(&mut self, job: Job<U>, own: Assignment<U>)
-        requires check { (x : U.Value) × (T : List (Answered U.Key U.Value)) × (b : ℕ) × (A : List (Answered U.Key U.Value)) × (self.old ≡ held_of (record { name = job.name; answered = A; work = Checks x T b }) IsOut) }
+        requires check { (x : U.Value) × (T : List (Answered U.Key U.Value)) × (b : ℕ) × (self.old ≡ held_of (checking job x T b) IsOut) }
         requires own { own ≡ job }
-        requires job { job ≡ record { name = job.name; answered = []; work = Computes } }
+        requires job { job.work ≡ Computes }
         ensures { self.new ≡ held_of job IsReady }
     {
         let parts = &mut *self.parts;

@@ -2,11 +2,10 @@ use Rattle.std.proofs.Common.{◌≡◌, ◌++◌, [], ◌∷◌, ℕ, refl, sym
 use Rattle.std.specs.Arc.{arc_value}
 use Rattle.journal.specs.declared.event.Told.TheVariants.{Start, Keep, End}
 use Rattle.journal.specs.declared.event.Reason.TheVariants.{Differs}
-use Rattle.dice_jobs.specs.Jobs.{Checks}
-use Rattle.core_laws.specs.Tasks.{IsOut}
+use Rattle.dice_jobs.specs.Jobs.{Checks, computing}
+use Rattle.core_laws.specs.Tasks.{IsReady, IsOut}
 use Rattle.dice_steps.specs.AtHand.{AtHand}
 use Rattle.dice_tasks.specs.Helds.{held_of}
-use Rattle.dice_tasks.specs.Makings.{held_run}
 use Rattle.dice_tasks.specs.Waitings.{IsTurned}
 use Rattle.dice_steps.specs.Finishings.{EndsAndWakes}
 use Rattle.dice_core.specs.Givings.{IsToldBy}
@@ -50,7 +49,7 @@ returns-in-Differs-Some-clause-taken g c =
     let checks : s.job.work ≡ Checks (arc_value earlier.value) (arc_value earlier.trace) earlier.base = sym (c.in-Differs-Some.ensures' ∙ ap (λ j. j.work) c.assignment-3.ensures) in
     on_ok c.differs.result _ _ (both_ok c.differs.result _ _ c.differs.ensures.events c.differs.ensures.given)
     (λ h. begun_gives g.U.Key.PartialEq.eq c.laws_of.ensures.keys s n.version c.args.tasks.now c.differs.new.tasks d e c.requires.out (arc_value earlier.value) (arc_value earlier.trace) earlier.base dep checks (sym c.in-Differs-Some.ensures.report)
-    (subst (λ z. IsTurned g.U.Key.PartialEq.eq z (held_of s.job IsOut) (held_run n) c.args.tasks.now c.differs.new.tasks) key h.1)
+    (subst (λ z. IsTurned g.U.Key.PartialEq.eq z (held_of s.job IsOut) (held_of (computing s.job) IsReady) c.args.tasks.now c.differs.new.tasks) key h.1)
     (subst (λ z. e.events ≡ d.events ++ Start z n.key (Differs earlier.base dep) ∷ []) at (subst (λ z. e.events ≡ d.events ++ Start c.version-version.result z (Differs earlier.base dep) ∷ []) key h.0)))
 
 pub returns-in-Done-default-clause-taken : goal.returns-in-Done-default-clause-taken

@@ -1,0 +1,8 @@
+use Rattle.std.proofs.Common.{◌≡◌, map, take}
+use Rattle.std.specs.Arc.{arc_value}
+use Rattle.dep_recorder.specs.Recordings.{values_in}
+use Rattle.dice_jobs.proofs.job.copied_values.Given as goal
+
+-- the values so far
+abbrev pub invariant-loop-value : goal.invariant-loop-value
+invariant-loop-value g l = map arc_value l.values.items ≡ values_in (take l.value-index l.pairs)
