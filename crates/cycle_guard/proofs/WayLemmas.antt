@@ -1,8 +1,10 @@
 -- Walks over the numbers of a table, and the same by key.
-use Rattle.std.proofs.Common.{◌≡◌, ◌<◌, ◌+◌, ◌⊎◌, ◌||◌, inl, inr, ℕ, suc, zero, Bool, true, false, not, cond, List, [], ◌∷◌, length, map, Option, Some, None, is_some, refl, sym, ap, ◌∙◌, subst, arith, slice_get}
+use Rattle.std.proofs.Common.{◌≡◌, ◌<◌, ◌+◌, inl, inr, ℕ, suc, zero, Bool, true, false, not, cond, eqb, List, [], ◌∷◌, ◌++◌, length, map, take, Option, Some, None, refl, sym, ap, ◌∙◌, subst, arith, slice_get, slice_index_or as get_or}
 use Rattle.std.specs.Map.{lookup, keys_of}
 use Rattle.std.specs.List.{list_any, position_or_len}
 use Rattle.std.proofs.lemmas.Option.{same_Some, none-some, slice_get_within}
+use Rattle.std.proofs.lemmas.List.{take_more}
+use Rattle.std.proofs.lemmas.Bool.{eqb-true}
 use Rattle.dice_key.specs.Lawful.{IsEquality}
 use Rattle.dice_key.proofs.KeySets.{any_has, has_any, unequal}
 use Rattle.lists.specs.Lists.{AreDistinct, Has}
@@ -33,10 +35,40 @@ module _ {K : Type 0} where
   named_first : (names : List K) (n : ℕ) (ns : List ℕ) (k : K) → slice_get names n ≡ Some k → names_at names (n ∷ ns) ≡ k ∷ names_at names ns
   named_first names n ns k e = ap (λ o. with_name o (names_at names ns)) e
 
+module _ {K : Type 0} (names : List K) where
+  names_append : (ns ms : List ℕ) → names_at names (ns ++ ms) ≡ names_at names ns ++ names_at names ms
+  names_append [] ms = refl
+  names_append (n ∷ ns) ms = ap (with_name (slice_get names n)) (names_append ns ms) ∙ by_name (slice_get names n)
+    where
+      by_name : (o : Option K) → with_name o (names_at names ns ++ names_at names ms) ≡ with_name o (names_at names ns) ++ names_at names ms
+      by_name None = refl
+      by_name (Some k) = refl
+
+  -- the keys of one number more, after a first key
+  pub next_named : (ns : List ℕ) (i n : ℕ) (first : K) (keys later : List K) → i < length ns → keys ≡ first ∷ names_at names (take i ns) → get_or ns i 0 ≡ n → later ≡ keys ++ with_name (slice_get names n) [] → later ≡ first ∷ names_at names (take (i + 1) ns)
+  next_named ns i n first keys later below e f g =
+      let t : names_at names (take (i + 1) ns) ≡ names_at names (take i ns) ++ names_at names (get_or ns i 0 ∷ []) = ap (names_at names) (take_more ns i 0 below) ∙ names_append (take i ns) (get_or ns i 0 ∷ []) in
+      g ∙ (ap (λ ks. ks ++ with_name (slice_get names n) []) e ∙ (ap (λ m. first ∷ (names_at names (take i ns) ++ names_at names (m ∷ []))) (sym f) ∙ ap (λ ks. first ∷ ks) (sym t)))
+
+pub some_key : {X K : Type 0} (f : X → K) (xs : List X) (k : K) (ks : List K) → map f xs ≡ k ∷ ks → 0 < length xs
+some_key f [] k ks e = cc
+some_key f (x ∷ xs) k ks e = let l : length (x ∷ xs) ≡ suc (length xs) = refl in omega arith
+
+-- a number with a key is below the count of places
+pub within : {K T : Type 0} (ps : List (K × Share K T)) (n : ℕ) (k : K) → key_at ps n ≡ Some k → n < length ps
+within {K} {T} ps n k g = let l = slice_get_within (keys_of ps) n k g in let s = keys_long ps in omega arith
+  where
+    keys_long : (qs : List (K × Share K T)) → length (keys_of qs) ≡ length qs
+    keys_long [] = refl
+    keys_long (q ∷ qs) = ap suc (keys_long qs)
+
 one_more : (n : ℕ) → 1 + n ≡ suc n
 one_more n = omega arith
 
 module _ {K : Type 0} (eq : K → K → Bool) (law : IsEquality eq) where
+  pub apart_by : (a b : K) → eq a b ≡ false → a ≡ b → ⊥
+  apart_by a b e f = let t : eq a b ≡ true = ap (eq a) (sym f) ∙ law.itself a in cc
+
   first_at : (ks : List K) (n : ℕ) (k : K) → AreDistinct ks → slice_get ks n ≡ Some k → position_or_len (eq k) ks ≡ n
   first_at [] n k d g = absurd (none-some k g)
   first_at (x ∷ ks) zero k d g = let t : eq k x ≡ true = ap (eq k) (same_Some x k g) ∙ law.itself k in ap (λ b. cond (not b) (1 + position_or_len (eq k) ks) 0) t
@@ -46,6 +78,9 @@ module _ {K : Type 0} (eq : K → K → Bool) (law : IsEquality eq) where
       ap (λ b. cond (not b) (1 + position_or_len (eq k) ks) 0) t ∙ (one_more (position_or_len (eq k) ks) ∙ ap suc r)
 
 module _ {K T : Type 0} (eq : K → K → Bool) (law : IsEquality eq) where
+  pub apart_numbers : (ps : List (K × Share K T)) (from to : K) → eq from to ≡ false → (start goal : ℕ) → key_at ps start ≡ Some to → key_at ps goal ≡ Some from → start ≡ goal → ⊥
+  apart_numbers ps from to e start goal s g f = apart_by eq law from to e (same_Some from to (sym g ∙ (ap (key_at ps) (sym f) ∙ s)))
+
   module _ (ps : List (K × Share K T)) where
     module _ (distinct : AreDistinct (keys_of ps)) (numbered : (k d : K) → list_any (eq d) (waits_at eq ps k) ≡ true → key_at ps (number_of eq ps d) ≡ Some d) (mirror : IsMirrored eq ps) where
       pub number_is : (n : ℕ) (k : K) → key_at ps n ≡ Some k → number_of eq ps k ≡ n
@@ -85,10 +120,6 @@ module _ {K T : Type 0} (eq : K → K → Bool) (law : IsEquality eq) where
       pub below : AreBelow (waits_by eq ps) (length ps)
       below n m h = by_place (slice_get ps n) refl h
         where
-          keys_long : (qs : List (K × Share K T)) → length (keys_of qs) ≡ length qs
-          keys_long [] = refl
-          keys_long (q ∷ qs) = ap suc (keys_long qs)
-
           key_of : (qs : List (K × Share K T)) (i : ℕ) (e : K × Share K T) → slice_get qs i ≡ Some e → slice_get (keys_of qs) i ≡ Some e.0
           key_of [] i e g = absurd (none-some e g)
           key_of (q ∷ qs) zero e g = ap (λ (x : K × Share K T). Some x.0) (same_Some q e g)
@@ -98,9 +129,7 @@ module _ {K T : Type 0} (eq : K → K → Bool) (law : IsEquality eq) where
           by_place None e h = absurd h
           by_place (Some e) g x =
               let w = wait_by n m e.0 (key_of ps n e g) (subst (λ (o : Option (K × Share K T)). Has (list_for (λ (e : K × Share K T). map (number_of eq ps) e.1.waits) o) m) (sym g) x) in
-              let l = slice_get_within (keys_of ps) m w.0 w.1 in
-              let s = keys_long ps in
-              omega arith
+              within ps m w.0 w.1
 
       pub leads_by_key : (n m : ℕ) (k j : K) → key_at ps n ≡ Some k → key_at ps m ≡ Some j → Reaches (waits_by eq ps) n m → Leads (asked_of eq ps) k j
       leads_by_key n m k j g h stays = subst (Leads (asked_of eq ps) k) (same_Some k j (sym g ∙ h)) asked.stays
@@ -109,6 +138,15 @@ module _ {K T : Type 0} (eq : K → K → Bool) (law : IsEquality eq) where
       pub leads_by_number : (n m : ℕ) (k j : K) → key_at ps n ≡ Some k → key_at ps m ≡ Some j → Leads (asked_of eq ps) k j → Reaches (waits_by eq ps) n m
       leads_by_number n m k j g h asked.stays = subst (Reaches (waits_by eq ps) n) (sym (number_is n k g) ∙ number_is m k h) stays
       leads_by_number n m k j g h (asks_on {i = d} a l) = let w = ask_by n k d g a in waits_on w.0 (leads_by_number (number_of eq ps d) m d j w.1 h l)
+
+      -- a key that waits for nothing leads to itself alone
+      pub no_leads : (k j : K) (n : ℕ) (ws : List ℕ) → key_at ps n ≡ Some k → ws ≡ waits_by eq ps n → eqb (length ws) 0 ≡ true → (k ≡ j → ⊥) → Leads (asked_of eq ps) k j → ⊥
+      no_leads k j n ws g e z f asked.stays = f refl
+      no_leads k j n ws g e z f (asks_on {i = d} a l) = none ws z (subst (λ (xs : List ℕ). Has xs (number_of eq ps d)) (sym e) (ask_by n k d g a).0)
+        where
+          none : (xs : List ℕ) → eqb (length xs) 0 ≡ true → Has xs (number_of eq ps d) → ⊥
+          none [] z h = h
+          none (x ∷ xs) z h = let y = eqb-true (length (x ∷ xs)) 0 z in let l : length (x ∷ xs) ≡ suc (length xs) = refl in omega arith
 
       module _ (from to : K) where
         round_of : (goal n : ℕ) (ns : List ℕ) (k : K) → key_at ps n ≡ Some k → key_at ps goal ≡ Some from → IsChain (waits_by eq ps) goal n ns → IsRound (WouldWait (asked_of eq ps) from to) from k (names_at (keys_of ps) ns)

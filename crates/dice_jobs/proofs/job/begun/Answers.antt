@@ -38,13 +38,13 @@ returns-in_ok-run-in-Ask g c =
     let run = g.U.Universe.running in
     let r : (run c.match-batches.run ≡ stand_of a) × (step_of c.match-batches.step ≡ next_of m (stand_of a)) = elim c.match-batches.branch as (λ _. (run c.match-batches.run ≡ stand_of a) × (step_of c.match-batches.step ≡ next_of m (stand_of a))) [
       | in-Some+else-loop-at-test w ↦
-        let n : w.len-at-end.result ≡ length a.answered = w.len-at-end.ensures ∙ ap length (w.deref.ensures ∙ w.in-Some.ensures) in
-        let l : w.len-at-end.result ≤ w.loop-at.at = w.loop-at-test.false in
-        let h = gone_all m a.name.key a.name.version a.answered w.loop-at.at _ _ (subst (λ i. i ≤ w.loop-at.at) n l) w.loop-at.invariant in
-        (ap run w.run-is ∙ h.0, ap step_of w.step-is ∙ h.1)
+          let n : w.len-at-end.result ≡ length a.answered = w.len-at-end.ensures ∙ ap length (w.deref.ensures ∙ w.in-Some.ensures) in
+          let l : w.len-at-end.result ≤ w.loop-at.at = w.loop-at-test.false in
+          let h = gone_all m a.name.key a.name.version a.answered w.loop-at.at _ _ (subst (λ i. i ≤ w.loop-at.at) n l) w.loop-at.invariant in
+          (ap run w.run-is ∙ h.0, ap step_of w.step-is ∙ h.1)
       | in_default w ↦
-        let h = gone_at_once m a.name.key a.name.version a.answered _ _ _ _ c.in_ok-run.ensures.run c.in_ok-run.ensures.step (c.key.ensures ∙ ap (λ n. n.key) c.name-name.ensures) (c.version.ensures ∙ ap (λ n. n.version) c.name-name.ensures) w.in_default.ensures in
-        (ap run w.run-is ∙ h.0, ap step_of w.step-is ∙ h.1)
+          let h = gone_at_once m a.name.key a.name.version a.answered _ _ _ _ c.in_ok-run.ensures.run c.in_ok-run.ensures.step (c.key.ensures ∙ ap (λ n. n.key) c.name-name.ensures) (c.version.ensures ∙ ap (λ n. n.version) c.name-name.ensures) w.in_default.ensures in
+          (ap run w.run-is ∙ h.0, ap step_of w.step-is ∙ h.1)
     ] in
     (ap run c.in_ok-run-in-Ask.ensures.ok ∙ r.0, sym r.1 ∙ ap step_of c.in-Ask.is)
 
@@ -55,12 +55,12 @@ returns-in-Done g c =
     let run = g.U.Universe.running in
     let r : (run c.match-batches.run ≡ stand_of a) × (step_of c.match-batches.step ≡ next_of m (stand_of a)) = elim c.match-batches.branch as (λ _. (run c.match-batches.run ≡ stand_of a) × (step_of c.match-batches.step ≡ next_of m (stand_of a))) [
       | in-Some+else-loop-at-test w ↦
-        let n : w.len-at-end.result ≡ length a.answered = w.len-at-end.ensures ∙ ap length (w.deref.ensures ∙ w.in-Some.ensures) in
-        let l : w.len-at-end.result ≤ w.loop-at.at = w.loop-at-test.false in
-        let h = gone_all m a.name.key a.name.version a.answered w.loop-at.at _ _ (subst (λ i. i ≤ w.loop-at.at) n l) w.loop-at.invariant in
-        (ap run w.run-is ∙ h.0, ap step_of w.step-is ∙ h.1)
+          let n : w.len-at-end.result ≡ length a.answered = w.len-at-end.ensures ∙ ap length (w.deref.ensures ∙ w.in-Some.ensures) in
+          let l : w.len-at-end.result ≤ w.loop-at.at = w.loop-at-test.false in
+          let h = gone_all m a.name.key a.name.version a.answered w.loop-at.at _ _ (subst (λ i. i ≤ w.loop-at.at) n l) w.loop-at.invariant in
+          (ap run w.run-is ∙ h.0, ap step_of w.step-is ∙ h.1)
       | in_default w ↦
-        let h = gone_at_once m a.name.key a.name.version a.answered _ _ _ _ c.in_ok-run.ensures.run c.in_ok-run.ensures.step (c.key.ensures ∙ ap (λ n. n.key) c.name-name.ensures) (c.version.ensures ∙ ap (λ n. n.version) c.name-name.ensures) w.in_default.ensures in
-        (ap run w.run-is ∙ h.0, ap step_of w.step-is ∙ h.1)
+          let h = gone_at_once m a.name.key a.name.version a.answered _ _ _ _ c.in_ok-run.ensures.run c.in_ok-run.ensures.step (c.key.ensures ∙ ap (λ n. n.key) c.name-name.ensures) (c.version.ensures ∙ ap (λ n. n.version) c.name-name.ensures) w.in_default.ensures in
+          (ap run w.run-is ∙ h.0, ap step_of w.step-is ∙ h.1)
     ] in
     sym r.1 ∙ ap step_of c.in-Done.is
