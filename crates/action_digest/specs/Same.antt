@@ -32,14 +32,6 @@ value_equal = value_eq.ghosts.eq
 pub text_same : (x y : List ℕ) → pointwise nat_eq x y ≡ true → x ≡ y
 text_same x y h = (bytes_decides x y).0 h
 
-pub keys_equal : AreSame key_equal
-keys_equal (key.Source p) (key.Source q) h = ap key.Source (text_same p q h)
-keys_equal (key.Package p) (key.Package q) h = ap key.Package (text_same p q h)
-keys_equal (key.Rule p) (key.Rule q) h = ap key.Rule (text_same p q h)
-keys_equal (key.Action p) (key.Action q) h = ap key.Action (text_same p q h)
-keys_equal (key.Digest p) (key.Digest q) h = ap key.Digest (text_same p q h)
-keys_equal x y h = cc
-
 pub keys_same : SameKeys key_ord.ghosts.cmp
 keys_same (key.Source p) (key.Source q) h = ap key.Source (exact_bytes p q h)
 keys_same (key.Package p) (key.Package q) h = ap key.Package (exact_bytes p q h)

@@ -253,7 +253,7 @@ impl Universe for Buck {
     ghost use Rattle.std.specs.Arc.{arc_value};
     ghost use Rattle.action_digest.specs.Buck.{buck, answered_so_far};
     ghost use Rattle.action_digest.specs.Laws.{buck_lawful};
-    ghost use Rattle.action_digest.specs.Same.{keys_same, keys_equal, values_equal};
+    ghost use Rattle.action_digest.specs.Same.{keys_same, values_equal};
 
     type Key = Key;
 
@@ -345,8 +345,6 @@ impl Universe for Buck {
     ghost lawful = { buck_lawful };
 
     ghost same_keys = { keys_same };
-
-    ghost equal_keys = { keys_equal };
 
     ghost equal_values = { values_equal };
 }

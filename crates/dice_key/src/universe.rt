@@ -119,11 +119,8 @@ pub trait Universe: Send + Sync + Drop {
     /// Moves end, depend on the version in a transient end alone, and are those of a projection where the key is one.
     ghost lawful: { IsLawful meaning };
 
-    /// Keys that compare equal are the same.
+    /// Keys that compare equal are the same. (So are keys that are equal, since `==` and the order of a type agree.)
     ghost same_keys: { SameKeys Self.Key.cmp };
-
-    /// Keys that are equal are the same.
-    ghost equal_keys: { AreSame Self.Key.eq };
 
     /// Values that are equal are the same.
     ghost equal_values: { AreSame Self.Value.eq };

@@ -1,14 +1,11 @@
--- Keys that are equal, or compare equal, are the same, and so are values that are equal.
-use Rattle.std.specs.Prelude.{◌≡◌, ◌&&◌, ℕ, Bool, true, false, refl}
-use Rattle.std.proofs.Math.Bool.{beq}
+-- Keys that compare equal are the same, and so are values that are equal.
+use Rattle.std.specs.Prelude.{◌≡◌, ℕ, Bool, true, false, refl}
 use Rattle.std.proofs.Common.{ap}
 use Rattle.std.specs.Ordering.{nat_cmp, bool_cmp}
 use Rattle.std.proofs.lemmas.Map.Lookups.{exact_pairs, exact_unsigned}
-use Rattle.std.proofs.Math.Dec.{eqb}
-use Rattle.std.proofs.lemmas.Bool.{eqb-true, and_parts}
+use Rattle.std.proofs.lemmas.Bool.{eqb-true}
 use Rattle.dice_key.specs.Lawful.{SameKeys, AreSame}
 use Rattle.tiny_universe.specs.contracts.place.PlaceOrd.TheImpl as ordered
-use Rattle.tiny_universe.specs.contracts.place.PlacePartialEq.TheImpl as compared
 use Rattle.tiny_universe.specs.contracts.place.ValuePartialEq.TheImpl as valued
 use Rattle.tiny_universe.specs.declared.place.Place.TheVariants.{Cell, Follow, Parity, Sum, Clock, Ring}
 use Rattle.tiny_universe.specs.declared.place.Value.TheVariants.{Number, Reading}
@@ -18,15 +15,6 @@ same_bools false false h = refl
 same_bools false true h = cc
 same_bools true false h = cc
 same_bools true true h = refl
-
-equal_bools : AreSame beq
-equal_bools false false h = refl
-equal_bools false true h = cc
-equal_bools true false h = cc
-equal_bools true true h = refl
-
-equal_pairs : (a b c d : ℕ) → (eqb a c && eqb b d) ≡ true → (a ≡ c) × (b ≡ d)
-equal_pairs a b c d h = let s = and_parts (eqb a c) (eqb b d) h in (eqb-true a c s.0, eqb-true b d s.1)
 
 pub same_places : SameKeys ordered.ghosts.cmp
 same_places (Cell a) (Cell c) h = ap Cell (exact_unsigned a c h)
@@ -65,44 +53,6 @@ same_places (Ring a) (Parity c) h = cc
 same_places (Ring a) (Sum c d) h = cc
 same_places (Ring a) Clock h = cc
 same_places (Ring a) (Ring c) h = ap Ring (same_bools a c h)
-
-pub equal_places : AreSame compared.ghosts.eq
-equal_places (Cell a) (Cell c) h = ap Cell (eqb-true a c h)
-equal_places (Cell a) (Follow c) h = cc
-equal_places (Cell a) (Parity c) h = cc
-equal_places (Cell a) (Sum c d) h = cc
-equal_places (Cell a) Clock h = cc
-equal_places (Cell a) (Ring c) h = cc
-equal_places (Follow a) (Cell c) h = cc
-equal_places (Follow a) (Follow c) h = ap Follow (eqb-true a c h)
-equal_places (Follow a) (Parity c) h = cc
-equal_places (Follow a) (Sum c d) h = cc
-equal_places (Follow a) Clock h = cc
-equal_places (Follow a) (Ring c) h = cc
-equal_places (Parity a) (Cell c) h = cc
-equal_places (Parity a) (Follow c) h = cc
-equal_places (Parity a) (Parity c) h = ap Parity (eqb-true a c h)
-equal_places (Parity a) (Sum c d) h = cc
-equal_places (Parity a) Clock h = cc
-equal_places (Parity a) (Ring c) h = cc
-equal_places (Sum a b) (Cell c) h = cc
-equal_places (Sum a b) (Follow c) h = cc
-equal_places (Sum a b) (Parity c) h = cc
-equal_places (Sum a b) (Sum c d) h = let s = equal_pairs a b c d h in cc
-equal_places (Sum a b) Clock h = cc
-equal_places (Sum a b) (Ring c) h = cc
-equal_places Clock (Cell c) h = cc
-equal_places Clock (Follow c) h = cc
-equal_places Clock (Parity c) h = cc
-equal_places Clock (Sum c d) h = cc
-equal_places Clock Clock h = refl
-equal_places Clock (Ring c) h = cc
-equal_places (Ring a) (Cell c) h = cc
-equal_places (Ring a) (Follow c) h = cc
-equal_places (Ring a) (Parity c) h = cc
-equal_places (Ring a) (Sum c d) h = cc
-equal_places (Ring a) Clock h = cc
-equal_places (Ring a) (Ring c) h = ap Ring (equal_bools a c h)
 
 pub equal_values : AreSame valued.ghosts.eq
 equal_values (Number a) (Number b) h = ap Number (eqb-true a b h)

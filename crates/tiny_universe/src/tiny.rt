@@ -86,7 +86,7 @@ impl Tiny {
 impl Universe for Tiny {
     ghost use Rattle.tiny_universe.specs.Tiny.{tiny, batches};
     ghost use Rattle.tiny_universe.specs.Laws.{tiny_is_lawful};
-    ghost use Rattle.tiny_universe.specs.Same.{same_places, equal_places, equal_values};
+    ghost use Rattle.tiny_universe.specs.Same.{same_places, equal_values};
 
     type Key = Place;
 
@@ -183,8 +183,6 @@ impl Universe for Tiny {
     ghost lawful = { tiny_is_lawful };
 
     ghost same_keys = { same_places };
-
-    ghost equal_keys = { equal_places };
 
     ghost equal_values = { equal_values };
 }

@@ -1,4 +1,5 @@
 use Rattle.dice_key.proofs.laws.laws_of.Goals as goal
+use Rattle.dice_key.proofs.Orders.{equal_by_order}
 
 pub returns : goal.returns
 returns g c =
@@ -10,6 +11,6 @@ returns g c =
       lawful = laws.lawful;
       same_keys = laws.same_keys;
       total = key.total;
-      keys = record { same = laws.equal_keys; itself = keys.laws.refl };
+      keys = record { same = equal_by_order _ _ key.matches_eq laws.same_keys; itself = keys.laws.refl };
       values = record { same = laws.equal_values; itself = values.laws.refl };
     }
