@@ -26,7 +26,7 @@ use Rattle.dice_core.proofs.CoreLemmas.{task_there}
 
 module _ {K V : Type 0} where
   -- what a key that is not injected has come to is what its task has
-  by_task : (i : Kind) (n : ℕ) (x : V) (o : Came K V) → i ≢ Injected → injected_to i n x o ≡ o
+  pub by_task : (i : Kind) (n : ℕ) (x : V) (o : Came K V) → i ≢ Injected → injected_to i n x o ≡ o
   by_task Injected n x o h = absurd (h refl)
   by_task Computed n x o h = refl
   by_task Projection n x o h = refl

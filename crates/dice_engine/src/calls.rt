@@ -1,5 +1,5 @@
 //! The calls of an engine that take one turn each.
-ghost use Rattle.std.specs.Prelude.{◌≡◌, ℕ, ◌≤◌, ◌+◌, [], length, MatchResult, IfOk, IfErr, IfSome, OnOk, OnErr};
+ghost use Rattle.std.specs.Prelude.{◌≡◌, ℕ, ◌≤◌, ◌+◌, [], length, None, MatchResult, IfOk, IfErr, IfSome, OnOk, OnErr};
 ghost use Rattle.std.specs.Arc.{arc_value};
 ghost use Rattle.std.specs.Map.{keys_of};
 ghost use Rattle.dice_core.specs.Commits.{Fault, fault_of, AreSettable, IsFirstFault};
@@ -35,6 +35,9 @@ impl<U: Universe> Engine<U> {
         ensures settable { OnOk result (AreSettable U.meaning (keys_of updater.now)) }
         ensures fault { IfErr result (λ e. IfSome (fault_of e) (IsFirstFault U.meaning (keys_of updater.now))) }
         ensures first { (f : Fault U.Key) → IsFirstFault U.meaning (keys_of updater.now) f → MatchResult result (λ _. ⊥) (λ e. IfSome (fault_of e) (λ g. g ≡ f)) }
+
+        // Changes that can be set are committed, or memory was refused.
+        ensures complete { AreSettable U.meaning (keys_of updater.now) → IfErr result (λ e. fault_of e ≡ None) }
         ensures version { IfOk result (λ v. v ≡ newest_in seat.new.seen) }
         ensures ok { OnOk result (Turn U.Key.eq U.meaning seat.old seat.new (λ found. Commits U.Key.eq U.Value.eq U.meaning seat.old.number (log_of found) updater.now)) }
         ensures err { OnErr result (Turn U.Key.eq U.meaning seat.old seat.new (λ found. AddsNothing)) }

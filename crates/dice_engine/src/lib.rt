@@ -7,6 +7,7 @@ mod gate;
 mod laws;
 mod lines;
 mod promise;
+mod settling;
 mod state;
 mod updater;
 mod working;
@@ -19,5 +20,6 @@ pub use laws::{
     replies_are_exact, turns_go_on,
 };
 pub use promise::{Answer, Promise, Settled, Transaction, Worked};
+pub use settling::{leaving_decides_nothing, nothing_hangs, pending_is_exact};
 pub use state::State;
 pub use updater::Updater;
