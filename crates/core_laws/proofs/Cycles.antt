@@ -7,9 +7,9 @@ use Rattle.task_share.specs.Asked.{Asked}
 use Rattle.journal.specs.declared.event.Told.{Told}
 use Rattle.journal.specs.declared.event.Told.TheVariants.{Cyclic}
 use Rattle.journal.specs.Events.{ByCycle, commits_of, decided, is_running}
-use Rattle.journal.specs.Law.{IsAllowed, IsWanted}
+use Rattle.journal.specs.Law.{IsAllowed, IsWanted, CycleStands}
 use Rattle.core_laws.specs.Tasks.{WithCycle, Ended, Task, goes_on}
-use Rattle.core_laws.specs.Stands.{CycleStands, VersionStands}
+use Rattle.core_laws.specs.Stands.{VersionStands}
 use Rattle.core_laws.specs.Changes.{Puts, Lives, Withdraws}
 use Rattle.core_laws.proofs.OfKey.{named, cyclic_leaves}
 use Rattle.core_laws.proofs.Ends.{undecided_at_work, task_ends}

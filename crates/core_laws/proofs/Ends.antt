@@ -13,10 +13,10 @@ use Rattle.task_share.specs.Asked.{By, Promised, Tasked, Asked}
 use Rattle.journal.specs.declared.event.Told.{Told}
 use Rattle.journal.specs.declared.event.Told.TheVariants.{Start, Keep, End, Lost}
 use Rattle.journal.specs.declared.event.Reason.TheVariants.{Differs}
-use Rattle.journal.specs.Events.{ByValue, commits_of, decided, is_running}
+use Rattle.journal.specs.Events.{ByValue, commits_of, decided, is_running, lost_in_epoch}
 use Rattle.journal.specs.Law.{DiffersFirst, IsAllowed, IsWanted, Backs}
 use Rattle.core_laws.specs.Tasks.{Phase, IsReady, IsOut, Outcome, WithValue, WithNothing, Standing, Works, Ended, Task, goes_on, computes, waits_for, value_in, is_going, is_computing, batch_of, value_of}
-use Rattle.core_laws.specs.Stands.{IsNextOf, lost_in_epoch, WasSeen, OutcomeStands, AtWork, IsStanding, TaskStands, VersionStands}
+use Rattle.core_laws.specs.Stands.{IsNextOf, WasSeen, OutcomeStands, AtWork, IsStanding, TaskStands, VersionStands}
 use Rattle.core_laws.specs.Changes.{Puts, SameAsks, SameLives, Lives, Withdraws, ChangesFirst}
 use Rattle.core_laws.proofs.Shapes.{not_both, same_or_other, put_each, put_fact, put_none, Shape, shape_of, asks_nothing, eased}
 use Rattle.core_laws.proofs.OfKey.{asked_before, asked_by_another, promise_stays, others_stay, LeavesOthers, named, start_leaves, keep_leaves, end_leaves, lost_leaves, task_with, task_on}

@@ -5,7 +5,7 @@ use Rattle.dice_key.specs.Meaning.{Meaning, Answered, Ends}
 use Rattle.dice_key.specs.declared.universe.Kind.TheVariants.{Injected}
 use Rattle.dice_model.specs.Log.{input, IsCommit}
 use Rattle.dice_model.specs.Eval.{HasValue}
-use Rattle.dice_model.specs.Asks.{Goes, Reaches, ReachesCycle, AllTrue}
+use Rattle.dice_model.specs.Asks.{Goes, Reaches, ReachesCycle, IsCycle, AllTrue}
 use Rattle.journal.specs.declared.event.Told.{Told}
 use Rattle.journal.specs.declared.event.Told.TheVariants.{Commit, Open, Close, Ask, Leave, Start, Keep, End, Cyclic, Drop, Lost}
 use Rattle.journal.specs.declared.event.Reason.{Reason}
@@ -40,6 +40,14 @@ module _ {K V : Type 0} (eq : K → K → Bool) (m : Meaning K V) where
     pub value : V
     pub first : HasValue eq m C w k value
     pub second : HasValue eq m C b k value
+
+  -- the path is a cycle at v, and k reaches its first key
+  pub record CycleStands (C : List (List (K × V))) (v : ℕ) (k : K) (path : List K) : Type 0 where
+    pub first : K
+    pub rest : List K
+    pub path_is : path ≡ first ∷ rest
+    pub cycle : IsCycle eq m C v (first ∷ rest)
+    pub reaches : Reaches eq m C v k first
 
   module _ (R : List (Told K V)) where
     -- some live ask at v has a key that reaches k at v
