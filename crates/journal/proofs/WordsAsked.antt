@@ -1,15 +1,16 @@
 -- What the words on asks in an epoch, and on running keys, say.
-use Rattle.std.proofs.Common.{◌≡◌, ◌⊎◌, ◌<◌, ◌+◌, ℕ, suc, Bool, true, false, cond, not, ◌&&◌, ◌||◌, eqb, List, [], ◌∷◌, ◌++◌, length, Option, Some, None, inl, inr, refl, sym, ap, ◌∙◌, subst, arith}
+use Rattle.std.proofs.Common.{◌≡◌, ◌≢◌, ◌⊎◌, ◌<◌, ◌+◌, ℕ, suc, Bool, true, false, cond, not, ◌&&◌, ◌||◌, eqb, List, [], ◌∷◌, ◌++◌, length, Option, Some, None, inl, inr, refl, sym, ap, ◌∙◌, subst, arith}
 use Rattle.std.proofs.lemmas.Bool.{both_ways, eqb-true, eq-eqb, ne_eqb, and_from, and_parts, or_left, or_right, or_cases, not-true}
 use Rattle.std.proofs.lemmas.Option.{same_Some, none-some}
 use Rattle.dice_key.specs.Lawful.{IsEquality}
 use Rattle.dice_key.specs.Meaning.{Meaning}
+use Rattle.dice_key.specs.declared.universe.Kind.TheVariants.{Injected}
 use Rattle.journal.specs.declared.event.Told.{Told}
 use Rattle.journal.specs.declared.event.Told.TheVariants.{Commit, Open, Close, Ask, Leave, Start, Keep, End, Cyclic, Drop, Lost}
 use Rattle.journal.specs.declared.event.Reason.{Reason}
 use Rattle.journal.specs.Events.{Opened, is_for, names_by, begins, open_at, opened_at, asked_in_epoch, is_running}
-use Rattle.journal.specs.Law.{IsLawfulBack}
-use Rattle.journal.specs.Words.{event_at, begins_epoch, epoch_of, IsAskedAmong, RunsByWords}
+use Rattle.journal.specs.Law.{IsAllowed, IsLawfulBack}
+use Rattle.journal.specs.Words.{event_at, begins_epoch, epoch_of, IsAskedAmong, RunsByWords, IsOfTask}
 use Rattle.journal.proofs.Indices.{opened_below}
 use Rattle.journal.proofs.WordsEpochs.{among, open_event, itself, alike, not_named}
 use Rattle.lists.specs.Lists.{Has}
@@ -168,3 +169,23 @@ module _ {K V : Type 0} (eq : K → K → Bool) (equality : IsEquality eq) where
 
   pub runs_by_words : (R : List (Told K V)) (v : ℕ) (k : K) → RunsByWords R v k → is_running eq R v k ≡ true
   runs_by_words R v k w = subst (λ S. is_running eq S v k ≡ true) (sym w.all) (runs_found w.later w.before v k w.cause w.not_ended w.not_cyclic w.not_dropped w.not_lost)
+
+module _ {K V : Type 0} (eq : K → K → Bool) (m : Meaning K V) where
+  -- the key of an allowed event of a task is not injected
+  not_of_injected : (R : List (Told K V)) (e : Told K V) (k : K) → IsAllowed eq m R e → IsOfTask k e → m.kind k ≢ Injected
+  not_of_injected R (Start w q c) k a i = subst (λ x. m.kind x ≢ Injected) i a.3
+  not_of_injected R (Keep w q b) k a i = subst (λ x. m.kind x ≢ Injected) i a.3
+  not_of_injected R (End w q) k a i = subst (λ x. m.kind x ≢ Injected) i a.4
+  not_of_injected R (Cyclic w q) k a i = subst (λ x. m.kind x ≢ Injected) i a.3
+  not_of_injected R (Lost w q) k a i = subst (λ x. m.kind x ≢ Injected) i a.2
+  not_of_injected R (Drop w q) k a i = subst (λ x. m.kind x ≢ Injected) i a.1
+  not_of_injected R (Commit by c) k a i = absurd i
+  not_of_injected R (Open by w) k a i = absurd i
+  not_of_injected R (Close by t) k a i = absurd i
+  not_of_injected R (Ask by t q) k a i = absurd i
+  not_of_injected R (Leave by j) k a i = absurd i
+
+  pub none_of_injected : (R : List (Told K V)) (e : Told K V) (k : K) → IsLawfulBack eq m R → Has R e → IsOfTask k e → m.kind k ≢ Injected
+  none_of_injected [] e k l h i = elim h [ ]
+  none_of_injected (x ∷ R) e k l (inl f) i = not_of_injected R e k (subst (IsAllowed eq m R) f l.0) i
+  none_of_injected (x ∷ R) e k l (inr h) i = none_of_injected R e k l.1 h i

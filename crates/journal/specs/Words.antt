@@ -67,3 +67,17 @@ module _ {K V : Type 0} where
     pub not_cyclic : Has later (Cyclic v k) → ⊥
     pub not_dropped : Has later (Drop v k) → ⊥
     pub not_lost : Has later (Lost v k) → ⊥
+
+  -- the event is of a task of k
+  abbrev pub IsOfTask : K → Told K V → Type 0
+  IsOfTask k (Commit by c) = ⊥
+  IsOfTask k (Open by w) = ⊥
+  IsOfTask k (Close by t) = ⊥
+  IsOfTask k (Ask by t q) = ⊥
+  IsOfTask k (Leave by a) = ⊥
+  IsOfTask k (Start w q c) = q ≡ k
+  IsOfTask k (Keep w q b) = q ≡ k
+  IsOfTask k (End w q) = q ≡ k
+  IsOfTask k (Cyclic w q) = q ≡ k
+  IsOfTask k (Drop w q) = q ≡ k
+  IsOfTask k (Lost w q) = q ≡ k

@@ -6,7 +6,8 @@ ghost use Rattle.journal.specs.declared.event.Told.TheVariants.{Lost};
 ghost use Rattle.journal.specs.declared.event.Reason.TheVariants.{New, Differs};
 ghost use Rattle.journal.specs.Worked.{File, same_key, small, worked};
 ghost use Rattle.lists.specs.Lists.{Has};
-ghost use Rattle.journal.specs.Words.{IsLiveByWords, HasKeptOrEnded, IsDecidedAmong, IsAskedAmong, RunsByWords, epoch_of};
+ghost use Rattle.journal.specs.Words.{IsLiveByWords, HasKeptOrEnded, IsDecidedAmong, IsAskedAmong, RunsByWords, IsOfTask, epoch_of};
+ghost use Rattle.dice_key.specs.declared.universe.Kind.TheVariants.{Injected};
 ghost use Rattle.journal.specs.Law.{IsLawfulJournal, IsLawfulBack};
 
 use dice_key::{Universe, laws_of};
@@ -35,6 +36,7 @@ pub fn words_are_read<U: Universe>()
     ensures running { (R : List (Told U.Key U.Value)) (v : ℕ) (k : U.Key) → (is_running U.Key.eq R v k ≡ true) ↔ RunsByWords R v k }
     ensures lost { (R : List (Told U.Key U.Value)) (v : ℕ) (k : U.Key) → (lost_in_epoch U.Key.eq R v k ≡ true) ↔ Has (epoch_of R v) (Lost v k) }
     ensures decided { (R : List (Told U.Key U.Value)) (v : ℕ) (k : U.Key) (d : Decision) → IsLawfulBack U.Key.eq U.meaning R → (decided U.Key.eq R v k ≡ Some d) ↔ IsDecidedAmong (epoch_of R v) v k d }
+    ensures injected { (R : List (Told U.Key U.Value)) (e : Told U.Key U.Value) (k : U.Key) → IsLawfulBack U.Key.eq U.meaning R → Has R e → IsOfTask k e → U.meaning.kind k ≡ Injected → ⊥ }
     ensures asked { (R : List (Told U.Key U.Value)) (v : ℕ) (k : U.Key) → IsLawfulBack U.Key.eq U.meaning R → (asked_in_epoch U.Key.eq R v k ≡ true) ↔ IsAskedAmong R (epoch_of R v) v k }
 {
     laws_of::<U>();
