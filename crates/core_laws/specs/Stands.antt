@@ -1,12 +1,12 @@
 -- What holds of the tasks of one version, and of what they came to. R is the journal read backwards.
-use Rattle.std.specs.Prelude.{◌≡◌, ◌≢◌, ◌≤◌, ◌<◌, ◌⊎◌, ℕ, Bool, true, false, cond, ◌||◌, List, [], ◌∷◌, ◌++◌, length, Option, Some, None}
+use Rattle.std.specs.Prelude.{◌≡◌, ◌≢◌, ◌≤◌, ◌<◌, ◌⊎◌, ℕ, true, List, [], ◌∷◌, ◌++◌, length, Option, Some, None}
 use Rattle.dice_key.specs.Meaning.{Meaning, Answered, Asks}
 use Rattle.dice_key.specs.declared.universe.Kind.TheVariants.{Injected}
 use Rattle.dice_model.specs.Eval.{HasValue}
-use Rattle.dice_model.specs.Asks.{Goes, IsTrace, AsksFor, Reaches, IsCycle, AllTrue}
+use Rattle.dice_model.specs.Asks.{Goes, IsTrace, AsksFor, Reaches, AllTrue}
 use Rattle.task_share.specs.Asked.{By, Promised, Tasked, Asked, HasNoCycle, IsDone}
 use Rattle.journal.specs.declared.event.Told.{Told}
-use Rattle.journal.specs.declared.event.Told.TheVariants.{Commit, Open, Close, Ask, Leave, Start, Keep, End, Cyclic, Drop, Lost}
+use Rattle.journal.specs.Law.{CycleStands}
 use Rattle.journal.specs.Events.{Asking, ByValue, ByCycle, commits_of, opened_at, open_count, live_at, decided, asked_in_epoch, lost_in_epoch, is_running, is_base}
 use Rattle.core_laws.specs.Tasks.{Phase, IsReady, IsOut, IsWaiting, Outcome, WithValue, WithCycle, WithNothing, Standing, Works, Ended, Task, is_going, is_computing, batch_of, value_of}
 use Rattle.lists.specs.Lists.{Has}

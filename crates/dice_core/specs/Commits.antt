@@ -11,7 +11,7 @@ use Rattle.versioned_graph.specs.Sound.{AreTrue}
 use Rattle.injected.specs.Seen.{Seen, sets_at, room_at, newest_at}
 use Rattle.injected.specs.Inputs.{set_if}
 use Rattle.journal.specs.declared.event.Told.{Told}
-use Rattle.journal.specs.declared.event.Told.TheVariants.{Commit}
+use Rattle.journal.specs.Events.{event_of}
 use Rattle.dice_core.specs.declared.commit.CommitRefusal.{CommitRefusal}
 use Rattle.dice_core.specs.declared.commit.CommitRefusal.TheVariants as refusal
 use Rattle.lists.specs.Lists.{AreDistinct, Has}
