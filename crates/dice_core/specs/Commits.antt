@@ -72,11 +72,6 @@ module _ {K V : Type 0} (eq : K → K → Bool) where
   abbrev pub AreSet : ℕ → List (K × V) → Seen K V → Seen K V → Type 0
   AreSet v c s t = (k : K) → sets_at eq t k ≡ sets_at eq s k ++ set_if v (lookup (eq k) c)
 
--- the event of a commit, where there are changes
-abbrev pub event_of : {K V : Type 0} → ℕ → List (K × V) → List (Told K V)
-event_of by [] = []
-event_of by (p ∷ c) = Commit by (p ∷ c) ∷ []
-
 module _ {K V : Type 0} (eq : K → K → Bool) where
   -- by a commit of these changes, if there are any, the cells s become t, and the events J become I
   pub record Commits (by : ℕ) (c : List (K × V)) (s t : Seen K V) (J I : List (Told K V)) : Type 0 where
