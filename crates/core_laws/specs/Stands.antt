@@ -1,5 +1,5 @@
 -- What holds of the tasks of one version, and of what they came to. R is the journal read backwards.
-use Rattle.std.specs.Prelude.{◌≡◌, ◌≢◌, ◌≤◌, ◌<◌, ◌⊎◌, ℕ, Bool, true, List, [], ◌∷◌, ◌++◌, length, Option, Some, None}
+use Rattle.std.specs.Prelude.{◌≡◌, ◌≢◌, ◌≤◌, ◌<◌, ◌⊎◌, ℕ, Bool, true, false, List, [], ◌∷◌, ◌++◌, length, Option, Some, None}
 use Rattle.dice_key.specs.Meaning.{Meaning, Answered, Asks}
 use Rattle.dice_key.specs.declared.universe.Kind.TheVariants.{Injected}
 use Rattle.dice_model.specs.Eval.{HasValue}
@@ -29,7 +29,7 @@ module _ {K V : Type 0} (eq : K → K → Bool) (m : Meaning K V) where
   -- an outcome is true, and the key was decided so
   abbrev pub OutcomeStands : List (Told K V) → ℕ → K → Outcome K V → Type 0
   OutcomeStands R v k (WithValue x) = HasValue eq m (commits_of R) v k x × (decided eq R v k ≡ Some ByValue)
-  OutcomeStands R v k (WithCycle p) = CycleStands (commits_of R) v k p × (decided eq R v k ≡ Some ByCycle)
+  OutcomeStands R v k (WithCycle p) = CycleStands eq m (commits_of R) v k p × (decided eq R v k ≡ Some ByCycle)
   OutcomeStands R v k WithNothing = (lost_in_epoch eq R v k ≡ true) × (decided eq R v k ≡ None)
 
   -- a batch that is asked after the answers A: by a run it is the next one; by a check the next of the trace, when all answers so far are
