@@ -1,7 +1,7 @@
 -- What a hasher is fed of a value.
 use Rattle.std.specs.Prelude.{ℕ, List, []}
 use Rattle.std.specs.Hash as fed
-use Rattle.buck_label.specs.Texts.{hash_of}
+use Rattle.shared_text.specs.Texts.{hash_of}
 use Rattle.action_digest.specs.declared.value.Value.{Value}
 use Rattle.action_digest.specs.declared.value.Value.TheVariants as value
 

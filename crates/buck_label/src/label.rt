@@ -10,11 +10,11 @@ ghost use Rattle.std.specs.Ordering.{nat_cmp};
 ghost use Rattle.std.specs.Cmp.Lexicographic.{pointwise, slice_cmp, nat_list_eq_equiv, nat_list_cmp_total, texts_po, texts_ties};
 ghost use Rattle.std.specs.Cmp.{partial_equiv_from_equiv};
 ghost use Rattle.std.specs.Hash as fed;
-ghost use Rattle.buck_label.specs.Texts.{hash_of, hash_of_equal};
+ghost use Rattle.shared_text.specs.Texts.{hash_of, hash_of_equal};
 
 use crate::package::{Package, is_package, join};
 use crate::path::{Path, Refused, is_path};
-use crate::text::Text;
+use shared_text::Text;
 use std::alloc::{AllocError, Global};
 use std::cmp::Ordering;
 use std::hash::{Hash, Hasher};

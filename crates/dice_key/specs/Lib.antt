@@ -1,3 +1,4 @@
 pub mod Meaning
 pub mod Lawful
 pub mod Fronts
+pub mod Same

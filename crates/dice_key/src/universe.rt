@@ -10,6 +10,7 @@ use crate::line::Line;
 use std::alloc::{AllocError, AllocFailed};
 use std::hash::Hash;
 use std::sync::Arc;
+use thiserror::Error;
 
 /// A version of the inputs: how many commits came before.
 pub type Version = u64;
@@ -32,7 +33,8 @@ pub enum Kind {
 }
 
 /// Memory was refused.
-#[derive(Clone, Copy, Debug, PartialEq, Eq, Drop)]
+#[derive(Clone, Copy, Debug, PartialEq, Eq, Drop, Error)]
+#[error("no memory")]
 pub struct NoMemory;
 
 impl From<AllocError> for NoMemory {

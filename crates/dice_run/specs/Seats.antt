@@ -5,10 +5,9 @@ use Rattle.atomic_table.specs.Seated.{TableId}
 use Rattle.dice_model.specs.Eval.{HasValue}
 use Rattle.journal.specs.declared.event.Told.{Told}
 use Rattle.journal.specs.declared.event.Told.TheVariants.{Open, Ask}
-use Rattle.journal.specs.Law.{IsLawfulJournal}
+use Rattle.journal.specs.Law.{IsLawfulJournal, CycleStands}
 use Rattle.journal.specs.Tell.{event_by}
-use Rattle.core_laws.specs.Stands.{CycleStands}
-use Rattle.dice_core.specs.Commits.{event_of}
+use Rattle.journal.specs.Events.{event_of}
 use Rattle.turnstile.specs.Events.{StartsWith, events_by, AllBelow}
 use Rattle.turnstile.specs.Seats.{SeatView, IsSeatOf}
 use Rattle.dice_engine.specs.Turns.{log_of, Later}

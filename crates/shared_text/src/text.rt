@@ -4,7 +4,7 @@ ghost use Rattle.std.specs.Ordering.{nat_cmp};
 ghost use Rattle.std.specs.Hash as fed;
 ghost use Rattle.std.specs.Cmp.Lexicographic.{pointwise, slice_cmp, nat_list_eq_equiv, nat_list_cmp_total, texts_po, texts_ties};
 ghost use Rattle.std.specs.Cmp.{partial_equiv_from_equiv};
-ghost use Rattle.buck_label.specs.Texts.{hash_of, hash_of_equal};
+ghost use Rattle.shared_text.specs.Texts.{hash_of, hash_of_equal};
 
 use std::alloc::{AllocError, Global};
 use std::cmp::Ordering;
@@ -13,6 +13,9 @@ use std::marker::Model;
 use std::sync::Arc;
 
 /// Bytes that are kept once, with their hash beside them. A contract sees them as a list.
+///
+/// Texts that are equal are the same, so a text may stand in a key or a value of a universe. A `String` or a `Vec` may not: a
+/// contract sees its capacity too, and two equal ones may differ in that.
 ///
 /// A clone copies no byte, equality of unlike texts mostly looks at the hashes alone, and hashing
 /// takes constant time. The order is that of the bytes.
@@ -33,7 +36,7 @@ struct Hashed {
 impl Model for Text {
     ghost use Rattle.std.specs.Prelude.{◌≡◌, List, ℕ};
     ghost use Rattle.std.specs.Arc.{arc_value};
-    ghost use Rattle.buck_label.specs.Texts.{hash_of};
+    ghost use Rattle.shared_text.specs.Texts.{hash_of};
 
     ghost Value = { List ℕ };
 

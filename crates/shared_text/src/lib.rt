@@ -1,0 +1,8 @@
+//! Texts that are kept once and shared, for keys and values.
+#![tactic(auto)]
+
+mod laws;
+mod text;
+
+pub use laws::equal_is_same;
+pub use text::Text;
