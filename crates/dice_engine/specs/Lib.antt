@@ -6,3 +6,4 @@ pub mod Replies
 pub mod Lines
 pub mod Jobs
 pub mod Doings
+pub mod Seating
