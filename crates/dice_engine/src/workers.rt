@@ -25,7 +25,7 @@ impl<U: Universe> Engine<U> {
         &self,
         alloc: Global,
         seat: &mut Seat<U>,
-        count: u32,
+        count: u64,
     ) -> Result<Vec<Seat<U>>, NoMemory>
         requires seat { IsSeatOf self.now seat.old }
         requires spare { count ≤ spare seat.old }

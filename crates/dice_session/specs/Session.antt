@@ -1,16 +1,12 @@
 -- What a session is, and what it answers.
 use Rattle.std.specs.Prelude.{◌≡◌, ◌⊎◌, ℕ, Bool, List, [], ◌∷◌, ◌++◌, length, Option, Some, None}
 use Rattle.std.specs.Arc.{arc_value}
-use Rattle.atomic_table.specs.Seated.{TableId}
 use Rattle.dice_key.specs.Meaning.{Meaning}
 use Rattle.dice_model.specs.Eval.{HasValue}
 use Rattle.journal.specs.declared.event.Told.{Told}
-use Rattle.journal.specs.Tell.{event_by}
 use Rattle.core_laws.specs.Stands.{CycleStands}
-use Rattle.turnstile.specs.Events.{StartsWith, events_by, AllBelow}
-use Rattle.turnstile.specs.Seats.{SeatView, IsSeatOf}
+use Rattle.turnstile.specs.Events.{StartsWith}
 use Rattle.dice_engine.specs.Calls.{differing_from}
-use Rattle.dice_engine.specs.Turns.{log_of}
 use Rattle.dice_session.specs.declared.session.Found.{Found}
 use Rattle.dice_session.specs.declared.session.Found.TheVariants as found
 
@@ -40,14 +36,6 @@ module _ {K V : Type 0} where
   abbrev pub with_changes : List (List (K × V)) → List (K × V) → List (List (K × V))
   with_changes C [] = C
   with_changes C (p ∷ ps) = C ++ (p ∷ ps) ∷ []
-
--- the seat is the first of this engine, and its one writer: it knows of all events that tell a number
-pub record IsSole {K V : Type 0} (id : TableId) (s : SeatView (Told K V)) : Type 0 where
-  pub seat : IsSeatOf id s
-  pub number : s.number ≡ 0
-  pub writers : s.writers ≡ 1
-  pub mine : events_by event_by 0 s.seen ≡ s.mine
-  pub below : AllBelow event_by 1 s.seen
 
 module _ {K V : Type 0} (eq : K → K → Bool) (veq : V → V → Bool) (m : Meaning K V) where
   -- the commits after these changes were applied: those that differ are one more commit

@@ -1,6 +1,7 @@
 //! A session: an engine for one caller, and workers beside it.
 #![tactic(auto)]
 
+mod client;
 mod refusal;
 mod session;
 

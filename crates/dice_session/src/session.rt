@@ -1,14 +1,16 @@
 //! The session.
-ghost use Rattle.std.specs.Prelude.{◌≡◌, [], length, IfOk, OnOk, OnErr};
+ghost use Rattle.std.specs.Prelude.{◌≡◌, length, All, IfOk, OnOk, OnErr};
 ghost use Rattle.std.specs.Fn.{FnOnceReturnsAtMut};
 ghost use Rattle.std.specs.List.{AllZip};
 ghost use Rattle.turnstile.specs.Seats.{IsSeatOf};
 ghost use Rattle.dice_engine.specs.Lines.{AreLines, AreEventsFrom};
+ghost use Rattle.std.specs.Arc.{arc_value};
 ghost use Rattle.dice_session.specs.Session.{IsNew, Sets, Rests, committed, IsFound, IsRead};
 
+use crate::client;
 use crate::refusal::CommitError;
-use dice_engine::{CommitRefusal, Engine, Event, Open, Seat, Settled, Updater};
-use dice_key::{KeyRef, Line, NoMemory, Path, TypedKey, Universe, ValueRef, Version};
+use dice_engine::{CommitRefusal, Engine, Event, Open, Seat, Updater};
+use dice_key::{Line, NoMemory, Path, TypedKey, Universe, ValueRef, Version};
 use std::alloc::Global;
 use std::marker::Model;
 use std::mem;
@@ -97,21 +99,7 @@ impl<U: Universe> Session<U> {
         ensures found { IfOk result (IsFound U.Key.eq U.meaning self.old.commits key) }
     {
         let key = Arc::new(self.alloc, key)?;
-        let transaction = self.engine.open(rt, &mut self.seat)?;
-        let promise = match self.engine.ask(rt, &mut self.seat, &transaction, key) {
-            Ok(promise) => promise,
-            Err(NoMemory) => {
-                self.engine.close(rt, &mut self.seat, transaction);
-                return Err(NoMemory);
-            }
-        };
-        let settled = self.engine.wait(rt, &mut self.seat, &promise, &Open, 0);
-        self.engine.close(rt, &mut self.seat, transaction);
-        match settled? {
-            Settled::Value(value) => Ok(Found::Value(value)),
-            Settled::Cycle(path) => Ok(Found::Cycle(path)),
-            Settled::Gone => unreachable!(),
-        }
+        client::compute(rt, &*self.engine, &mut self.seat, key)
     }
 
     /// What these keys come to at the newest version, each as by `compute`, in their order. They are asked in one transaction, so work
@@ -124,11 +112,7 @@ impl<U: Universe> Session<U> {
         ensures rests { Rests self.old self.new }
         ensures found { IfOk result (λ v. AllZip (IsFound U.Key.eq U.meaning self.old.commits) keys.items v.items) }
     {
-        let mut found = Vec::new(self.alloc);
-        for key in keys {
-            found.push(self.compute(rt, key)?)?;
-        }
-        Ok(found)
+        client::compute_all(rt, self.alloc, &*self.engine, &mut self.seat, keys)
     }
 
     /// What the value of a key of this kind holds at the newest version. It is `None` if the key reaches a cycle, or was set to a value
@@ -188,7 +172,21 @@ impl<U: Universe> Session<U> {
         requires { F.IsAlwaysCallable f }
         ensures { FnOnceReturnsAtMut F.FnOnce f self.old result self.new }
     {
-        f(self)
+        let Ok((engine, seats)) = self.split_seats(workers) else {
+            return f(self);
+        };
+        engine.with_workers(rt, seats, &Open, || f(self))
+    }
+
+    // The engine once more, and a seat for each worker, as far as there are numbers for them.
+    fn split_seats(&mut self, workers: u32) -> Result<(Arc<Engine<U>>, Vec<Seat<U>>), NoMemory>
+        ensures same { self.new ≡ self.old }
+        ensures seats { IfOk result (λ p. All (IsSeatOf (arc_value p.0)) p.1.items) }
+    {
+        let engine = Arc::try_clone(&self.engine)?;
+        let count = u64::from(workers).min(self.seat.spare());
+        let seats = self.engine.split_seats(self.alloc, &mut self.seat, count)?;
+        Ok((engine, seats))
     }
 }
 
