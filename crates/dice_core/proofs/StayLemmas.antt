@@ -15,7 +15,7 @@ use Rattle.journal.specs.declared.event.Told.{Told}
 use Rattle.journal.specs.declared.event.Told.TheVariants.{Close, Leave, Drop}
 use Rattle.journal.specs.Events.{Asking, one_if, open_count, opened_at, live_at}
 use Rattle.core_laws.specs.Tasks.{Outcome, WithNothing}
-use Rattle.core_laws.proofs.Indices.{opened_counts}
+use Rattle.journal.proofs.Indices.{opened_counts}
 use Rattle.version_epoch.specs.Standings.{open_count_of}
 use Rattle.dice_jobs.specs.Jobs.{Name}
 use Rattle.dice_tasks.specs.Endings.{GivesUpAll}
