@@ -13,7 +13,8 @@ use Rattle.task_share.specs.Asked.{Asked}
 use Rattle.journal.specs.declared.event.Told.{Told}
 use Rattle.journal.specs.Events.{commits_of}
 use Rattle.core_laws.specs.Tasks.{WithValue, WithCycle, WithNothing, Standing, Works, Ended, Task, value_in, value_of}
-use Rattle.core_laws.specs.Stands.{CycleStands, IsStanding, TaskStands, VersionStands}
+use Rattle.journal.specs.Law.{CycleStands}
+use Rattle.core_laws.specs.Stands.{IsStanding, TaskStands, VersionStands}
 
 module _ {K V : Type 0} (eq : K → K → Bool) (m : Meaning K V) (R : List (Told K V)) (v : ℕ) where
   value_stands : (k : K) (t : Task K V) (x : V) → TaskStands eq m R v k t → value_in t.standing ≡ Some x → HasValue eq m (commits_of R) v k x

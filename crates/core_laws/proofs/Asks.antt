@@ -13,7 +13,7 @@ use Rattle.journal.specs.Events.{Opened, Asking, is_for, commits_of, open_at, op
 use Rattle.core_laws.specs.Tasks.{Task}
 use Rattle.core_laws.specs.Stands.{VersionStands, IsAtRest}
 use Rattle.core_laws.specs.Changes.{SameAsks, SameLives, Joins}
-use Rattle.core_laws.proofs.Indices.{live_below}
+use Rattle.journal.proofs.Indices.{live_below}
 use Rattle.core_laws.proofs.Opens.{there_open}
 use Rattle.core_laws.proofs.Frames.{Carries, Promises, version_on, version_stays, rest_stays}
 

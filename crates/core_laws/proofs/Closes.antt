@@ -11,7 +11,7 @@ use Rattle.core_laws.specs.Tasks.{Task}
 use Rattle.core_laws.specs.Stands.{VersionStands, IsAtRest}
 use Rattle.core_laws.specs.Changes.{SameLives}
 use Rattle.core_laws.specs.Promises.{is_promise_in}
-use Rattle.core_laws.proofs.Indices.{still_live}
+use Rattle.journal.proofs.Indices.{still_live}
 use Rattle.core_laws.proofs.Opens.{open_there}
 use Rattle.core_laws.proofs.Frames.{Carries, Promises, version_on, version_stays, rest_stays}
 use Rattle.std.proofs.Math.Bool.{and-true}

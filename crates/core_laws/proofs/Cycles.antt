@@ -7,9 +7,9 @@ use Rattle.task_share.specs.Asked.{Asked}
 use Rattle.journal.specs.declared.event.Told.{Told}
 use Rattle.journal.specs.declared.event.Told.TheVariants.{Cyclic}
 use Rattle.journal.specs.Events.{ByCycle, commits_of, decided, is_running}
-use Rattle.journal.specs.Law.{IsAllowed, IsWanted}
+use Rattle.journal.specs.Law.{IsAllowed, IsWanted, CycleStands}
 use Rattle.core_laws.specs.Tasks.{WithCycle, Ended, Task, goes_on}
-use Rattle.core_laws.specs.Stands.{CycleStands, VersionStands}
+use Rattle.core_laws.specs.Stands.{VersionStands}
 use Rattle.core_laws.specs.Changes.{Puts, Lives, Withdraws}
 use Rattle.core_laws.proofs.OfKey.{named, cyclic_leaves}
 use Rattle.core_laws.proofs.Ends.{undecided_at_work, task_ends}
@@ -40,7 +40,7 @@ pub cycles : {K V : Type 0} (eq : K → K → Bool) (equality : IsEquality eq) (
     → goes_on t.standing ≡ true → IsWanted eq m R v k → CycleStands eq m (commits_of R) v k path → Withdraws eq k s u → Lives eq k false s u → Puts eq k (Some (record { born = t.born; standing = Ended (WithCycle path) })) ts us
     → IsAllowed eq m R (Cyclic v k) × VersionStands eq m (Cyclic v k ∷ R) v (k ∷ W) u us
 cycles eq equality m R v W s u ts us k t h there path going wanted c w l p = (
-  (wanted, undecided_at_work eq m R v k t going (h.each k t there), record { first = c.first; rest = c.rest; cycle = c.cycle; reaches = c.reaches }),
+  (wanted, undecided_at_work eq m R v k t going (h.each k t there), record { first = c.first; rest = c.rest; cycle = c.cycle; reaches = c.reaches }, (h.each k t there).computed),
   task_ends eq equality m R (Cyclic v k ∷ R) v k (cyclic_leaves eq equality R v k) W s u ts us h t there going (WithCycle path) w l p
       (c, ap (λ b. cond b (Some ByCycle) (decided eq R v k)) (named eq equality v k)) (ap (λ b. not b && is_running eq R v k) (named eq equality v k)),
 )

@@ -8,7 +8,7 @@ use Rattle.journal.specs.declared.event.Told.TheVariants.{Start, Keep, End, Cycl
 use Rattle.journal.specs.Events.{open_count, commits_of}
 use Rattle.core_laws.specs.Tasks.{Task}
 use Rattle.core_laws.specs.Stands.{VersionStands, IsAtRest}
-use Rattle.core_laws.proofs.Indices.{base_more}
+use Rattle.journal.proofs.Indices.{base_more}
 use Rattle.core_laws.proofs.Frames.{Carries, SameLive, version_stays, rest_stays, same_promises}
 
 -- the event is one of a task, at another version

@@ -13,10 +13,10 @@ use Rattle.task_share.specs.Asked.{By, Promised, Tasked, Asked}
 use Rattle.journal.specs.declared.event.Told.{Told}
 use Rattle.journal.specs.declared.event.Told.TheVariants.{Start, Keep, End, Lost}
 use Rattle.journal.specs.declared.event.Reason.TheVariants.{Differs}
-use Rattle.journal.specs.Events.{ByValue, commits_of, decided, is_running}
+use Rattle.journal.specs.Events.{ByValue, commits_of, decided, is_running, lost_in_epoch}
 use Rattle.journal.specs.Law.{DiffersFirst, IsAllowed, IsWanted, Backs}
 use Rattle.core_laws.specs.Tasks.{Phase, IsReady, IsOut, Outcome, WithValue, WithNothing, Standing, Works, Ended, Task, goes_on, computes, waits_for, value_in, is_going, is_computing, batch_of, value_of}
-use Rattle.core_laws.specs.Stands.{IsNextOf, lost_in_epoch, WasSeen, OutcomeStands, AtWork, IsStanding, TaskStands, VersionStands}
+use Rattle.core_laws.specs.Stands.{IsNextOf, WasSeen, OutcomeStands, AtWork, IsStanding, TaskStands, VersionStands}
 use Rattle.core_laws.specs.Changes.{Puts, SameAsks, SameLives, Lives, Withdraws, ChangesFirst}
 use Rattle.core_laws.proofs.Shapes.{not_both, same_or_other, put_each, put_fact, put_none, Shape, shape_of, asks_nothing, eased}
 use Rattle.core_laws.proofs.OfKey.{asked_before, asked_by_another, promise_stays, others_stay, LeavesOthers, named, start_leaves, keep_leaves, end_leaves, lost_leaves, task_with, task_on}
@@ -135,7 +135,7 @@ module _ {K V : Type 0} (eq : K → K → Bool) (equality : IsEquality eq) (m : 
   pub ends : (A : List (Answered K V)) (x : V) → t.standing ≡ Works Computes IsOut A → m.next k A v ≡ Ends x → IsWanted eq m R v k → Withdraws eq k s u → Lives eq k false s u → Puts eq k (Some (record { born = t.born; standing = Ended (WithValue x) })) ts us
       → IsAllowed eq m R (End v k) × VersionStands eq m (End v k ∷ R) v (k ∷ W) u us × HasValue eq m (commits_of R) v k x × IsTrace eq m (commits_of R) v k A x
   ends A x e done wanted w l p = (
-    (wanted, runs_as (Works Computes IsOut A) e, a.undecided, (x, value)),
+    (wanted, runs_as (Works Computes IsOut A) e, a.undecided, (x, value), c),
     task_ends eq equality m R (End v k ∷ R) v k (end_leaves eq equality R v k) W s u ts us h t there (ap goes_on e) (WithValue x) w l p
         (value, ap (λ b. cond b (Some ByValue) (decided eq R v k)) (named eq equality v k)) (ap (λ b. not b && is_running eq R v k) (named eq equality v k)),
     value,
@@ -155,7 +155,7 @@ module _ {K V : Type 0} (eq : K → K → Bool) (equality : IsEquality eq) (m : 
   pub keeps : (T A : List (Answered K V)) (x : V) (b : ℕ) → t.standing ≡ Works (Checks x T b) IsOut A → map (λ a. a.values) A ≡ map (λ b. b.values) T → IsWanted eq m R v k → Withdraws eq k s u → Lives eq k false s u → Puts eq k (Some (record { born = t.born; standing = Ended (WithValue x) })) ts us
       → IsAllowed eq m R (Keep v k b) × VersionStands eq m (Keep v k b ∷ R) v (k ∷ W) u us × HasValue eq m (commits_of R) v k x × IsTrace eq m (commits_of R) v k A x
   keeps T A x b e equal wanted w l p = (
-    (wanted, (a.undecided, runs_as (Works (Checks x T b) IsOut A) e), record { base = seen.base; value = x; here = found.2; there = seen.same; lasts = inr seen.lasts }),
+    (wanted, (a.undecided, runs_as (Works (Checks x T b) IsOut A) e), record { base = seen.base; value = x; here = found.2; there = seen.same; lasts = inr seen.lasts }, c),
     task_ends eq equality m R (Keep v k b ∷ R) v k (keep_leaves eq equality R v k b) W s u ts us h t there (ap goes_on e) (WithValue x) w l p
         (found.2, ap (λ b. cond b (Some ByValue) (decided eq R v k)) (named eq equality v k)) (runs_as (Works (Checks x T b) IsOut A) e),
     found.2,
@@ -181,7 +181,7 @@ module _ {K V : Type 0} (eq : K → K → Bool) (equality : IsEquality eq) (m : 
   pub differs : (T A : List (Answered K V)) (x : V) (b : ℕ) (d : K) → t.standing ≡ Works (Checks x T b) IsOut A → ChangesFirst T A d → IsWanted eq m R v k → SameAsks eq s u → SameLives eq s u → Puts eq k (Some (record { born = t.born; standing = Works Computes IsReady A })) ts us
       → IsAllowed eq m R (Start v k (Differs b d)) × VersionStands eq m (Start v k (Differs b d) ∷ R) v W u us
   differs T A x b d e f wanted sa sl p = (
-    (wanted, (a.undecided, runs_as (Works (Checks x T b) IsOut A) e), (seen.base, seen.finished, backs, cause)),
+    (wanted, (a.undecided, runs_as (Works (Checks x T b) IsOut A) e), (seen.base, seen.finished, backs, cause), c),
     task_turns eq equality m R (Start v k (Differs b d) ∷ R) v k (start_leaves eq equality R v k (Differs b d)) W s u ts us h t there (ap goes_on e) (Works Computes IsReady A) (ap waits_for e) refl refl sa sl p
         (record { undecided = a.undecided; work = goes; asks = tt }) (ap (λ b. b || is_running eq R v k) (named eq equality v k)),
   )
@@ -247,7 +247,7 @@ module _ {K V : Type 0} (eq : K → K → Bool) (equality : IsEquality eq) (m : 
   pub loses : goes_on t.standing ≡ true → IsWanted eq m R v k → Withdraws eq k s u → Lives eq k false s u → Puts eq k (Some (record { born = t.born; standing = Ended WithNothing })) ts us
       → IsAllowed eq m R (Lost v k) × VersionStands eq m (Lost v k ∷ R) v (k ∷ W) u us
   loses going wanted w l p = (
-    (wanted, undecided),
+    (wanted, undecided, (h.each k t there).computed),
     task_ends eq equality m R (Lost v k ∷ R) v k (lost_leaves eq equality R v k) W s u ts us h t there going WithNothing w l p
         (ap (λ b. b || lost_in_epoch eq R v k) (named eq equality v k), undecided) (ap (λ b. not b && is_running eq R v k) (named eq equality v k)),
   )

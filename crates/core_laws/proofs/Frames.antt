@@ -9,9 +9,9 @@ use Rattle.dice_model.specs.Asks.{Goes, AsksFor, Reaches, IsCycle, AllTrue}
 use Rattle.dice_model.proofs.Stable.{value_stable, zip_stable, goes_stable, asks_stable, reaches_stable, cycle_stable}
 use Rattle.task_share.specs.Asked.{Promised, Tasked, Asked, Leads, stays, asks_on}
 use Rattle.journal.specs.declared.event.Told.{Told}
-use Rattle.journal.specs.Events.{Asking, commits_of, open_count, opened_at, live_at, decided, asked_in_epoch, is_running, is_base}
+use Rattle.journal.specs.Events.{Asking, commits_of, open_count, opened_at, live_at, decided, asked_in_epoch, is_running, is_base, lost_in_epoch}
 use Rattle.core_laws.specs.Tasks.{Outcome, WithValue, WithCycle, WithNothing, Standing, Works, Ended, Task, batch_of}
-use Rattle.core_laws.specs.Stands.{lost_in_epoch, WasSeen, OutcomeStands, WorkStands, IsStanding, TaskStands, VersionStands, IsAtRest}
+use Rattle.core_laws.specs.Stands.{WasSeen, OutcomeStands, WorkStands, IsStanding, TaskStands, VersionStands, IsAtRest}
 use Rattle.core_laws.specs.Changes.{SameAsks, SameLives}
 use Rattle.dice_jobs.specs.Jobs.{Checks, Computes, Work}
 

@@ -12,7 +12,7 @@ use Rattle.journal.specs.Events.{commits_of, opened_at, open_count, live_at, ask
 use Rattle.journal.specs.Law.{IsWanted, IsLawfulBack}
 use Rattle.core_laws.specs.Tasks.{Task, Standing, Works, Ended, is_going, batch_of}
 use Rattle.core_laws.specs.Stands.{VersionStands, IsAtRest}
-use Rattle.core_laws.proofs.Indices.{live_asked, live_counts}
+use Rattle.journal.proofs.Indices.{live_asked, live_counts}
 use Rattle.lists.proofs.Distinct.{few}
 use Rattle.lists.specs.Lists.{AreDistinct, Has}
 

@@ -1,6 +1,5 @@
 pub mod Counts
 pub mod Turns
-pub mod Indices
 pub mod Frames
 pub mod Elsewhere
 pub mod Commits

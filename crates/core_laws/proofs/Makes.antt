@@ -122,7 +122,7 @@ module _ {K V : Type 0} (eq : K → K → Bool) (equality : IsEquality eq) (m : 
   starts W s u ts us k b c h computed wanted within once asked reached undecided idle cause born put lives same =
       let t : Task K V = record { born = b; standing = Works Computes IsReady [] } in
       let shape = made_shape W s u ts us k t h undecided idle refl put lives same in (
-        (wanted, (undecided, h.running k ∙ idle_computes (ts k) idle), cause),
+        (wanted, (undecided, h.running k ∙ idle_computes (ts k) idle), cause, computed),
         record {
           promised = λ q i e. h.promised q i (sym (same q (Promised i)) ∙ e);
           promises = λ i a e o n. same a.key (Promised i) ∙ h.promises i a e o n;
@@ -159,7 +159,7 @@ module _ {K V : Type 0} (eq : K → K → Bool) (equality : IsEquality eq) (m : 
   matches W s u ts us k n b h computed wanted within once asked reached undecided idle kept born put lives same =
       let t : Task K V = record { born = n; standing = Ended (WithValue kept.value) } in
       let shape = made_shape W s u ts us k t h undecided idle refl put lives same in (
-        (wanted, (undecided, h.running k ∙ idle_computes (ts k) idle), kept),
+        (wanted, (undecided, h.running k ∙ idle_computes (ts k) idle), kept, computed),
         record {
           promised = λ q i e. h.promised q i (sym (same q (Promised i)) ∙ e);
           promises = λ i a e o j. same a.key (Promised i) ∙ h.promises i a e o j;

@@ -7,9 +7,9 @@ use Rattle.task_share.specs.Asked.{By, Promised, Tasked, is_by, Asked}
 use Rattle.journal.specs.declared.event.Told.{Told}
 use Rattle.journal.specs.declared.event.Told.TheVariants.{Start, Keep, End, Cyclic, Drop, Lost}
 use Rattle.journal.specs.declared.event.Reason.{Reason}
-use Rattle.journal.specs.Events.{ByValue, ByCycle, names_by, commits_of, opened_at, open_count, live_at, decided, asked_in_epoch, is_running, is_base}
+use Rattle.journal.specs.Events.{ByValue, ByCycle, names_by, commits_of, opened_at, open_count, live_at, decided, asked_in_epoch, is_running, is_base, lost_in_epoch}
 use Rattle.core_laws.specs.Tasks.{Outcome, WithValue, WithCycle, WithNothing, Standing, Works, Ended, Task}
-use Rattle.core_laws.specs.Stands.{lost_in_epoch, WasSeen, OutcomeStands, WorkStands, IsStanding, TaskStands}
+use Rattle.core_laws.specs.Stands.{WasSeen, OutcomeStands, WorkStands, IsStanding, TaskStands}
 use Rattle.core_laws.specs.Changes.{Withdraws}
 use Rattle.core_laws.proofs.Shapes.{other_way}
 use Rattle.dice_jobs.specs.Jobs.{Checks, Computes, Work}

@@ -13,7 +13,7 @@ use Rattle.journal.proofs.Lawful.{closes_open}
 use Rattle.journal.proofs.Counts.{none_open}
 use Rattle.core_laws.specs.Tasks.{Task, batch_of}
 use Rattle.core_laws.specs.Stands.{IsAtRest}
-use Rattle.core_laws.proofs.Indices.{live_opened, opened_before}
+use Rattle.journal.proofs.Indices.{live_opened, opened_before}
 use Rattle.core_laws.proofs.Frames.{Carries, SameLive, rest_stays, same_promises}
 
 module _ {K V : Type 0} (eq : K → K → Bool) (m : Meaning K V) (R : List (Told K V)) (lawful : IsLawfulBack eq m R) (v by w : ℕ) (s : Asked K) (ts : K → Option (Task K V)) where

@@ -9,9 +9,8 @@ use Rattle.journal.specs.declared.event.Told.{Told}
 use Rattle.journal.specs.declared.event.Told.TheVariants.{Start, Keep, End, Cyclic, Drop, Lost}
 use Rattle.journal.specs.declared.event.Reason.TheVariants.{Differs}
 use Rattle.journal.specs.Events.{commits_of, ended_at}
-use Rattle.journal.specs.Law.{IsAllowed, IsWanted}
+use Rattle.journal.specs.Law.{IsAllowed, IsWanted, CycleStands}
 use Rattle.core_laws.specs.Tasks.{Works, Ended, WithValue, WithCycle, WithNothing, IsReady, IsOut, Task, goes_on}
-use Rattle.core_laws.specs.Stands.{CycleStands}
 use Rattle.core_laws.specs.Changes.{Puts, SameAsks, SameLives, Lives, Withdraws, ChangesFirst}
 use Rattle.core_laws.specs.Desk.{World, Desk, DeskTurns, Stand, with_version}
 use Rattle.core_laws.proofs.Turns.{stands_here}

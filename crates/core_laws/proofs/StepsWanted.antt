@@ -9,7 +9,7 @@ use Rattle.journal.specs.declared.event.Told.TheVariants.{Ask, Start, Keep, End,
 use Rattle.journal.specs.Law.{IsWanted}
 use Rattle.core_laws.specs.Changes.{SameLives, Lives}
 use Rattle.core_laws.specs.Desk.{World, Desk, Rests}
-use Rattle.core_laws.proofs.Indices.{live_below}
+use Rattle.journal.proofs.Indices.{live_below}
 use Rattle.core_laws.proofs.Shapes.{not_both, same_or_other, lives_here, lives_other}
 use Rattle.core_laws.proofs.StepsRests.{wanted_here}
 

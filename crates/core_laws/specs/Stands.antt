@@ -1,33 +1,17 @@
 -- What holds of the tasks of one version, and of what they came to. R is the journal read backwards.
-use Rattle.std.specs.Prelude.{◌≡◌, ◌≢◌, ◌≤◌, ◌<◌, ◌⊎◌, ℕ, Bool, true, false, cond, ◌||◌, List, [], ◌∷◌, ◌++◌, length, Option, Some, None}
+use Rattle.std.specs.Prelude.{◌≡◌, ◌≢◌, ◌≤◌, ◌<◌, ◌⊎◌, ℕ, Bool, true, false, List, [], ◌∷◌, ◌++◌, length, Option, Some, None}
 use Rattle.dice_key.specs.Meaning.{Meaning, Answered, Asks}
 use Rattle.dice_key.specs.declared.universe.Kind.TheVariants.{Injected}
 use Rattle.dice_model.specs.Eval.{HasValue}
-use Rattle.dice_model.specs.Asks.{Goes, IsTrace, AsksFor, Reaches, IsCycle, AllTrue}
+use Rattle.dice_model.specs.Asks.{Goes, IsTrace, AsksFor, Reaches, AllTrue}
 use Rattle.task_share.specs.Asked.{By, Promised, Tasked, Asked, HasNoCycle, IsDone}
 use Rattle.journal.specs.declared.event.Told.{Told}
-use Rattle.journal.specs.declared.event.Told.TheVariants.{Commit, Open, Close, Ask, Leave, Start, Keep, End, Cyclic, Drop, Lost}
-use Rattle.journal.specs.Events.{Asking, ByValue, ByCycle, names_by, begins, commits_of, opened_at, open_count, live_at, decided, asked_in_epoch, is_running, is_base}
+use Rattle.journal.specs.Law.{CycleStands}
+use Rattle.journal.specs.Events.{Asking, ByValue, ByCycle, commits_of, opened_at, open_count, live_at, decided, asked_in_epoch, lost_in_epoch, is_running, is_base}
 use Rattle.core_laws.specs.Tasks.{Phase, IsReady, IsOut, IsWaiting, Outcome, WithValue, WithCycle, WithNothing, Standing, Works, Ended, Task, is_going, is_computing, batch_of, value_of}
 use Rattle.lists.specs.Lists.{Has}
 use Rattle.dice_jobs.specs.Jobs.{Checks, Computes, Work}
 use Rattle.dice_jobs.specs.Truths.{Follows}
-
-module _ {K V : Type 0} (eq : K → K → Bool) where
-  -- a Lost of (v, k) stands in the epoch of v
-  abbrev pub lost_in_epoch : List (Told K V) → ℕ → K → Bool
-  lost_in_epoch [] v k = false
-  lost_in_epoch (Open by w ∷ R) v k = cond (begins R w v) false (lost_in_epoch R v k)
-  lost_in_epoch (Lost w q ∷ R) v k = names_by eq w q v k || lost_in_epoch R v k
-  lost_in_epoch (Commit by c ∷ R) v k = lost_in_epoch R v k
-  lost_in_epoch (Close by t ∷ R) v k = lost_in_epoch R v k
-  lost_in_epoch (Ask by t q ∷ R) v k = lost_in_epoch R v k
-  lost_in_epoch (Leave by a ∷ R) v k = lost_in_epoch R v k
-  lost_in_epoch (Start w q c ∷ R) v k = lost_in_epoch R v k
-  lost_in_epoch (Keep w q b ∷ R) v k = lost_in_epoch R v k
-  lost_in_epoch (End w q ∷ R) v k = lost_in_epoch R v k
-  lost_in_epoch (Cyclic w q ∷ R) v k = lost_in_epoch R v k
-  lost_in_epoch (Drop w q ∷ R) v k = lost_in_epoch R v k
 
 module _ {K V : Type 0} (eq : K → K → Bool) (m : Meaning K V) where
   -- a value x of k that was looked at, with its trace T and its version b: the trace is that of a base, which is at most b; b is a base;
@@ -42,18 +26,10 @@ module _ {K V : Type 0} (eq : K → K → Bool) (m : Meaning K V) where
     pub finished_base : is_base eq R finished k ≡ true
     pub base : is_base eq R b k ≡ true
 
-  -- the path is a cycle at v, and k reaches its first key
-  pub record CycleStands (C : List (List (K × V))) (v : ℕ) (k : K) (path : List K) : Type 0 where
-    pub first : K
-    pub rest : List K
-    pub path_is : path ≡ first ∷ rest
-    pub cycle : IsCycle eq m C v (first ∷ rest)
-    pub reaches : Reaches eq m C v k first
-
   -- an outcome is true, and the key was decided so
   abbrev pub OutcomeStands : List (Told K V) → ℕ → K → Outcome K V → Type 0
   OutcomeStands R v k (WithValue x) = HasValue eq m (commits_of R) v k x × (decided eq R v k ≡ Some ByValue)
-  OutcomeStands R v k (WithCycle p) = CycleStands (commits_of R) v k p × (decided eq R v k ≡ Some ByCycle)
+  OutcomeStands R v k (WithCycle p) = CycleStands eq m (commits_of R) v k p × (decided eq R v k ≡ Some ByCycle)
   OutcomeStands R v k WithNothing = (lost_in_epoch eq R v k ≡ true) × (decided eq R v k ≡ None)
 
   -- a batch that is asked after the answers A: by a run it is the next one; by a check the next of the trace, when all answers so far are

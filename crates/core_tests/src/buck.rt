@@ -194,6 +194,19 @@ const STALE: [Row; 9] = [
     (Do(Call::Fail), false, DIGEST, Seen::Absent, 0, 0),
 ];
 
+/// A step of a transaction that was closed, after another one was opened and its key asked for again.
+const STALE_ANEW: [Row; 9] = [
+    (Commit, true, DIGEST, Seen::Absent, 0, 0),
+    (Do(Call::Open), true, DIGEST, Seen::Absent, 0, 0),
+    (Do(Call::Ask), true, DIGEST, Seen::Pending, 1, 0),
+    (Do(Call::Take), true, DIGEST, Seen::Pending, 0, 1),
+    (Do(Call::Advance), true, DIGEST, Seen::Pending, 0, 1),
+    (Do(Call::Close), true, DIGEST, Seen::Absent, 0, 0),
+    (Do(Call::Open), true, DIGEST, Seen::Absent, 0, 0),
+    (Do(Call::Ask), true, DIGEST, Seen::Pending, 1, 0),
+    (Do(Call::Give), true, DIGEST, Seen::Pending, 1, 0),
+];
+
 /// A job that is brought back, and one whose ask was left.
 const BACK: [Row; 8] = [
     (Commit, true, DIGEST, Seen::Absent, 0, 0),
@@ -226,6 +239,12 @@ const LOST: [Row; 6] = [
 #[test]
 fn a_step_of_an_ask_that_was_left_is_stale(rt: HostRuntime) -> Result<(), Fail> {
     assert!(rt; first_other(rt.alloc(), &STALE)? == None);
+    Ok(())
+}
+
+#[test]
+fn a_step_of_a_transaction_that_was_closed_is_stale(rt: HostRuntime) -> Result<(), Fail> {
+    assert!(rt; first_other(rt.alloc(), &STALE_ANEW)? == None);
     Ok(())
 }
 

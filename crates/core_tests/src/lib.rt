@@ -6,4 +6,6 @@ mod bench;
 #[cfg(test)]
 mod buck;
 #[cfg(test)]
+mod random;
+#[cfg(test)]
 mod tiny;

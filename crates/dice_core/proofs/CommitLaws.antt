@@ -12,9 +12,9 @@ use Rattle.injected.specs.Inputs.{set_if}
 use Rattle.injected.proofs.LogLemmas.{log_more, log_newest}
 use Rattle.journal.specs.declared.event.Told.{Told}
 use Rattle.journal.specs.declared.event.Told.TheVariants.{Commit}
-use Rattle.journal.specs.Events.{commits_of}
+use Rattle.journal.specs.Events.{commits_of, event_of}
 use Rattle.journal.specs.Law.{IsAllowed, IsLawfulBack, IsLawfulJournal}
-use Rattle.dice_core.specs.Commits.{AreSettable, differs, differing_of, SameSets, AreSet, event_of, Commits, CommitsEntries}
+use Rattle.dice_core.specs.Commits.{AreSettable, differs, differing_of, SameSets, AreSet, Commits, CommitsEntries}
 use Rattle.versioned_graph.specs.Entries.{Stored}
 use Rattle.versioned_graph.specs.Edges.{IsCut}
 use Rattle.versioned_graph.specs.Sound.{AreTrue}

@@ -5,6 +5,7 @@ pub mod CommitLaws
 pub mod CommitLemmas
 pub mod CoreLemmas
 pub mod EventLemmas
+pub mod FaultLemmas
 pub mod GivesLemmas
 pub mod GivingUp
 pub mod JobsLemmas
@@ -14,4 +15,5 @@ pub mod PollLemmas
 pub mod PublicLemmas
 pub mod ResultLemmas
 pub mod SessionLemmas
+pub mod StayLemmas
 pub mod TurnLemmas

@@ -12,7 +12,7 @@ use Rattle.journal.specs.declared.event.Told.TheVariants.{Open, Leave, Drop}
 use Rattle.journal.specs.Events.{Opened, Asking, one_if, open_at, opened_at, open_count, live_at}
 use Rattle.versioned_graph.specs.Entries.{Stored}
 use Rattle.core_laws.specs.Desk.{World, Rests, AreAll, is_out}
-use Rattle.core_laws.proofs.Indices.{opened_counts}
+use Rattle.journal.proofs.Indices.{opened_counts}
 use Rattle.core_laws.proofs.Opens.{there_open}
 use Rattle.core_laws.proofs.StepsRests.{rests_open}
 use Rattle.dice_core.specs.Askings.{DropsAfter, StaysAtHand}

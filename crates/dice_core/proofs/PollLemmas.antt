@@ -12,10 +12,11 @@ use Rattle.task_share.specs.Asked.{Promised}
 use Rattle.task_share.specs.Seen.{task_at, is_live, asks}
 use Rattle.std.proofs.lemmas.Bool.{eqb-true}
 use Rattle.injected.specs.Seen.{cell_at}
-use Rattle.journal.specs.Events.{Asking, commits_of, decided, open_count, opened_at, live_at}
+use Rattle.journal.specs.Events.{Asking, commits_of, decided, open_count, opened_at, live_at, lost_in_epoch}
 use Rattle.core_laws.specs.Tasks.{Standing, Works, Ended, WithValue, WithCycle, WithNothing, Task, is_going, goes_on}
-use Rattle.core_laws.specs.Stands.{CycleStands, lost_in_epoch, IsStanding, TaskStands}
-use Rattle.core_laws.proofs.Indices.{opened_counts}
+use Rattle.journal.specs.Law.{CycleStands}
+use Rattle.core_laws.specs.Stands.{IsStanding, TaskStands}
+use Rattle.journal.proofs.Indices.{opened_counts}
 use Rattle.core_laws.proofs.StepsRests.{quiet_all}
 use Rattle.dice_tasks.specs.Hands.{desk_of}
 use Rattle.dice_tasks.specs.Helds.{Held, task_of}
@@ -26,7 +27,7 @@ use Rattle.dice_core.proofs.CoreLemmas.{task_there}
 
 module _ {K V : Type 0} where
   -- what a key that is not injected has come to is what its task has
-  by_task : (i : Kind) (n : ℕ) (x : V) (o : Came K V) → i ≢ Injected → injected_to i n x o ≡ o
+  pub by_task : (i : Kind) (n : ℕ) (x : V) (o : Came K V) → i ≢ Injected → injected_to i n x o ≡ o
   by_task Injected n x o h = absurd (h refl)
   by_task Computed n x o h = refl
   by_task Projection n x o h = refl

@@ -10,14 +10,14 @@ use Rattle.task_share.specs.Seen.{Share, task_at}
 use Rattle.injected.specs.Seen.{Seen}
 use Rattle.journal.specs.declared.event.Told.{Told}
 use Rattle.journal.specs.declared.event.Told.TheVariants.{Commit, Open, Close, Ask, Leave, Start, Keep, End, Cyclic, Drop, Lost}
-use Rattle.journal.specs.Events.{commits_of, open_count}
+use Rattle.journal.specs.Events.{commits_of, open_count, event_of}
 use Rattle.journal.specs.Law.{IsAllowed}
 use Rattle.versioned_graph.specs.Entries.{Stored}
 use Rattle.dice_jobs.specs.Jobs.{Assigned}
 use Rattle.core_laws.specs.Tasks.{IsOut}
 use Rattle.core_laws.proofs.StepsRests.{rests_commit}
 use Rattle.std.specs.Map.{keys_of}
-use Rattle.dice_core.specs.Commits.{Commits, CutsEntries, CommitsEntries, SameSets, event_of}
+use Rattle.dice_core.specs.Commits.{Commits, CutsEntries, CommitsEntries, SameSets}
 use Rattle.dice_steps.specs.Cells.{CellsStand}
 use Rattle.dice_tasks.specs.Hands.{DeskSeen, desk_of, KeepsHands, KeepsDeskRoom, KeepsWork}
 use Rattle.dice_tasks.specs.Helds.{Held, held_of}

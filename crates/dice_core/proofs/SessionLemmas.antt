@@ -11,7 +11,7 @@ use Rattle.journal.specs.declared.event.Told.{Told}
 use Rattle.journal.specs.declared.event.Told.TheVariants.{Open, Close, Ask, Leave}
 use Rattle.journal.specs.Events.{Opened, Asking, is_for, one_if, open_at, opened_at, open_count, live_at}
 use Rattle.journal.specs.Law.{IsLawfulBack}
-use Rattle.core_laws.proofs.Indices.{opened_below, live_below, opened_counts}
+use Rattle.journal.proofs.Indices.{opened_below, live_below, opened_counts}
 use Rattle.version_epoch.specs.declared.open_versions.Standing.{Standing}
 use Rattle.version_epoch.specs.Standings.{open_count_of, epoch_of}
 use Rattle.dice_core.specs.Sessions.{SessionSeen, SessionsSeen, opened_of, has_ask, opened_in, among_in, session_at, transaction_at, ask_at, is_among, asks_in, IsSame, Opens, Asks, Leaves, Closes, Takes, SessionsStand, Closing, moves_sessions}

@@ -12,7 +12,7 @@ use Rattle.journal.specs.declared.event.Told.{Told}
 use Rattle.journal.specs.declared.event.Told.TheVariants.{Ask, Start, Keep}
 use Rattle.journal.specs.Events.{Opened, open_at, open_count}
 use Rattle.versioned_graph.specs.Entries.{Stored}
-use Rattle.core_laws.proofs.Indices.{opened_counts}
+use Rattle.journal.proofs.Indices.{opened_counts}
 use Rattle.core_laws.proofs.Opens.{there_open}
 use Rattle.dice_steps.specs.AtHand.{AtHand}
 use Rattle.dice_tasks.specs.Hands.{DeskSeen}

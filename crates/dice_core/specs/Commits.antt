@@ -11,7 +11,7 @@ use Rattle.versioned_graph.specs.Sound.{AreTrue}
 use Rattle.injected.specs.Seen.{Seen, sets_at, room_at, newest_at}
 use Rattle.injected.specs.Inputs.{set_if}
 use Rattle.journal.specs.declared.event.Told.{Told}
-use Rattle.journal.specs.declared.event.Told.TheVariants.{Commit}
+use Rattle.journal.specs.Events.{event_of}
 use Rattle.dice_core.specs.declared.commit.CommitRefusal.{CommitRefusal}
 use Rattle.dice_core.specs.declared.commit.CommitRefusal.TheVariants as refusal
 use Rattle.lists.specs.Lists.{AreDistinct, Has}
@@ -71,11 +71,6 @@ module _ {K V : Type 0} (eq : K → K → Bool) where
   -- the changes were set at version v, and nothing else
   abbrev pub AreSet : ℕ → List (K × V) → Seen K V → Seen K V → Type 0
   AreSet v c s t = (k : K) → sets_at eq t k ≡ sets_at eq s k ++ set_if v (lookup (eq k) c)
-
--- the event of a commit, where there are changes
-abbrev pub event_of : {K V : Type 0} → ℕ → List (K × V) → List (Told K V)
-event_of by [] = []
-event_of by (p ∷ c) = Commit by (p ∷ c) ∷ []
 
 module _ {K V : Type 0} (eq : K → K → Bool) where
   -- by a commit of these changes, if there are any, the cells s become t, and the events J become I

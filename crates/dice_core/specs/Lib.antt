@@ -5,3 +5,4 @@ pub mod Cores
 pub mod Givings
 pub mod Joinings
 pub mod Sessions
+pub mod Staying

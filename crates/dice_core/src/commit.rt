@@ -7,7 +7,8 @@ ghost use Rattle.dice_model.specs.Log.{pairs_of};
 ghost use Rattle.injected.specs.Inputs.{AreOf};
 ghost use Rattle.journal.specs.Law.{IsAllowed, IsLawfulJournal};
 ghost use Rattle.dice_tasks.specs.Hands.{KeepsWork};
-ghost use Rattle.dice_core.specs.Commits.{Fault, fault_of, AreSettable, IsFirstFault, differing_of, HaveRoom, SameSets, AreSet, event_of, Commits, CommitsEntries, IsAsBefore};
+ghost use Rattle.journal.specs.Events.{event_of};
+ghost use Rattle.dice_core.specs.Commits.{Fault, fault_of, AreSettable, IsFirstFault, differing_of, HaveRoom, SameSets, AreSet, Commits, CommitsEntries, IsAsBefore};
 ghost use Rattle.dice_steps.specs.Cells.{CellsStand};
 ghost use Rattle.lists.specs.Lists.{AreDistinct};
 

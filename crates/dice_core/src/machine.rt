@@ -9,13 +9,13 @@ ghost use Rattle.dice_model.specs.Eval.{HasValue};
 ghost use Rattle.dice_model.specs.Asks.{AsksFor};
 ghost use Rattle.task_share.specs.Asked.{Tasked};
 ghost use Rattle.task_share.specs.Seen.{task_at, asks, asked_of};
-ghost use Rattle.journal.specs.Events.{Opened, Asking, commits_of, decided, open_at, open_count, opened_at, live_at};
+ghost use Rattle.journal.specs.Events.{Opened, Asking, commits_of, decided, open_at, open_count, opened_at, live_at, lost_in_epoch, event_of};
 ghost use Rattle.injected.specs.Seen.{cell_at};
-ghost use Rattle.journal.specs.Law.{IsLawfulJournal};
+ghost use Rattle.journal.specs.Law.{IsLawfulJournal, CycleStands};
 ghost use Rattle.version_epoch.specs.Standings.{open_count_of};
 ghost use Rattle.versioned_graph.specs.Sound.{AreTrue};
-ghost use Rattle.core_laws.specs.Stands.{CycleStands, IsAtRest, lost_in_epoch};
-ghost use Rattle.dice_core.specs.Commits.{CommitsEntries, Fault, fault_of, AreSettable, IsFirstFault, differing_of, event_of};
+ghost use Rattle.core_laws.specs.Stands.{IsAtRest};
+ghost use Rattle.dice_core.specs.Commits.{CommitsEntries, Fault, fault_of, AreSettable, IsFirstFault, differing_of};
 ghost use Rattle.dice_steps.specs.Cells.{CellsStand};
 ghost use Rattle.dice_tasks.specs.Endings.{GivesUpAll};
 ghost use Rattle.dice_tasks.specs.Hands.{KeepsWork, tasks_of};
@@ -23,6 +23,7 @@ ghost use Rattle.dice_core.specs.Givings.{stale_of, Gives, IsTakenUp};
 ghost use Rattle.dice_core.specs.Joinings.{AsksForKey};
 ghost use Rattle.dice_core.specs.Sessions.{transaction_at, ask_at};
 ghost use Rattle.dice_core.specs.Cores.{CoreSeen, Came, ToValue, ToCycle, ToNothing, Pending, Absent, came_of, decision_of, events_of, past_of, table_at, held_to, injected_to, held_in, poll_of, Turned, IsAsBefore, KeepsTasksOf, DropsThese, IsJobOut, IsNameOut, TakesOut, GivesUpOnly};
+ghost use Rattle.dice_core.specs.Staying.{AnswersStay, LosesWaitersOnly};
 ghost use Rattle.lists.specs.Lists.{Has};
 
 use crate::commit::{CommitRefusal, commit};
@@ -174,6 +175,9 @@ impl<U: Universe> Core<U> {
         ensures settable { OnOk result (AreSettable U.meaning (keys_of (pairs_of changes.now))) }
         ensures fault { IfErr result (λ e. IfSome (fault_of e) (IsFirstFault U.meaning (keys_of (pairs_of changes.now)))) }
         ensures first { (f : Fault U.Key) → IsFirstFault U.meaning (keys_of (pairs_of changes.now)) f → MatchResult result (λ _. ⊥) (λ e. IfSome (fault_of e) (λ g. g ≡ f)) }
+
+        // Changes that can be set are committed, or memory was refused.
+        ensures complete { AreSettable U.meaning (keys_of (pairs_of changes.now)) → IfErr result (λ e. fault_of e ≡ None) }
         ensures version { IfOk result (λ v. v ≡ length (commits_of (past_of self.new))) }
         ensures events { OnOk result (events_of self.new ≡ events_of self.old ++ event_of by (differing_of U.Key.eq U.Value.eq U.meaning self.old.cells (pairs_of changes.now))) }
         ensures tasks { (self.new.tables ≡ self.old.tables) × (self.new.sessions ≡ self.old.sessions) × KeepsWork self.old.desk self.new.desk }
@@ -244,6 +248,9 @@ impl<U: Universe> Core<U> {
     pub fn close(&mut self, tx: u64)
         requires { is_some (open_at (past_of self.old) tx) ≡ true }
         ensures log { (o : Opened) × (ks : List U.Key) × (open_at (past_of self.old) tx ≡ Some o) × (events_of self.new ≡ events_of self.old ++ (Close o.by tx ∷ map (Drop o.version) ks)) × DropsThese U.Key.eq o.version (nat_eq (open_count (past_of self.new) o.version) 0) ks self.old.tables self.new.tables }
+
+        // Whoever still asks is answered as before.
+        ensures others { AnswersStay U.Key.eq U.meaning self.old self.new }
         ensures rest { (self.new.entries ≡ self.old.entries) × (self.new.cells ≡ self.old.cells) }
     {
         laws_of::<U>();
@@ -254,6 +261,9 @@ impl<U: Universe> Core<U> {
     pub fn leave(&mut self, ask: u64)
         requires { is_some (live_at (past_of self.old) ask) ≡ true }
         ensures log { (a : Asking U.Key) × (o : Opened) × (ks : List U.Key) × (live_at (past_of self.old) ask ≡ Some a) × (open_at (past_of self.old) a.opened ≡ Some o) × (events_of self.new ≡ events_of self.old ++ (Leave a.by ask ∷ map (Drop o.version) ks)) × DropsThese U.Key.eq o.version false ks self.old.tables self.new.tables }
+
+        // Whoever still asks is answered as before.
+        ensures others { AnswersStay U.Key.eq U.meaning self.old self.new }
         ensures rest { (self.new.entries ≡ self.old.entries) × (self.new.cells ≡ self.old.cells) }
     {
         laws_of::<U>();
@@ -292,6 +302,9 @@ impl<U: Universe> Core<U> {
         ensures failed { result ≡ true → Turned U.Key.eq U.meaning name.now.version self.old.tables self.new.tables (λ ps qs. GivesUpAll U.Key.eq name.now.version None name.now.key ps qs self.old.desk self.new.desk) }
         ensures home { result ≡ true → IsNameOut U.Key.eq self.new name.now → ⊥ }
         ensures tasks { result ≡ true → GivesUpOnly U.Key.eq self.old self.new }
+
+        // Of those that ask only those are hurt whose tasks waited for the lost one.
+        ensures others { result ≡ true → LosesWaitersOnly U.Key.eq U.meaning name.now self.old self.new }
         ensures other { result ≡ false → self.new ≡ self.old }
         ensures rest { (self.new.entries ≡ self.old.entries) × (self.new.cells ≡ self.old.cells) × (self.new.sessions ≡ self.old.sessions) }
     {

@@ -7,9 +7,9 @@ use Rattle.dice_model.specs.Log.{input}
 use Rattle.injected.specs.Seen.{Seen, newest_at}
 use Rattle.journal.specs.declared.event.Told.{Told}
 use Rattle.journal.specs.declared.event.Told.TheVariants.{Commit, Open, Close, Ask, Leave, Start, Keep, End, Cyclic, Drop, Lost}
-use Rattle.journal.specs.Events.{Opened, Asking, open_at, live_at}
+use Rattle.journal.specs.Events.{Opened, Asking, open_at, live_at, event_of}
 use Rattle.journal.specs.Law.{IsLawfulJournal}
-use Rattle.dice_core.specs.Commits.{differing_of, event_of}
+use Rattle.dice_core.specs.Commits.{differing_of}
 use Rattle.dice_core.specs.Cores.{IsWorkAt}
 use Rattle.dice_core.specs.Joinings.{IsToldOfMake}
 use Rattle.dice_tasks.specs.Makings.{IsOfMake}

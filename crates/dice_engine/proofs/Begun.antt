@@ -6,14 +6,14 @@ use Rattle.std.specs.List.{slice_get}
 use Rattle.dice_key.specs.Meaning.{Meaning}
 use Rattle.journal.specs.declared.event.Told.{Told}
 use Rattle.journal.specs.declared.event.Told.TheVariants.{Open, Ask}
-use Rattle.journal.specs.Events.{Opened, NotClosed, open_at}
+use Rattle.journal.specs.Events.{Opened, NotClosed, open_at, StandsAt, NotLeft}
 use Rattle.journal.specs.Law.{IsLawfulJournal}
 use Rattle.journal.specs.Tell.{event_by}
 use Rattle.journal.proofs.Lawful.{lawful_front}
 use Rattle.turnstile.specs.Events.{events_by}
 use Rattle.turnstile.specs.Seats.{SeatView}
 use Rattle.dice_engine.specs.Turns.{newest_in, Adds, Turn}
-use Rattle.dice_engine.specs.Conditions.{StandsAt, NotLeft, HasOpen, HasAsk}
+use Rattle.dice_engine.specs.Conditions.{HasOpen, HasAsk}
 use Rattle.dice_engine.specs.Calls.{Opens, Closes, Asks}
 use Rattle.dice_engine.proofs.Indices.{get_seam}
 use Rattle.dice_engine.proofs.Kept.{has_open, next_unclosed, next_unleft}

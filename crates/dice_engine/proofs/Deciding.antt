@@ -8,14 +8,14 @@ use Rattle.dice_key.specs.Lawful.{IsEquality}
 use Rattle.dice_key.specs.Meaning.{Meaning}
 use Rattle.journal.specs.declared.event.Told.{Told}
 use Rattle.journal.specs.declared.event.Told.TheVariants.{Commit, Open, Close, Ask, Leave, Start, Keep, End, Cyclic, Drop, Lost}
-use Rattle.journal.specs.Events.{Opened, Decision, ByValue, ByCycle, NotClosed, is_for, names_by, open_at, opened_at, decided}
+use Rattle.journal.specs.Events.{Opened, Decision, ByValue, ByCycle, NotClosed, is_for, names_by, open_at, opened_at, decided, StandsAt}
 use Rattle.journal.specs.Law.{IsLawfulBack, IsLawfulJournal}
 use Rattle.journal.proofs.Lawful.{lawful_front}
-use Rattle.core_laws.proofs.Indices.{begins_none}
+use Rattle.journal.proofs.Indices.{begins_none}
 use Rattle.turnstile.specs.Events.{StartsWith}
 use Rattle.turnstile.specs.Seats.{SeatView}
 use Rattle.dice_engine.specs.Turns.{Later, Turn}
-use Rattle.dice_engine.specs.Conditions.{StandsAt, HasOpen}
+use Rattle.dice_engine.specs.Conditions.{HasOpen}
 use Rattle.dice_engine.specs.Calls.{Closes}
 use Rattle.dice_engine.proofs.Indices.{back_get, back_below, from_front, open_unclosed}
 use Rattle.dice_engine.proofs.Kept.{same_opened, has_open}

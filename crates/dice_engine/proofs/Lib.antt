@@ -8,3 +8,4 @@ pub mod Begun
 pub mod Deciding
 pub mod Listing
 pub mod Jobs
+pub mod Quieted

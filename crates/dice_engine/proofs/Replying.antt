@@ -7,10 +7,9 @@ use Rattle.dice_key.specs.declared.universe.Kind.{Kind}
 use Rattle.dice_key.specs.declared.universe.Kind.TheVariants.{Injected, Computed, Projection}
 use Rattle.dice_model.specs.Eval.{HasValue}
 use Rattle.journal.specs.declared.event.Told.{Told}
-use Rattle.journal.specs.Events.{Opened, Asking, ByValue, ByCycle, is_for, decided, open_at, opened_at, live_at, open_count}
-use Rattle.journal.specs.Law.{IsLawfulJournal}
-use Rattle.core_laws.proofs.Indices.{live_opened, opened_counts}
-use Rattle.core_laws.specs.Stands.{CycleStands, lost_in_epoch}
+use Rattle.journal.specs.Events.{Opened, Asking, ByValue, ByCycle, is_for, decided, open_at, opened_at, live_at, open_count, lost_in_epoch}
+use Rattle.journal.specs.Law.{IsLawfulJournal, CycleStands}
+use Rattle.journal.proofs.Indices.{live_opened, opened_counts}
 use Rattle.dice_core.specs.Cores.{Came, ToValue, ToCycle, ToNothing, Pending, Absent, decision_of, injected_to}
 use Rattle.dice_engine.specs.Turns.{log_of}
 use Rattle.dice_engine.specs.Replies.{Reply, TheCycle, NoRoom, Tells, IsLiveIn, IsValued, MayRefuse, IsReply}

@@ -6,3 +6,5 @@ pub mod Replies
 pub mod Lines
 pub mod Jobs
 pub mod Doings
+pub mod Leaving
+pub mod Seating

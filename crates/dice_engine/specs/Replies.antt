@@ -6,8 +6,8 @@ use Rattle.dice_key.specs.declared.universe.Kind.TheVariants.{Injected}
 use Rattle.dice_key.specs.declared.universe.NoMemory.{NoMemory}
 use Rattle.dice_model.specs.Eval.{HasValue}
 use Rattle.journal.specs.declared.event.Told.{Told}
-use Rattle.journal.specs.Events.{Decision, ByValue, ByCycle, decided, live_at}
-use Rattle.core_laws.specs.Stands.{CycleStands, lost_in_epoch}
+use Rattle.journal.specs.Events.{Decision, ByValue, ByCycle, decided, live_at, lost_in_epoch}
+use Rattle.journal.specs.Law.{CycleStands}
 use Rattle.dice_core.specs.Cores.{Came, ToValue, ToCycle, ToNothing, Pending, Absent}
 use Rattle.dice_engine.specs.Turns.{log_of}
 use Rattle.dice_engine.specs.declared.promise.Answer.{Answer}

@@ -3,14 +3,14 @@ ghost use Rattle.std.specs.Prelude.{◌≡◌, ◌≢◌, ◌<◌, ◌⊎◌, �
 ghost use Rattle.dice_key.specs.declared.universe.Kind.TheVariants.{Injected};
 ghost use Rattle.journal.specs.declared.event.Told.{Told};
 ghost use Rattle.journal.specs.declared.event.Told.TheVariants.{Open, Close};
-ghost use Rattle.journal.specs.Events.{Opened, Decision, NotClosed, ByCycle, decided, open_at, live_at};
+ghost use Rattle.journal.specs.Events.{Opened, Decision, NotClosed, ByCycle, decided, open_at, live_at, StandsAt, NotLeft};
 ghost use Rattle.journal.specs.Law.{IsLawfulJournal};
 ghost use Rattle.journal.specs.Tell.{event_by};
 ghost use Rattle.atomic_table.specs.Seated.{TableId};
 ghost use Rattle.turnstile.specs.Events.{StartsWith, events_by, AllBelow};
 ghost use Rattle.turnstile.specs.Seats.{SeatView, IsSeatOf};
 ghost use Rattle.dice_engine.specs.Turns.{log_of, Later, Turn, Works};
-ghost use Rattle.dice_engine.specs.Conditions.{StandsAt, NotLeft, HasOpen, HasAsk, SawAsk};
+ghost use Rattle.dice_engine.specs.Conditions.{HasOpen, HasAsk, SawAsk};
 ghost use Rattle.dice_engine.specs.Calls.{Closes};
 ghost use Rattle.dice_engine.specs.Replies.{Reply, TheValue, TheCycle, NoRoom, NotYet, NotLive, IsReply, IsLiveIn, IsValued};
 ghost use Rattle.lists.specs.Lists.{Has};

@@ -6,7 +6,7 @@ use Rattle.journal.specs.declared.event.Told.{Told}
 use Rattle.journal.specs.declared.event.Told.TheVariants.{Open, Close, Keep, End, Cyclic}
 use Rattle.journal.specs.Events.{Opened, Decision, ByValue, ByCycle, is_for, names_by, open_at, decided}
 use Rattle.journal.specs.Law.{IsLawfulJournal, IsLawfulBack}
-use Rattle.core_laws.proofs.Indices.{begins_none}
+use Rattle.journal.proofs.Indices.{begins_none}
 use Rattle.turnstile.specs.Events.{StartsWith}
 use Rattle.dice_engine.proofs.Callers.{stands_longer}
 use Rattle.dice_engine.proofs.Indices.{from_front, open_stands, closed_free}

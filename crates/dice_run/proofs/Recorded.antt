@@ -9,12 +9,10 @@ use Rattle.atomic_table.specs.Seated.{TableId}
 use Rattle.dice_key.specs.declared.universe.Kind.TheVariants.{Injected}
 use Rattle.journal.specs.declared.event.Told.{Told}
 use Rattle.journal.specs.declared.event.Told.TheVariants as told
-use Rattle.journal.specs.Events.{NotClosed}
+use Rattle.journal.specs.Events.{NotClosed, event_of, StandsAt}
 use Rattle.journal.specs.Tell.{event_by}
 use Rattle.turnstile.specs.Events.{StartsWith, events_by, has_number, AllBelow}
-use Rattle.dice_core.specs.Commits.{event_of}
 use Rattle.dice_engine.specs.Calls.{differing_from}
-use Rattle.dice_engine.specs.Conditions.{StandsAt}
 use Rattle.dice_engine.specs.declared.promise.Transaction.{Transaction}
 use Rattle.dice_engine.proofs.Callers.{stands_longer}
 use Rattle.dice_engine.proofs.Indices.{closed_free, free_closed}

@@ -4,11 +4,10 @@ use Rattle.std.proofs.lemmas.List.{reverse-append, length-reverse}
 use Rattle.atomic_table.specs.Seated.{TableId}
 use Rattle.journal.specs.declared.event.Told.{Told}
 use Rattle.journal.specs.declared.event.Told.TheVariants.{Commit, Open, Close, Ask, Leave}
-use Rattle.journal.specs.Events.{NotClosed, commits_of}
+use Rattle.journal.specs.Events.{NotClosed, commits_of, event_of, StandsAt, NotLeft}
 use Rattle.turnstile.specs.Events.{StartsWith}
-use Rattle.dice_core.specs.Commits.{event_of}
 use Rattle.dice_engine.specs.Turns.{log_of}
-use Rattle.dice_engine.specs.Conditions.{StandsAt, NotLeft, HasOpen, HasAsk}
+use Rattle.dice_engine.specs.Conditions.{HasOpen, HasAsk}
 use Rattle.dice_engine.proofs.Callers.{open_later, ask_later, closed_both, left_both, same_number}
 use Rattle.dice_engine.proofs.Indices.{back_below, from_front}
 use Rattle.action_digest.specs.declared.key.Key.{Key}

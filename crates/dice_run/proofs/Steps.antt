@@ -13,10 +13,9 @@ use mathlib.Core.List.{map-append}
 use Rattle.dice_model.proofs.Stable.{value_stable, reaches_stable, cycle_stable}
 use Rattle.journal.specs.declared.event.Told.{Told}
 use Rattle.journal.specs.declared.event.Told.TheVariants.{Open, Close, Ask, Leave}
-use Rattle.journal.specs.Events.{NotClosed}
-use Rattle.dice_core.specs.Commits.{event_of}
+use Rattle.journal.specs.Events.{NotClosed, event_of, NotLeft}
 use Rattle.dice_engine.specs.Calls.{differing_from}
-use Rattle.dice_engine.specs.Conditions.{NotLeft, HasOpen, HasAsk}
+use Rattle.dice_engine.specs.Conditions.{HasOpen, HasAsk}
 use Rattle.dice_engine.specs.declared.promise.Transaction.{Transaction}
 use Rattle.script.specs.declared.line.Line.TheVariants as line
 use Rattle.script.specs.declared.line.Request.{Request}

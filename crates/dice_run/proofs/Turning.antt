@@ -14,11 +14,10 @@ use Rattle.dice_engine.specs.declared.promise.Transaction.{Transaction}
 use Rattle.dice_run.specs.Driving.{Pledge}
 use Rattle.journal.specs.declared.event.Told.{Told}
 use Rattle.journal.specs.declared.event.Told.TheVariants.{Open, Close, Ask, Leave}
-use Rattle.journal.specs.Events.{NotClosed, open_at, live_at}
+use Rattle.journal.specs.Events.{NotClosed, open_at, live_at, event_of}
 use Rattle.journal.specs.Tell.{event_by}
 use Rattle.turnstile.specs.Events.{events_by, AllBelow}
 use Rattle.turnstile.specs.Seats.{IsSeatOf, IsWriter}
-use Rattle.dice_core.specs.Commits.{event_of}
 use Rattle.dice_engine.specs.Turns.{log_of, newest_in, Later, Turn}
 use Rattle.dice_engine.specs.Calls.{AddsNothing, Opens as OpensIn, Asks as AsksIn, Closes as ClosesIn, Leaves as LeavesIn, Commits as CommitsIn, differing_from}
 use Rattle.dice_engine.specs.Conditions.{HasOpen, HasAsk}

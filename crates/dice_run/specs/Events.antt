@@ -2,12 +2,10 @@
 use Rattle.std.specs.Prelude.{◌≡◌, ℕ, Bool, true, false, List, [], ◌∷◌, ◌++◌, length, take, reverse, filter, Option, Some, None}
 use Rattle.journal.specs.declared.event.Told.{Told}
 use Rattle.journal.specs.declared.event.Told.TheVariants as told
-use Rattle.journal.specs.Events.{Decision, decided}
+use Rattle.journal.specs.Events.{Decision, decided, event_of, StandsAt}
 use Rattle.journal.specs.Law.{IsLawfulJournal}
 use Rattle.journal.specs.Tell.{event_by}
 use Rattle.turnstile.specs.Events.{events_by, AllBelow}
-use Rattle.dice_core.specs.Commits.{event_of}
-use Rattle.dice_engine.specs.Conditions.{StandsAt}
 use Rattle.script.specs.declared.line.Line.{Line}
 use Rattle.script.specs.declared.line.Line.TheVariants.{Put, Drop, Commit, Open, Ask, Action, Wait, Cancel, Close}
 use Rattle.script.specs.declared.line.Request.{Request}

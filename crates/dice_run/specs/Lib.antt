@@ -10,3 +10,4 @@ pub mod Events
 pub mod Recording
 pub mod Keeping
 pub mod Tracing
+pub mod Given

@@ -1,9 +1,8 @@
 -- What the driver knows of its journal while it carries out a script.
 use Rattle.std.specs.Prelude.{◌≡◌, ◌≢◌, ◌⊎◌, ℕ, Bool, true, false, List, [], ◌∷◌, ◌++◌, Some, None}
 use Rattle.journal.specs.declared.event.Told.TheVariants as told
-use Rattle.journal.specs.Events.{NotClosed}
+use Rattle.journal.specs.Events.{NotClosed, StandsAt}
 use Rattle.turnstile.specs.Events.{StartsWith}
-use Rattle.dice_engine.specs.Conditions.{StandsAt}
 use Rattle.dice_engine.specs.declared.promise.Transaction.{Transaction}
 use Rattle.script.specs.declared.line.Line.{Line}
 use Rattle.script.specs.declared.line.Line.TheVariants.{Put, Drop, Commit, Open, Ask, Action, Wait, Cancel, Close}

@@ -5,10 +5,9 @@ use Rattle.atomic_table.specs.Seated.{TableId}
 use Rattle.dice_model.specs.Eval.{HasValue}
 use Rattle.journal.specs.declared.event.Told.{Told}
 use Rattle.journal.specs.declared.event.Told.TheVariants.{Open, Ask}
-use Rattle.journal.specs.Law.{IsLawfulJournal}
+use Rattle.journal.specs.Law.{IsLawfulJournal, CycleStands}
 use Rattle.journal.specs.Tell.{event_by}
-use Rattle.core_laws.specs.Stands.{CycleStands}
-use Rattle.dice_core.specs.Commits.{event_of}
+use Rattle.journal.specs.Events.{event_of}
 use Rattle.turnstile.specs.Events.{StartsWith, events_by, AllBelow}
 use Rattle.turnstile.specs.Seats.{SeatView, IsSeatOf}
 use Rattle.dice_engine.specs.Turns.{log_of, Later}
@@ -70,7 +69,3 @@ pub record Asks (id : TableId) (s u : Place) (ask opened version : ℕ) (k : Key
 abbrev pub IsCome : List (List (Key × Value)) → ℕ → Key → Came → Type 0
 IsCome C v k (came.Value x) = HasValue key_equal buck C v k (arc_value x)
 IsCome C v k (came.Cycle p) = CycleStands key_equal buck C v k (arc_value p)
-
--- it has given numbers away, and is as before else
-abbrev pub GivesSeats : Place → Place → Type 0
-GivesSeats s u = u ≡ record s { spare_start = u.spare_start }

@@ -5,6 +5,7 @@ ghost use Rattle.dice_words.specs.Accepted.{IsAccepted, Asks};
 ghost use Rattle.dice_words.specs.declared.words.Command.{Command};
 ghost use Rattle.dice_words.specs.declared.words.Command.TheVariants as command;
 ghost use Rattle.dice_run.specs.Run.{Answers, Refuses, IsWritten, ReadWhole, Does, Begins};
+ghost use Rattle.dice_run.specs.Given.{IsGiven};
 
 use crate::bulk::run_bulk;
 use crate::carried::answer;
@@ -14,6 +15,7 @@ use dice_engine::Gate;
 use dice_io::{ReadFail, Sink, Source, read_all, write_all};
 use dice_key::NoMemory;
 use dice_words::{Command, WordsFail, read_words};
+use script::readings_are_one;
 use std::alloc::Global;
 use std::sync::Wait;
 use std::thread::Threads;
@@ -53,7 +55,11 @@ pub fn run<R: Threads + Wait + Sync, S: Source, K: Sink, G: Gate>(
     ensures done { result ≡ Status.Done → (c : Command) × Asks (map (λ w. w.now) words.now) c × Does c (S.left source.old) (S.left source.new) (Gained (K.taken sink.old) (K.taken sink.new)) kept.new }
     ensures memory { result ≡ Status.NoMemory → Unchanged (K.taken sink.old) (K.taken sink.new) }
     ensures empty { result ≢ Status.Done → kept.new ≡ None }
+
+    // A command that has what it needs, and meets no fault of source or sink, is carried out, or memory was refused.
+    ensures complete { IsAccepted (map (λ w. w.now) words.now) → (c : Command) → Asks (map (λ w. w.now) words.now) c → IsGiven c (S.left source.old) → (Rose (S.faults source.old) (S.faults source.new) → ⊥) → (Rose (K.faults sink.old) (K.faults sink.new) → ⊥) → (result ≡ Status.Done) ⊎ (result ≡ Status.NoMemory) }
 {
+    readings_are_one();
     match read_words(alloc, words) {
         Ok(Command::Run { workers, trace }) => run_script(
             rt, alloc, workers, trace, source, sink, gate, kept,

@@ -21,7 +21,8 @@ use Rattle.journal.specs.Events.{commits_of}
 use Rattle.versioned_graph.specs.Entries.{Stored}
 use Rattle.versioned_graph.specs.Looks.{Matches}
 use Rattle.core_laws.specs.Tasks.{IsReady, IsOut, IsWaiting, Standing, Works, Ended, WithValue, WithCycle, WithNothing, is_going, value_of, value_in}
-use Rattle.core_laws.specs.Stands.{AsksNext, TaskStands, IsStanding, VersionStands, CycleStands}
+use Rattle.journal.specs.Law.{CycleStands}
+use Rattle.core_laws.specs.Stands.{AsksNext, TaskStands, IsStanding, VersionStands}
 use Rattle.core_laws.specs.Desk.{World, out_in}
 use Rattle.core_laws.proofs.Cycles.{cycle_above, round_is_cycle}
 use Rattle.core_laws.proofs.Held.{wanted_next}

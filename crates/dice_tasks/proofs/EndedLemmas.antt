@@ -10,9 +10,8 @@ use Rattle.task_share.specs.Lent.{WritesTask}
 use Rattle.journal.specs.declared.event.Told.{Told}
 use Rattle.journal.specs.declared.event.Told.TheVariants.{Keep, End, Cyclic, Lost}
 use Rattle.journal.specs.Events.{commits_of}
-use Rattle.journal.specs.Law.{IsWanted}
+use Rattle.journal.specs.Law.{IsWanted, CycleStands}
 use Rattle.core_laws.specs.Tasks.{IsOut, Outcome, WithValue, WithCycle, WithNothing, Works, Ended, Task, goes_on, is_going}
-use Rattle.core_laws.specs.Stands.{CycleStands}
 use Rattle.core_laws.specs.Changes.{Puts, Lives, Withdraws}
 use Rattle.core_laws.specs.Desk.{World, DeskTurns, Stand, is_ready, is_out}
 use Rattle.core_laws.proofs.StepsEnds.{ends_stand, keeps_stand, loses_stand, cycles_stand}

@@ -10,7 +10,7 @@ use Rattle.journal.specs.declared.event.Told.TheVariants.{Drop}
 use Rattle.journal.specs.declared.event.Told.TheVariants as event
 use Rattle.journal.specs.Events.{commits_of}
 use Rattle.core_laws.specs.Tasks.{IsReady, IsOut, IsWaiting, Outcome, WithValue, WithCycle, WithNothing, Standing, Works, Ended, goes_on, is_going}
-use Rattle.core_laws.specs.Stands.{CycleStands}
+use Rattle.journal.specs.Law.{CycleStands}
 use Rattle.core_laws.specs.Desk.{World, is_ready, is_out}
 use Rattle.dice_tasks.specs.declared.end.How.{How}
 use Rattle.dice_tasks.specs.declared.end.How.TheVariants.{Lost, Cycle}

@@ -1,5 +1,6 @@
 -- What a journal says. R is a journal read backwards: its newest event first. The index of an event is the number of events before it.
 use Rattle.std.specs.Prelude.{◌≡◌, ◌≢◌, ℕ, ◌+◌, ◌-◌, Bool, true, false, cond, not, ◌&&◌, ◌||◌, eqb, List, [], ◌∷◌, ◌++◌, length, Option, Some, None}
+use Rattle.std.specs.List.{slice_get}
 use Rattle.std.specs.Option.{option_map, option_and_then}
 use Rattle.journal.specs.declared.event.Told.{Told}
 use Rattle.journal.specs.declared.event.Told.TheVariants.{Commit, Open, Close, Ask, Leave, Start, Keep, End, Cyclic, Drop, Lost}
@@ -151,6 +152,31 @@ module _ {K V : Type 0} where
     pub index : length before ≡ i
     pub not_closed : NotClosed i later
 
+module _ {K V : Type 0} where
+  -- the event of this index, in a journal in its order
+  abbrev pub StandsAt : List (Told K V) → ℕ → Told K V → Type 0
+  StandsAt J i e = slice_get J i ≡ Some e
+
+  -- no Leave of this ask
+  abbrev pub NotLeft : ℕ → List (Told K V) → Type 0
+  NotLeft i [] = Unit {0}
+  NotLeft i (Leave by a ∷ J) = (a ≢ i) × NotLeft i J
+  NotLeft i (Commit by c ∷ J) = NotLeft i J
+  NotLeft i (Open by v ∷ J) = NotLeft i J
+  NotLeft i (Close by t ∷ J) = NotLeft i J
+  NotLeft i (Ask by t k ∷ J) = NotLeft i J
+  NotLeft i (Start v k c ∷ J) = NotLeft i J
+  NotLeft i (Keep v k b ∷ J) = NotLeft i J
+  NotLeft i (End v k ∷ J) = NotLeft i J
+  NotLeft i (Cyclic v k ∷ J) = NotLeft i J
+  NotLeft i (Drop v k ∷ J) = NotLeft i J
+  NotLeft i (Lost v k ∷ J) = NotLeft i J
+
+-- the event of a commit, where there are changes
+abbrev pub event_of : {K V : Type 0} → ℕ → List (K × V) → List (Told K V)
+event_of by [] = []
+event_of by (p ∷ c) = Commit by (p ∷ c) ∷ []
+
 -- the event's version and key are these
 abbrev pub names_by : {K : Type 0} → (K → K → Bool) → ℕ → K → ℕ → K → Bool
 names_by eq w q v k = eqb w v && eq k q
@@ -185,6 +211,21 @@ module _ {K V : Type 0} (eq : K → K → Bool) where
   asked_in_epoch (Cyclic w q ∷ R) v k = asked_in_epoch R v k
   asked_in_epoch (Drop w q ∷ R) v k = asked_in_epoch R v k
   asked_in_epoch (Lost w q ∷ R) v k = asked_in_epoch R v k
+
+  -- a Lost of (v, k) stands in the epoch of v
+  abbrev pub lost_in_epoch : List (Told K V) → ℕ → K → Bool
+  lost_in_epoch [] v k = false
+  lost_in_epoch (Open by w ∷ R) v k = cond (begins R w v) false (lost_in_epoch R v k)
+  lost_in_epoch (Lost w q ∷ R) v k = names_by eq w q v k || lost_in_epoch R v k
+  lost_in_epoch (Commit by c ∷ R) v k = lost_in_epoch R v k
+  lost_in_epoch (Close by t ∷ R) v k = lost_in_epoch R v k
+  lost_in_epoch (Ask by t q ∷ R) v k = lost_in_epoch R v k
+  lost_in_epoch (Leave by a ∷ R) v k = lost_in_epoch R v k
+  lost_in_epoch (Start w q c ∷ R) v k = lost_in_epoch R v k
+  lost_in_epoch (Keep w q b ∷ R) v k = lost_in_epoch R v k
+  lost_in_epoch (End w q ∷ R) v k = lost_in_epoch R v k
+  lost_in_epoch (Cyclic w q ∷ R) v k = lost_in_epoch R v k
+  lost_in_epoch (Drop w q ∷ R) v k = lost_in_epoch R v k
 
   -- a Start of (v, k) with no later End, Cyclic, Drop or Lost of it
   abbrev pub is_running : List (Told K V) → ℕ → K → Bool

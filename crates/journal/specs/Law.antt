@@ -5,7 +5,7 @@ use Rattle.dice_key.specs.Meaning.{Meaning, Answered, Ends}
 use Rattle.dice_key.specs.declared.universe.Kind.TheVariants.{Injected}
 use Rattle.dice_model.specs.Log.{input, IsCommit}
 use Rattle.dice_model.specs.Eval.{HasValue}
-use Rattle.dice_model.specs.Asks.{Goes, Reaches, ReachesCycle, AllTrue}
+use Rattle.dice_model.specs.Asks.{Goes, Reaches, ReachesCycle, IsCycle, AllTrue}
 use Rattle.journal.specs.declared.event.Told.{Told}
 use Rattle.journal.specs.declared.event.Told.TheVariants.{Commit, Open, Close, Ask, Leave, Start, Keep, End, Cyclic, Drop, Lost}
 use Rattle.journal.specs.declared.event.Reason.{Reason}
@@ -40,6 +40,14 @@ module _ {K V : Type 0} (eq : K → K → Bool) (m : Meaning K V) where
     pub value : V
     pub first : HasValue eq m C w k value
     pub second : HasValue eq m C b k value
+
+  -- the path is a cycle at v, and k reaches its first key
+  pub record CycleStands (C : List (List (K × V))) (v : ℕ) (k : K) (path : List K) : Type 0 where
+    pub first : K
+    pub rest : List K
+    pub path_is : path ≡ first ∷ rest
+    pub cycle : IsCycle eq m C v (first ∷ rest)
+    pub reaches : Reaches eq m C v k first
 
   module _ (R : List (Told K V)) where
     -- some live ask at v has a key that reaches k at v
@@ -83,19 +91,19 @@ module _ {K V : Type 0} (eq : K → K → Bool) (m : Meaning K V) where
       pub reaches : Reaches eq m (commits_of R) v once k
       pub after : ended_at R ≡ Some v
 
-    -- the event may come next
+    -- the event may come next; no task is of an injected key, so its events are of other keys
     abbrev pub IsAllowed : Told K V → Type 0
     IsAllowed (Commit by c) = IsCommit m c × AllByRecursion (λ (p : K × V). input eq m (commits_of R) (length (commits_of R)) p.0 ≢ p.1) c
     IsAllowed (Open by v) = v ≡ length (commits_of R)
     IsAllowed (Close by t) = (o : Opened) × (open_at R t ≡ Some o) × (o.by ≡ by)
     IsAllowed (Ask by t k) = (o : Opened) × (open_at R t ≡ Some o)
     IsAllowed (Leave by i) = (a : Asking K) × (live_at R i ≡ Some a) × (a.by ≡ by)
-    IsAllowed (Start v k c) = IsWanted v k × IsFresh v k × IsTrueCause v k c
-    IsAllowed (Keep v k b) = IsWanted v k × IsFresh v k × KeepsValue v k b
-    IsAllowed (End v k) = IsWanted v k × (is_running eq R v k ≡ true) × (decided eq R v k ≡ None) × ((x : V) × HasValue eq m (commits_of R) v k x)
-    IsAllowed (Cyclic v k) = IsWanted v k × (decided eq R v k ≡ None) × ReachesCycle eq m (commits_of R) v k
-    IsAllowed (Lost v k) = IsWanted v k × (decided eq R v k ≡ None)
-    IsAllowed (Drop v k) = IsDropped v k
+    IsAllowed (Start v k c) = IsWanted v k × IsFresh v k × IsTrueCause v k c × (m.kind k ≢ Injected)
+    IsAllowed (Keep v k b) = IsWanted v k × IsFresh v k × KeepsValue v k b × (m.kind k ≢ Injected)
+    IsAllowed (End v k) = IsWanted v k × (is_running eq R v k ≡ true) × (decided eq R v k ≡ None) × ((x : V) × HasValue eq m (commits_of R) v k x) × (m.kind k ≢ Injected)
+    IsAllowed (Cyclic v k) = IsWanted v k × (decided eq R v k ≡ None) × ReachesCycle eq m (commits_of R) v k × (m.kind k ≢ Injected)
+    IsAllowed (Lost v k) = IsWanted v k × (decided eq R v k ≡ None) × (m.kind k ≢ Injected)
+    IsAllowed (Drop v k) = IsDropped v k × (m.kind k ≢ Injected)
 
   -- each event is allowed by those before it
   abbrev pub IsLawfulBack : List (Told K V) → Type 0

@@ -3,3 +3,5 @@ pub mod Law
 pub mod Shape
 pub mod Tell
 pub mod Texts
+pub mod Words
+pub mod Worked

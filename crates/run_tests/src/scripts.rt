@@ -171,7 +171,7 @@ fn files_that_come_back_stamps_and_cutoff(rt: HostRuntime) -> Result<(), Fail> {
     Ok(())
 }
 
-const TARGETS: [Row; 7] = [
+const TARGETS: [Row; 8] = [
     (
         b"put a/BUCK 75\nfilegroup(name = \"x\", srcs = [\":y\"])\nwrite_file(name = \"y\", content = \"a\")\n\ncommit\nopen t\nask t r //a:x\nwait r\nput a/BUCK 75\nwrite_file(name = \"x\", content = \"b\")\nfilegroup(name = \"y\", srcs = [\":x\"])\n\ncommit\nopen s\nask s q //a:x\nask s p //a:y\n",
         0,
@@ -206,6 +206,11 @@ const TARGETS: [Row; 7] = [
         b"put a/BUCK 45\nfilegroup(name = \"x\", srcs = [\"none\", \":x\"])\n\ncommit\nopen t\nask t r //a:x\n",
         0,
         b"commit 1\nopen t 1\nr 1 cycle //a:x\n",
+    ),
+    (
+        b"put a/BUCK 74\nfilegroup(name = \"x\", srcs = [\":y\"])\nfilegroup(name = \"y\", srcs = [\":x\"])\n\ncommit\nopen t\nask t r //a:x\ncancel r\nask t q //a:y\n",
+        0,
+        b"commit 1\nopen t 1\nr 1 cancelled\nq 1 cycle //a:x //a:y\n",
     ),
 ];
 
@@ -330,30 +335,50 @@ fn requests_that_are_given_up_and_paths_that_are_dropped(rt: HostRuntime) -> Res
     Ok(())
 }
 
-const HOSTILE: [Row; 10] = [
-    (b"put a/x 4194305\n", 5, b"line 1: number\n"),
-    (b"put a/x 01\n", 5, b"line 1: number\n"),
-    (b"put a//x 1\n", 5, b"line 1: path\n"),
-    (b"put a/x 1\nab\n", 5, b"line 1: count\n"),
-    (b"commit \n", 5, b"line 1: word\n"),
-    (b"open t\nclose t\nopen t\n", 5, b"line 3: taken\n"),
-    (b"open t\nclose t\nclose t\n", 5, b"line 3: open\n"),
-    (b"wait r\n", 5, b"line 1: unknown\n"),
-    (
-        b"open t\nask t r //a:w\nclose t\nwait r\n",
-        5,
-        b"line 4: cancelled\n",
-    ),
-    (
-        b"open abcdefghijklmnopqrstuvwxyzabcdefg\n",
-        5,
-        b"line 1: name\n",
-    ),
+/// A script, the line of its first fault, and the word for it.
+type FaultRow = (&'static [u8], u64, &'static str);
+
+const HOSTILE: [FaultRow; 10] = [
+    (b"put a/x 4194305\n", 1, "number"),
+    (b"put a/x 01\n", 1, "number"),
+    (b"put a//x 1\n", 1, "path"),
+    (b"put a/x 1\nab\n", 1, "count"),
+    (b"commit \n", 1, "word"),
+    (b"open t\nclose t\nopen t\n", 3, "taken"),
+    (b"open t\nclose t\nclose t\n", 3, "open"),
+    (b"wait r\n", 1, "unknown"),
+    (b"open t\nask t r //a:w\nclose t\nwait r\n", 4, "cancelled"),
+    (b"open abcdefghijklmnopqrstuvwxyzabcdefg\n", 1, "name"),
 ];
+
+/// Two good lines.
+const GOOD: &[u8] = b"drop z/z\ncommit\n";
+
+/// Whether the fault of a row is told on its line, after so many pairs of good lines.
+fn is_refused<R: Threads + Wait + Sync>(
+    rt: &R,
+    alloc: Global,
+    pairs: u64,
+    row: &FaultRow,
+) -> Result<bool, NoMemory> {
+    let (rest, line, word) = *row;
+    let mut script = Vec::new(alloc);
+    for _ in 0..pairs {
+        script.extend_from_slice(GOOD)?;
+    }
+    script.extend_from_slice(rest)?;
+    let told = line.saturating_add(pairs.saturating_mul(2));
+    let wanted = format!(in alloc; "line {told}: {word}\n")?;
+    let (status, out) = outcome(rt, alloc, RUN, &script, &[], &[])?;
+    Ok(status == 5 && out.as_slice() == wanted.as_bytes())
+}
 
 #[test]
 fn hostile_scripts(rt: HostRuntime) -> Result<(), Fail> {
-    assert_eq!(rt; first_other(&rt, rt.alloc(), RUN, b"", &HOSTILE)?, None);
+    for row in &HOSTILE {
+        assert!(rt; is_refused(&rt, rt.alloc(), 0, row)?);
+        assert!(rt; is_refused(&rt, rt.alloc(), 5_000, row)?);
+    }
     Ok(())
 }
 
@@ -378,11 +403,36 @@ fn words_that_name_no_command_and_scripts_that_are_too_long(rt: HostRuntime) -> 
     Ok(())
 }
 
+/// Whether the run of the first script ends as it should if the read with this number fails, and if the write does. The script has
+/// 101 bytes and the output 114, so that of each the calls from 0 to 11 are made.
+fn fails_as_told<R: Threads + Wait + Sync>(
+    rt: &R,
+    alloc: Global,
+    call: u64,
+) -> Result<bool, NoMemory> {
+    let (read, unread) = outcome(rt, alloc, RUN, FIRST, &[call], &[])?;
+    let (written, begun) = outcome(rt, alloc, RUN, FIRST, &[], &[call])?;
+    if call == 12 {
+        return Ok(
+            read == 0
+                && unread.as_slice() == FIRST_OUT
+                && written == 0
+                && begun.as_slice() == FIRST_OUT,
+        );
+    }
+    Ok(
+        read == 3
+            && unread.is_empty()
+            && written == 4
+            && begun.len() as u64 == call.saturating_mul(10)
+            && FIRST_OUT.starts_with(begun.as_slice()),
+    )
+}
+
 #[test]
-fn failing_reads_and_writes(rt: HostRuntime) -> Result<(), Fail> {
-    let (status, out) = outcome(&rt, rt.alloc(), RUN, FIRST, &[1], &[])?;
-    assert!(rt; status == 3 && out.is_empty());
-    let (status, out) = outcome(&rt, rt.alloc(), RUN, FIRST, &[], &[1])?;
-    assert!(rt; status == 4 && out.as_slice() == b"commit 1\no".as_slice());
+fn each_read_and_each_write_fails(rt: HostRuntime) -> Result<(), Fail> {
+    for call in 0..13 {
+        assert!(rt; fails_as_told(&rt, rt.alloc(), call)?, "call {call}");
+    }
     Ok(())
 }

@@ -223,10 +223,101 @@ fn requests_that_a_script_cancels(rt: HostRuntime) {
     }
 }
 
+/// What a long script begins with, and how many lines of it do something; then what it repeats, with a number between the parts, and
+/// how many lines of that do something.
+type LongRow = (&'static [u8], usize, &'static [&'static [u8]], usize);
+
+const LONG: [LongRow; 9] = [
+    // puts of one byte, and paths that are dropped
+    (b"", 0, &[b"put a/", b" 1\nx\n"], 1),
+    (b"", 0, &[b"drop a/", b"\n"], 1),
+    // long names, requests, one that is waited for, and transactions that are closed
+    (b"", 0, &[b"open abcdefghijklmnopqrstuvwx", b"\n"], 1),
+    (b"open t\n", 1, &[b"ask t r", b" //a\n"], 1),
+    (b"open t\nask t r //a\n", 2, &[b"wait r\n"], 1),
+    (b"", 0, &[b"open t", b"\nclose t", b"\n"], 2),
+    // lines that do nothing, and one line without an end
+    (b"", 0, &[b"#\n"], 0),
+    (b"", 0, &[b"\n"], 0),
+    (b"#", 0, &[b"x"], 0),
+];
+
+const LONGEST: usize = 4_194_304;
+
+/// Adds the parts, with the number between them.
+fn push_numbered(
+    alloc: Global,
+    text: &mut Vec<u8>,
+    parts: &[&[u8]],
+    number: usize,
+) -> Result<(), Fail> {
+    for i in 0..parts.len() {
+        if i > 0 {
+            text.extend_from_slice(format!(in alloc; "{number}")?.as_bytes())?;
+        }
+        text.extend_from_slice(parts[i])?;
+    }
+    Ok(())
+}
+
+/// A script of the greatest length, and how many of its lines do something.
+fn long(alloc: Global, row: &LongRow) -> Result<(Vec<u8>, usize), Fail> {
+    let (before, begun, parts, each) = *row;
+    let mut text = Vec::from_slice(alloc, before)?;
+    let mut lines = begun;
+    for number in 0..LONGEST {
+        let length = text.len();
+        push_numbered(alloc, &mut text, parts, number)?;
+        if text.len() > LONGEST {
+            text.truncate(length);
+            break;
+        }
+        lines = lines.saturating_add(each);
+    }
+    text.resize(LONGEST, b'\n')?;
+    Ok((text, lines))
+}
+
+/// Whether the longest script of a row has its lines, and is too long with one byte more.
+fn is_longest(alloc: Global, row: &LongRow) -> Result<bool, Fail> {
+    let (mut text, lines) = long(alloc, row)?;
+    let read = line_count(alloc, &text);
+    text.push(b'\n')?;
+    let refused = line_count(alloc, &text);
+    Ok(read == Ok(lines) && refused == Err(ScriptRefusal::TooLong))
+}
+
+/// The number of the first row that is not as told.
+fn first_other_long(alloc: Global, rows: &[LongRow]) -> Result<Option<usize>, Fail> {
+    for i in 0..rows.len() {
+        if !is_longest(alloc, &rows[i])? {
+            return Ok(Some(i));
+        }
+    }
+    Ok(None)
+}
+
 #[test]
-fn the_longest_script(rt: HostRuntime) -> Result<(), Fail> {
-    let long = vec![in rt.alloc(); b'\n'; 4_194_305]?;
-    assert_eq!(rt; line_count(rt.alloc(), &long[1..]), Ok(0));
-    assert_eq!(rt; line_count(rt.alloc(), &long), Err(ScriptRefusal::TooLong));
+fn the_longest_scripts_of_puts(rt: HostRuntime) -> Result<(), Fail> {
+    assert!(rt; first_other_long(rt.alloc(), &LONG[..2])? == None);
+    Ok(())
+}
+
+#[test]
+fn the_longest_scripts_of_transactions(rt: HostRuntime) -> Result<(), Fail> {
+    assert!(rt; first_other_long(rt.alloc(), &LONG[2..4])? == None);
+    assert!(rt; first_other_long(rt.alloc(), &LONG[5..6])? == None);
+    Ok(())
+}
+
+#[test]
+fn the_longest_scripts_of_waits(rt: HostRuntime) -> Result<(), Fail> {
+    assert!(rt; first_other_long(rt.alloc(), &LONG[4..5])? == None);
+    Ok(())
+}
+
+#[test]
+fn the_longest_scripts_of_nothing(rt: HostRuntime) -> Result<(), Fail> {
+    assert!(rt; first_other_long(rt.alloc(), &LONG[6..])? == None);
     Ok(())
 }

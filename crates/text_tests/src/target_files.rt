@@ -78,7 +78,7 @@ const FILES: [(&[u8], usize); 15] = [
     ),
 ];
 
-const FAULTS: [(&[u8], u64); 42] = [
+const FAULTS: [(&[u8], u64); 43] = [
     // an attribute is missing: told at the parenthesis, or at the end
     (b"write_file(name = \"w\")\n", 1),
     (b"write_file(\n", 2),
@@ -141,6 +141,10 @@ const FAULTS: [(&[u8], u64); 42] = [
     (
         b"genrule(name = \"g\", out = \"o\",\ncmd = \"$(location w)\")",
         2,
+    ),
+    (
+        b"genrule(name = \"g\", out = \"o\", cmd = \"$(location a)\")",
+        1,
     ),
     (b"genrule(name = \"g\", cmd = \"\"\n)", 2),
     // other bytes
@@ -348,5 +352,82 @@ fn targets_of_five_rules(rt: HostRuntime) -> Result<(), Fail> {
     assert!(rt; groups(&file) && is_marked(&file, b"x", &[b"l", b""], &[b"PUBLIC"]));
     assert!(rt; generates(&file));
     assert!(rt; stamps(&file) && is_marked(&file, b"s", &[], &[]));
+    Ok(())
+}
+
+/// A text of 256 KiB: bytes before, a piece that is repeated, and bytes at the end; then how many targets it has, or 99, and the line of
+/// its fault, or 0.
+type LargeRow = (&'static [u8], &'static [u8], &'static [u8], usize, u64);
+
+const LARGE: [LargeRow; 8] = [
+    // one string, one list, one command of locations, and quotes in a command
+    (b"write_file(name='w',content='", b"x", b"')", 1, 0),
+    (b"filegroup(name='x',srcs=[", b"'f',", b"])", 1, 0),
+    (
+        b"genrule(name='g',out='o',cmd='",
+        b"$(location :f)",
+        b"')",
+        1,
+        0,
+    ),
+    (b"genrule(name='g',out='o',cmd='", b"\\'\"", b"')", 1, 0),
+    // commas, brackets and parentheses
+    (b"filegroup(name='x',srcs=['f'", b",,", b"])", 99, 1),
+    (b"filegroup(name='x',srcs=", b"[[", b"])", 99, 1),
+    (b"filegroup(name='x'\n", b"((", b")", 99, 2),
+    // lines without calls
+    (b"", b"\n", b"x", 99, 262_144),
+];
+
+const LARGEST: usize = 262_144;
+
+/// The text of a row.
+fn large(alloc: Global, row: &LargeRow) -> Result<Vec<u8>, Fail> {
+    let (before, piece, end, _, _) = *row;
+    let mut text = Vec::new(alloc);
+    text.extend_from_slice(before)?;
+    for _ in 0..LARGEST {
+        if text
+            .len()
+            .saturating_add(piece.len())
+            .saturating_add(end.len())
+            > LARGEST
+        {
+            break;
+        }
+        text.extend_from_slice(piece)?;
+    }
+    text.extend_from_slice(end)?;
+    Ok(text)
+}
+
+/// Whether a large text is read as its row says.
+fn is_read_so(alloc: Global, row: &LargeRow) -> Result<bool, Fail> {
+    let (_, _, _, targets, line) = *row;
+    let text = large(alloc, row)?;
+    Ok(count(alloc, &text) == targets && line_of(alloc, &text) == line)
+}
+
+#[test]
+fn large_files(rt: HostRuntime) -> Result<(), Fail> {
+    for row in &LARGE {
+        assert!(rt; is_read_so(rt.alloc(), row)?);
+    }
+    Ok(())
+}
+
+/// How many targets a file of so many calls has.
+fn targets_of_calls(alloc: Global, calls: u32) -> Result<usize, Fail> {
+    let mut text = String::new(alloc);
+    for call in 0..calls {
+        let line = format!(in alloc; "stamp_file(name='s{call}')\n")?;
+        text.push_str(&line)?;
+    }
+    Ok(count(alloc, text.as_bytes()))
+}
+
+#[test]
+fn a_file_of_many_calls(rt: HostRuntime) -> Result<(), Fail> {
+    assert!(rt; targets_of_calls(rt.alloc(), 20_000)? == 20_000);
     Ok(())
 }

@@ -21,7 +21,6 @@ use Rattle.versioned_graph.specs.Sound.{IsOpenAt, IsTrue, IsRecorded, IsTailed, 
 use Rattle.versioned_graph.proofs.Asked.{asked_in_trace, is_asked_of}
 use Rattle.versioned_graph.proofs.Bools.{all_map, HasKey, all_at}
 use Rattle.versioned_graph.proofs.MarkLemmas.{marked_true, trace_true}
-use Rattle.version_ranges.specs.Rounds.{all_between}
 use Rattle.version_ranges.proofs.Rounds.{there, longer}
 use Rattle.injected.specs.Rounds.{stays}
 use Rattle.injected.proofs.Rounds.{stays_longer}
@@ -76,24 +75,20 @@ module _ {K V : Type 0} (eq : K → K → Bool) (m : Meaning K V) (law : IsLawfu
       within = h;
       traced = t;
       same = trace_value eq m C v law k A x t.computed t.goes t.ends;
-      holds = λ w i l. marked_true eq m law veq same C at holds es true_ones v k x A t w (f w i) l;
+      holds = λ w i l. marked_true eq m law veq same C at holds es true_ones v h k x A t w (f w i) l;
     }
 
 module _ {K V : Type 0} (eq : K → K → Bool) (m : Meaning K V) (law : IsLawful m) (veq : V → V → Bool) (same : AreSame veq) (C : List (List (K × V))) (at : ℕ → K → V) (holds : Holds eq m C at) (es : K → Option (Kept K V))
     (true_ones : (k : K) (e : Kept K V) → es k ≡ Some e → IsTrue eq m C k e) (Edge : K → K → Type 0) (tailed_ones : (k : K) (e : Kept K V) → es k ≡ Some e → IsTailed eq m C (length C) Edge k e) where
   -- what is known above the newest version is known from the newest on
-  known_tail : (v w u : ℕ) → v ≤ length C → length C < w → length C ≤ u → (d : K) (a : V) → known m veq at es v w d a ≡ true → known m veq at es v u d a ≡ true
-  known_tail v w u hv hw hu d a e = by_kinds (m.kind d) e
+  known_tail : (v w u : ℕ) → v ≤ length C → length C < w → length C ≤ u → (d : K) → known m veq at es v w d ≡ true → known m veq at es v u d ≡ true
+  known_tail v w u hv hw hu d e = by_kinds (m.kind d) e
     where
-      by_entry : (o : Option (Kept K V)) → es d ≡ o → known_by m veq o v a w ≡ true → known_by m veq o v a u ≡ true
-      by_entry None p q = absurd (let z = eqb-true w v q in omega arith)
-      by_entry (Some f) p q = by_eq (veq f.value a) q
-        where
-          by_eq : (b : Bool) → cond b (all_between f.ranges v w) (nat_eq w v) ≡ true → cond b (all_between f.ranges v u) (nat_eq u v) ≡ true
-          by_eq true r = longer f.ranges (length C) v w u hv hw hu ((tailed_ones d f p).tail w (there f.ranges v w r) hw) r
-          by_eq false r = absurd (let z = eqb-true w v r in omega arith)
+      by_entry : (o : Option (Kept K V)) → es d ≡ o → known_by o v w ≡ true → known_by o v u ≡ true
+      by_entry None p q = q
+      by_entry (Some f) p q = longer f.ranges (length C) v w u hv hw hu ((tailed_ones d f p).tail w (there f.ranges v w q) hw) q
 
-      by_kinds : (kd : Kind) → if_injected kd (stays veq (λ z. at z d) v w) (known_by m veq (es d) v a w) ≡ true → if_injected kd (stays veq (λ z. at z d) v u) (known_by m veq (es d) v a u) ≡ true
+      by_kinds : (kd : Kind) → if_injected kd (stays veq (λ z. at z d) v w) (known_by (es d) v w) ≡ true → if_injected kd (stays veq (λ z. at z d) v u) (known_by (es d) v u) ≡ true
       by_kinds Injected q = stays_longer veq (λ z. at z d) (length C) v w u hv hw hu settled q
         where
           settled : (z : ℕ) → length C ≤ z → at z d ≡ at (length C) d
@@ -104,18 +99,14 @@ module _ {K V : Type 0} (eq : K → K → Bool) (m : Meaning K V) (law : IsLawfu
       by_kinds Projection q = by_entry (es d) refl q
 
   -- a dependency that is not injected and is known above the newest version has an open entry
-  known_entry : (v w : ℕ) → v ≤ length C → length C < w → (d : K) (a : V) → m.kind d ≢ Injected → known m veq at es v w d a ≡ true → (f : Kept K V) × (es d ≡ Some f) × IsOpenAt (length C) f.ranges
-  known_entry v w hv hw d a c e = by_kinds (m.kind d) refl e
+  known_entry : (v w : ℕ) → length C < w → (d : K) → m.kind d ≢ Injected → known m veq at es v w d ≡ true → (f : Kept K V) × (es d ≡ Some f) × IsOpenAt (length C) f.ranges
+  known_entry v w hw d c e = by_kinds (m.kind d) refl e
     where
-      by_entry : (o : Option (Kept K V)) → es d ≡ o → known_by m veq o v a w ≡ true → (f : Kept K V) × (es d ≡ Some f) × IsOpenAt (length C) f.ranges
-      by_entry None p q = absurd (let z = eqb-true w v q in omega arith)
-      by_entry (Some f) p q = by_eq (veq f.value a) q
-        where
-          by_eq : (b : Bool) → cond b (all_between f.ranges v w) (nat_eq w v) ≡ true → (f : Kept K V) × (es d ≡ Some f) × IsOpenAt (length C) f.ranges
-          by_eq true r = (f, p, (tailed_ones d f p).tail w (there f.ranges v w r) hw)
-          by_eq false r = absurd (let z = eqb-true w v r in omega arith)
+      by_entry : (o : Option (Kept K V)) → es d ≡ o → known_by o v w ≡ true → (f : Kept K V) × (es d ≡ Some f) × IsOpenAt (length C) f.ranges
+      by_entry None p q = absurd (let z : false ≡ true = q in cc)
+      by_entry (Some f) p q = (f, p, (tailed_ones d f p).tail w (there f.ranges v w q) hw)
 
-      by_kinds : (kd : Kind) → m.kind d ≡ kd → if_injected kd (stays veq (λ z. at z d) v w) (known_by m veq (es d) v a w) ≡ true → (f : Kept K V) × (es d ≡ Some f) × IsOpenAt (length C) f.ranges
+      by_kinds : (kd : Kind) → m.kind d ≡ kd → if_injected kd (stays veq (λ z. at z d) v w) (known_by (es d) v w) ≡ true → (f : Kept K V) × (es d ≡ Some f) × IsOpenAt (length C) f.ranges
       by_kinds Injected p q = absurd (c p)
       by_kinds Computed p q = by_entry (es d) refl q
       by_kinds Projection p q = by_entry (es d) refl q
@@ -132,7 +123,7 @@ module _ {K V : Type 0} (eq : K → K → Bool) (m : Meaning K V) (law : IsLawfu
       → IsTailed eq m C (length C) More k (finished m veq at es v x A)
   new_tailed k v x A hv t More more adds = record {
     tail = λ w h l u i. (let b = above v w x A hv l h in
-        or_right (nat_eq u v) _ (let s : not (m.is_transient x) ≡ true = rw b.0 refl in rw s (all_map (known m veq at es v w) (known m veq at es v u) A (λ d a e. known_tail v w u hv l i d a e) b.1)));
+        or_right (nat_eq u v) _ (let s : not (m.is_transient x) ≡ true = rw b.0 refl in rw s (all_map (known m veq at es v w) (known m veq at es v u) A (known_tail v w u hv l i) b.1)));
     recorded = λ o. at_newest o (above v (suc (length C)) x A hv (omega arith) (o (suc (length C)) (omega arith)));
   }
     where
@@ -141,8 +132,8 @@ module _ {K V : Type 0} (eq : K → K → Bool) (m : Meaning K V) (law : IsLawfu
 
       at_newest : IsOpenAt N (marked m veq at es v x A) → (m.is_transient x ≡ false) × (all_of (known m veq at es v (suc N)) A ≡ true) → (d : K) → Reaches eq m C N k d → m.kind d ≢ Injected → IsRecorded eq m C (length C) More d
       at_newest o b d r c =
-          let known_now = all_map (known m veq at es v (suc N)) (known m veq at es v N) A (λ d a e. known_tail v (suc N) N hv (omega arith) (omega arith) d a e) b.1 in
-          let now = same_answers eq m law C C v N k A x t.computed t.goes t.ends b.0 (trace_true eq m law veq same C at holds es true_ones v N (omega arith) k [] A t.goes known_now) in
+          let known_now = all_map (known m veq at es v (suc N)) (known m veq at es v N) A (known_tail v (suc N) N hv (omega arith) (omega arith)) b.1 in
+          let now = same_answers eq m law C C v N k A x t.computed t.goes t.ends b.0 (trace_true eq m law veq same C at holds es true_ones v N hv (omega arith) k [] A t.goes known_now) in
           by_chain now r c
         where
           by_chain : Goes eq m C N k [] A × (m.next k A N ≡ Ends x) × HasValue eq m C N k x → {d : K} → Reaches eq m C N k d → m.kind d ≢ Injected → IsRecorded eq m C (length C) More d
@@ -155,7 +146,7 @@ module _ {K V : Type 0} (eq : K → K → Bool) (m : Meaning K V) (law : IsLawfu
               of_entry : m.kind i ≢ Injected → {d : K} → Reaches eq m C N i d → m.kind d ≢ Injected → IsRecorded eq m C (length C) More d
               of_entry ci q c =
                   let y = all_at (known m veq at es v (suc N)) A i b.1 (asked_in_trace eq m C N k i x A now.0 now.1 a) in
-                  let f = known_entry v (suc N) hv (omega arith) i y.0 ci y.1 in
+                  let f = known_entry v (suc N) (omega arith) i ci y in
                   let g = (tailed_ones i f.0 f.1).recorded f.2 _ q c in
                   record { lasts = g.lasts; edges = λ j s. more j _ (g.edges j s) }
 

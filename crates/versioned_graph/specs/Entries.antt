@@ -1,5 +1,6 @@
 -- What the graph keeps of a key, and what a finish makes of it.
 use Rattle.std.specs.Prelude.{ℕ, Bool, true, false, cond, not, ◌&&◌, ◌||◌, nat_eq, nat_le, nat_lt, max, List, [], ◌∷◌, Option, Some, None}
+use Rattle.std.specs.List.{list_all}
 use Rattle.std.specs.Map.{lookup}
 use Rattle.std.specs.Arc.{arc_value}
 use Rattle.std.specs.declared.sync.Arc.{Arc}
@@ -51,28 +52,22 @@ if_injected Injected a b = a
 if_injected Computed a b = b
 if_injected Projection a b = b
 
--- the test holds of each key with its answer
-abbrev pub all_of_batch : {K V : Type 0} → (K → V → Bool) → List K → List V → Bool
-all_of_batch f [] [] = true
-all_of_batch f [] (x ∷ xs) = false
-all_of_batch f (k ∷ ks) [] = false
-all_of_batch f (k ∷ ks) (x ∷ xs) = f k x && all_of_batch f ks xs
-
-abbrev pub all_of : {K V : Type 0} → (K → V → Bool) → List (Answered K V) → Bool
+-- the test holds of each key of a trace
+abbrev pub all_of : {K V : Type 0} → (K → Bool) → List (Answered K V) → Bool
 all_of f [] = true
-all_of f (b ∷ bs) = all_of_batch f b.keys b.values && all_of f bs
+all_of f (b ∷ bs) = list_all f b.keys && all_of f bs
+
+-- whether version w is known by the entry of a dependency that was asked at v: the versions round v up to which the entry's ranges
+-- go on. Where they have v, the answer at v was the entry's value, since both are the dependency's value there.
+abbrev pub known_by : {K V : Type 0} → Option (Kept K V) → ℕ → ℕ → Bool
+known_by None v w = false
+known_by (Some e) v w = all_between e.ranges v w
 
 module _ {K V : Type 0} (m : Meaning K V) (veq : V → V → Bool) where
-  -- whether version w is known by the entry of a dependency that was answered with a at v: where the entry has that value, the
-  -- versions up to which its ranges have all from v on, or from there back, are known; else v alone
-  abbrev pub known_by : Option (Kept K V) → ℕ → V → ℕ → Bool
-  known_by None v a w = nat_eq w v
-  known_by (Some e) v a w = cond (veq e.value a) (all_between e.ranges v w) (nat_eq w v)
-
-  -- whether version w is known for a dependency that was answered with a at v: of an injected one the versions round v up to which
-  -- its input stays as it is there
-  abbrev pub known : (ℕ → K → V) → (K → Option (Kept K V)) → ℕ → ℕ → K → V → Bool
-  known at es v w d a = if_injected (m.kind d) (stays veq (λ u. at u d) v w) (known_by (es d) v a w)
+  -- whether version w is known for a dependency that was asked at v: of an injected one the versions round v up to which its input
+  -- stays as it is there
+  abbrev pub known : (ℕ → K → V) → (K → Option (Kept K V)) → ℕ → ℕ → K → Bool
+  known at es v w d = if_injected (m.kind d) (stays veq (λ u. at u d) v w) (known_by (es d) v w)
 
   -- whether a finish at v with value x and trace A marks version w: v itself, and, where the value is not transient, the versions
   -- that are known for every dependency

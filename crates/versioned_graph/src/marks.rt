@@ -1,12 +1,13 @@
 //! The versions that a finish marks.
 ghost use Rattle.std.specs.Prelude.{◌≡◌, ◌<◌, ℕ, ◌&&◌, IfOk, Some, None};
 ghost use Rattle.std.specs.Arc.{arc_value};
+ghost use Rattle.std.specs.List.{list_all};
 ghost use Rattle.std.specs.Option.{option_map};
 ghost use Rattle.version_ranges.specs.Members.{contains};
 ghost use Rattle.version_ranges.specs.Rounds.{all_between};
 ghost use Rattle.injected.specs.Seen.{cell_at};
-ghost use Rattle.dep_recorder.specs.Recordings.{keys_in, values_in};
-ghost use Rattle.versioned_graph.specs.Entries.{kept_of, entry_at, known_by, known, all_of_batch, all_of, marked};
+ghost use Rattle.dep_recorder.specs.Recordings.{keys_in};
+ghost use Rattle.versioned_graph.specs.Entries.{kept_of, entry_at, known_by, known, all_of, marked};
 
 use crate::entry::Entry;
 use crate::store::Store;
@@ -65,11 +66,11 @@ impl<U: Universe> Store<U> {
         ranges: Ranges,
     ) -> Result<Ranges, NoMemory>
         requires { version < u64.MAX }
-        ensures { IfOk result (λ r. (w : ℕ) → contains r w ≡ (contains ranges w && all_of_batch (known U.meaning U.Value.eq (cell_at U.Key.eq U.meaning cells.now) (entry_at U.Key.eq self.now) version w) (keys_in batch.now) (values_in batch.now))) }
+        ensures { IfOk result (λ r. (w : ℕ) → contains r w ≡ (contains ranges w && list_all (known U.meaning U.Value.eq (cell_at U.Key.eq U.meaning cells.now) (entry_at U.Key.eq self.now) version w) (keys_in batch.now))) }
     {
         let mut left = ranges;
-        for (dep, answer) in batch {
-            left = self.known_of(cells, version, dep, answer, left)?;
+        for (dep, _) in batch {
+            left = self.known_of(cells, version, dep, left)?;
         }
         Ok(left)
     }
@@ -80,16 +81,15 @@ impl<U: Universe> Store<U> {
         cells: &Cells<U>,
         version: u64,
         dep: &Arc<U::Key>,
-        answer: &Arc<U::Value>,
         ranges: Ranges,
     ) -> Result<Ranges, NoMemory>
         requires { version < u64.MAX }
-        ensures { IfOk result (λ r. (w : ℕ) → contains r w ≡ (contains ranges w && known U.meaning U.Value.eq (cell_at U.Key.eq U.meaning cells.now) (entry_at U.Key.eq self.now) version w (arc_value dep.now) (arc_value answer.now))) }
+        ensures { IfOk result (λ r. (w : ℕ) → contains r w ≡ (contains ranges w && known U.meaning U.Value.eq (cell_at U.Key.eq U.meaning cells.now) (entry_at U.Key.eq self.now) version w (arc_value dep.now))) }
     {
         match self.universe.kind(dep) {
             Kind::Injected => both(ranges, &cells.range_round(version, dep)?),
             Kind::Computed | Kind::Projection => {
-                known_by_entry(self.alloc, self.entry(dep), version, answer, ranges)
+                known_by_entry(self.alloc, self.entry(dep), version, ranges)
             }
         }
     }
@@ -100,18 +100,13 @@ fn known_by_entry<U: Universe>(
     alloc: Global,
     known: Option<&Entry<U>>,
     version: u64,
-    answer: &Arc<U::Value>,
     ranges: Ranges,
 ) -> Result<Ranges, NoMemory>
-    requires { version < u64.MAX }
-    ensures { IfOk result (λ r. (w : ℕ) → contains r w ≡ (contains ranges w && known_by U.meaning U.Value.eq (option_map (λ e. kept_of e.now) known.entry) version (arc_value answer.now) w)) }
+    ensures { IfOk result (λ r. (w : ℕ) → contains r w ≡ (contains ranges w && known_by (option_map (λ e. kept_of e.now) known.entry) version w)) }
 {
     match known {
-        Some(entry) if *entry.value == **answer => round(ranges, &entry.ranges, version),
-        _ => {
-            let alone = Ranges::one(alloc, version).map_err(|_| NoMemory)?;
-            both(ranges, &alone)
-        }
+        Some(entry) => round(ranges, &entry.ranges, version),
+        None => Ok(Ranges::new(alloc)),
     }
 }
 

@@ -3,7 +3,7 @@ use Rattle.std.specs.Prelude.{IsSome}
 use Rattle.std.specs.Map.{lookup}
 use Rattle.std.specs.Option.{option_copied, option_copied_mut}
 use Rattle.journal.specs.declared.event.Told.TheVariants.{Leave}
-use Rattle.core_laws.proofs.Indices.{opened_counts}
+use Rattle.journal.proofs.Indices.{opened_counts}
 use Rattle.dice_core.specs.Askings.{DropsAfter, StaysAtHand}
 use Rattle.dice_steps.specs.AtHand.{AtHand}
 use Rattle.dice_core.specs.Sessions.{owed}

@@ -10,7 +10,7 @@ use Rattle.dice_engine.specs.Replies.{IsReply, settled_of}
 use Rattle.action_digest.specs.Buck.{buck}
 use Rattle.action_digest.specs.Same.{key_equal}
 use Rattle.dice_model.specs.Eval.{HasValue}
-use Rattle.core_laws.specs.Stands.{CycleStands}
+use Rattle.journal.specs.Law.{CycleStands}
 use Rattle.dice_run.proofs.Turning.{later_goes, later_log, later_live}
 use Rattle.dice_run.proofs.client.wait.Goals as goal
 use Rattle.lists.proofs.Options.{none_some}

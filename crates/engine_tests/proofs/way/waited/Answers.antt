@@ -1,5 +1,5 @@
 use Rattle.std.proofs.Common.{sym, subst}
-use Rattle.dice_engine.specs.Conditions.{NotLeft}
+use Rattle.journal.specs.Events.{NotLeft}
 use Rattle.dice_engine.proofs.Callers.{ask_later, same_number}
 use Rattle.engine_tests.proofs.way.waited.Goals as goal
 

@@ -6,6 +6,7 @@ use Rattle.dice_core.specs.Cores.{CoreSeen, CoreStands, IsAsBefore, core_of, pas
 use Rattle.journal.specs.Events.{commits_of}
 use Rattle.dice_core.proofs.ResultLemmas.{either_way, both_ok, both_err, on_err, newest_below, uncommitted, committed_stands}
 use Rattle.dice_core.proofs.CoreLemmas.{stands_same}
+use Rattle.dice_core.proofs.FaultLemmas.{no_fault, none_named}
 use Rattle.dice_core.proofs.machine.Core.commit.Goals as goal
 
 pub commit-requires-after_bounds : goal.commit-requires-after_bounds
@@ -43,3 +44,6 @@ returns-clause-cut g c =
     let ps = pairs_of c.args.changes.now in
     subst (λ (v : CoreSeen g.row.U-Key.Denot g.row.U-Value.Denot). OnOk c.commit.result (CommitsEntries eq m (differing_of eq veq m v.cells ps) (length (commits_of (past_of v)) + 1) v.entries c.commit.new.graph)) c.self.view_is
     (subst (λ n. OnOk c.commit.result (CommitsEntries eq m (differing_of eq veq m s.cells ps) (n + 1) s.graph c.commit.new.graph)) c.self.invariant.cells.newest c.commit.ensures.cut)
+
+pub returns-clause-complete : goal.returns-clause-complete
+returns-clause-complete g c = λ settable. none_named c.commit.result _ _ c.commit.ensures.fault (λ f h. no_fault g.U.Universe.meaning _ f settable h)

@@ -1,8 +1,10 @@
-use Rattle.std.proofs.Common.{◌≡◌, ◌↔◌, ◌++◌, IsTrue, List, None, map, subst}
+use Rattle.std.proofs.Common.{◌≡◌, ◌↔◌, ◌++◌, IsTrue, List, None, map, refl, subst}
 use Rattle.journal.specs.declared.event.Told.TheVariants.{Lost, Drop}
 use Rattle.dice_core.specs.Cores.{CoreSeen, Turned, IsNameOut, GivesUpOnly, core_of, events_of}
 use Rattle.dice_tasks.specs.Endings.{IsJobNamed, GivesUpAll}
 use Rattle.dice_core.specs.Cores.{table_at}
+use Rattle.dice_core.specs.Staying.{LosesWaitersOnly}
+use Rattle.dice_core.proofs.StayLemmas.{loses_waiters_only}
 use Rattle.dice_core.proofs.PublicLemmas.{named_iff, lost_log, gives_up_only, home_now}
 use Rattle.dice_core.proofs.machine.Core.fail.Goals as goal
 use Rattle.lists.specs.Lists.{Has}
@@ -46,3 +48,14 @@ returns-clause-home g c = λ t out.
     let f = (c.fail_named.ensures.failed t).1 in
     let n = c.args.name.now in
     home_now g.U.Key.PartialEq.eq c.laws_of.ensures.keys g.U.Universe.meaning c.laws_of.ensures.lawful s.desk c.fail_named.new.desk s.versions.entries c.fail_named.new.versions.entries s.graph s.graph s.cells s.sessions s.sessions n.version n.key f.tasks f.put f.turned out.0 out.1
+
+pub returns-clause-others : goal.returns-clause-others
+returns-clause-others g c = λ t.
+    let eq = g.U.Key.PartialEq.eq in
+    let m = g.U.Universe.meaning in
+    let s = c.self.inside in
+    let f = (c.fail_named.ensures.failed t).1 in
+    let n = c.args.name.now in
+    let after = core_of c.fail_named.new.desk c.fail_named.new.versions.entries s.graph s.cells s.sessions in
+    subst (λ (v : CoreSeen g.row.U-Key.Denot g.row.U-Value.Denot). LosesWaitersOnly eq m n v after) c.self.view_is
+    (loses_waiters_only eq c.laws_of.ensures.keys m c.laws_of.ensures.lawful (core_of s.desk s.versions.entries s.graph s.cells s.sessions) after c.self.invariant (invariant_of-self g c) refl refl n f.tasks f.put f.turned)

@@ -6,6 +6,7 @@ use Rattle.dice_engine.specs.Turns.{log_of, Turn}
 use Rattle.std.specs.Prelude.{OnOk, OnErr}
 use Rattle.dice_engine.specs.Calls.{Commits, AddsNothing}
 use Rattle.dice_engine.proofs.Adding.{on_either, map_ok, map_err}
+use Rattle.dice_core.proofs.FaultLemmas.{no_fault, none_named}
 use Rattle.dice_engine.proofs.engine.Engine.commit.Goals as goal
 
 pub leave-requires-clause-grows : goal.leave-requires-clause-grows
@@ -47,3 +48,6 @@ returns-clause-err g c =
     let I = events_of c.commit-result.new.self.core.value in
     subst (λ s. OnErr c.commit-result.result (Turn eq m old s (λ found. AddsNothing))) (search rules)
     (map_err c.commit-result.result _ _ c.commit-result.ensures.err (λ a. turned eq m old mid J I c.leave.new.turn.0 (λ found. AddsNothing) _ e (record { seen = c.leave.ensures.seen; mine = c.leave.ensures.mine; turns = c.leave.ensures.turns; floor = c.leave.ensures.floor; below = c.leave.ensures.below; noted = c.leave.ensures.noted; same = c.leave.ensures.same }) c.number-number.ensures a))
+
+pub returns-clause-complete : goal.returns-clause-complete
+returns-clause-complete g c = λ settable. none_named c.commit-result.result _ _ c.commit-result.ensures.fault (λ f h. no_fault g.U.Universe.meaning _ f settable h)

@@ -1,9 +1,9 @@
 use Rattle.std.proofs.Common.{◌++◌, sym, ap, ◌∙◌, subst}
 use Rattle.std.specs.Prelude.{OnOk, OnErr}
 use Rattle.std.specs.Map.{keys_of}
-use Rattle.dice_core.specs.Commits.{IsFirstFault, differing_of, event_of}
+use Rattle.dice_core.specs.Commits.{IsFirstFault, differing_of}
 use Rattle.dice_core.specs.Cores.{CoreSeen, events_of, past_of}
-use Rattle.journal.specs.Events.{commits_of}
+use Rattle.journal.specs.Events.{commits_of, event_of}
 use Rattle.dice_engine.specs.Turns.{Adds, log_of}
 use Rattle.dice_engine.specs.Calls.{AddsNothing, Commits}
 use Rattle.dice_engine.proofs.Adding.{nothing, commits, map_ok, map_err}

@@ -1,8 +1,9 @@
 use Rattle.std.proofs.Common.{◌≡◌, ℕ, ◌&&◌, drop}
+use Rattle.std.specs.List.{list_all}
 use Rattle.version_ranges.specs.Members.{contains}
 use Rattle.injected.specs.Seen.{cell_at}
-use Rattle.dep_recorder.specs.Recordings.{keys_in, values_in}
-use Rattle.versioned_graph.specs.Entries.{entry_at, known, all_of_batch}
+use Rattle.dep_recorder.specs.Recordings.{keys_in}
+use Rattle.versioned_graph.specs.Entries.{entry_at, known}
 use Rattle.versioned_graph.proofs.store.Store.known_of_batch.Given as goal
 
 -- what is left, narrowed down by the pairs that are left, is what the whole batch leaves
@@ -11,5 +12,5 @@ invariant-loop-dep g l =
     let eq = g.U.Key.PartialEq.eq in
     let m = g.U.Universe.meaning in
     (w : ℕ)
-    → (contains l.left w && all_of_batch (known m g.U.Value.PartialEq.eq (cell_at eq m l.cells) (entry_at eq l.self) l.version w) (keys_in (drop l.dep-index l.batch)) (values_in (drop l.dep-index l.batch)))
-    ≡ (contains l.fn.ranges w && all_of_batch (known m g.U.Value.PartialEq.eq (cell_at eq m l.cells) (entry_at eq l.self) l.version w) (keys_in l.batch) (values_in l.batch))
+    → (contains l.left w && list_all (known m g.U.Value.PartialEq.eq (cell_at eq m l.cells) (entry_at eq l.self) l.version w) (keys_in (drop l.dep-index l.batch)))
+    ≡ (contains l.fn.ranges w && list_all (known m g.U.Value.PartialEq.eq (cell_at eq m l.cells) (entry_at eq l.self) l.version w) (keys_in l.batch))

@@ -1,0 +1,10 @@
+//! A session: an engine for one caller, and workers beside it.
+#![tactic(auto)]
+
+mod client;
+mod refusal;
+mod session;
+
+pub use dice_engine::{Cause, Changes, Event};
+pub use refusal::CommitError;
+pub use session::{Found, Session};
