@@ -1,12 +1,16 @@
 -- What a session is, and what it answers.
-use Rattle.std.specs.Prelude.{◌≡◌, ◌⊎◌, ℕ, Bool, List, [], ◌∷◌, ◌++◌, length, Option, Some, None}
+use Rattle.std.specs.Prelude.{◌≡◌, ◌⊎◌, ℕ, Bool, List, [], ◌∷◌, ◌++◌, length, Option, Some, None, IfSome, Result, Ok, Err}
 use Rattle.std.specs.Arc.{arc_value}
 use Rattle.dice_key.specs.Meaning.{Meaning}
 use Rattle.dice_model.specs.Eval.{HasValue}
 use Rattle.journal.specs.declared.event.Told.{Told}
 use Rattle.journal.specs.Law.{CycleStands}
 use Rattle.turnstile.specs.Events.{StartsWith}
+use Rattle.dice_core.specs.Commits.{Fault, NotInjected, Twice, fault_of}
+use Rattle.dice_core.specs.declared.commit.CommitRefusal.{CommitRefusal}
 use Rattle.dice_engine.specs.Calls.{differing_from}
+use Rattle.dice_session.specs.declared.refusal.CommitError.{CommitError}
+use Rattle.dice_session.specs.declared.refusal.CommitError.TheVariants as error
 use Rattle.dice_session.specs.declared.session.Found.{Found}
 use Rattle.dice_session.specs.declared.session.Found.TheVariants as found
 
@@ -41,6 +45,27 @@ module _ {K V : Type 0} (eq : K → K → Bool) (veq : V → V → Bool) (m : Me
   -- the commits after these changes were applied: those that differ are one more commit
   abbrev pub committed : List (List (K × V)) → List (K × V) → List (List (K × V))
   committed C ps = with_changes C (differing_from eq veq m C ps)
+
+module _ {U K V R : Type 0} where
+  -- the fault that an error names, if any
+  abbrev pub fault_in : CommitError U K V R → Option (Fault K)
+  fault_in (error.NotInjected k) = Some (NotInjected (arc_value k))
+  fault_in (error.Twice k) = Some (Twice (arc_value k))
+  fault_in error.NoMemory = None
+
+  -- the changes that stay set after a commit: all if memory was refused, and otherwise none
+  abbrev pub still_set : Result ℕ (CommitError U K V R) → List (K × V) → List (K × V)
+  still_set (Ok v) ps = []
+  still_set (Err (error.NotInjected k)) ps = []
+  still_set (Err (error.Twice k)) ps = []
+  still_set (Err error.NoMemory) ps = ps
+
+  -- the session's result tells of the engine's: the same version, or the same fault, or that memory was refused
+  abbrev pub IsOwned : Result ℕ (CommitRefusal U K V R) → Result ℕ (CommitError U K V R) → Type 0
+  IsOwned (Ok v) (Ok w) = w ≡ v
+  IsOwned (Ok v) (Err e) = ⊥
+  IsOwned (Err e) (Ok w) = ⊥
+  IsOwned (Err e) (Err f) = IfSome (fault_in f) (λ a. fault_of e ≡ Some a)
 
 -- what a key came to: its value from nothing at the newest version, or a cycle that it reaches there
 module _ {U K V R : Type 0} (eq : K → K → Bool) (m : Meaning K V) (C : List (List (K × V))) (k : K) where

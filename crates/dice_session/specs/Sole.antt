@@ -34,15 +34,15 @@ module _ {K V : Type 0} where
   -- after turns of its own in this transaction, which stays open, as its asks stay
   pub record Asks (id : TableId) (s u : SeatView (Told K V)) (opened version : ℕ) : Type 0 where
     pub goes : Goes id s u
-    pub open : IsOpen u opened version
+    pub still : IsOpen u opened version
     pub keeps : (ask : ℕ) (k : K) → HasAsk s ask opened version k → HasAsk u ask opened version k
 
 -- the promise is of an ask for this key, in this transaction
 module _ {U K V R : Type 0} where
   pub record IsAsked (s : SeatView (Told K V)) (opened version : ℕ) (k : K) (p : Promise U K V R) : Type 0 where
-    pub key : arc_value p.key ≡ k
-    pub opened : p.opened ≡ opened
-    pub version : p.version ≡ version
+    pub same_key : arc_value p.key ≡ k
+    pub same_opened : p.opened ≡ opened
+    pub same_version : p.version ≡ version
     pub has : HasAsk s p.ask opened version k
 
   -- each promise is of an ask in this transaction

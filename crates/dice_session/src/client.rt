@@ -1,19 +1,42 @@
 //! What a session has its engine do, on the seat of the one writer.
-ghost use Rattle.std.specs.Prelude.{◌≡◌, map, IfOk};
+ghost use Rattle.std.specs.Prelude.{◌≡◌, map, IfOk, IfErr, IfSome, OnOk, OnErr};
 ghost use Rattle.std.specs.Arc.{arc_value};
 ghost use Rattle.std.specs.List.{AllZip};
-ghost use Rattle.dice_engine.specs.Turns.{log_of};
+ghost use Rattle.std.specs.Map.{keys_of};
+ghost use Rattle.turnstile.specs.Events.{StartsWith};
+ghost use Rattle.dice_core.specs.Commits.{AreSettable, IsFirstFault};
+ghost use Rattle.dice_engine.specs.Turns.{log_of, newest_in};
 ghost use Rattle.dice_session.specs.Sole.{IsSole, IsOpen, IsAsked, AreAsked, Goes, Asks};
-ghost use Rattle.dice_session.specs.Session.{IsFound};
+ghost use Rattle.dice_session.specs.Session.{committed, fault_in, IsFound};
 
+use crate::refusal::{CommitError, owned};
 use crate::session::Found;
-use dice_engine::{Engine, Open, Promise, Seat, Settled, Transaction};
-use dice_key::{KeyRef, NoMemory, Universe};
+use dice_engine::{Engine, Open, Promise, Seat, Settled, Transaction, Updater};
+use dice_key::{KeyRef, NoMemory, Universe, Version};
 use std::alloc::Global;
 use std::sync::{Arc, Wait};
 
 /// The worker that the session is.
 const SESSION: u32 = 0;
+
+/// Commits those of the changes whose value is another than the key's newest one, if there are any.
+pub(crate) fn commit<U: Universe, R: Wait>(
+    rt: &R,
+    engine: &Engine<U>,
+    seat: &mut Seat<U>,
+    changes: &Updater<U>,
+) -> Result<Version, CommitError<U>>
+    requires { IsSole engine.now seat.old }
+    ensures sole { IsSole engine.now seat.new }
+    ensures begins { StartsWith seat.new.seen seat.old.seen }
+    ensures ok { OnOk result (log_of seat.new.seen ≡ committed U.Key.eq U.Value.eq U.meaning (log_of seat.old.seen) changes.now) }
+    ensures version { IfOk result (λ v. v ≡ newest_in seat.new.seen) }
+    ensures settable { OnOk result (AreSettable U.meaning (keys_of changes.now)) }
+    ensures fault { IfErr result (λ e. IfSome (fault_in e) (IsFirstFault U.meaning (keys_of changes.now))) }
+    ensures err { OnErr result (log_of seat.new.seen ≡ log_of seat.old.seen) }
+{
+    owned(engine.commit(rt, seat, changes))
+}
 
 /// Opens a transaction at the newest version.
 fn open<U: Universe, R: Wait>(

@@ -4,7 +4,9 @@
 mod client;
 mod refusal;
 mod session;
+mod workers;
 
 pub use dice_engine::{Cause, Changes, Event};
 pub use refusal::CommitError;
 pub use session::{Found, Session};
+pub use workers::Workers;

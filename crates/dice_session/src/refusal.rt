@@ -1,11 +1,14 @@
 //! Why a commit is refused.
 ghost use Rattle.std.specs.Prelude.{◌≡◌};
+ghost use Rattle.dice_session.specs.Session.{IsOwned};
 ghost use Rattle.dice_session.specs.declared.refusal.CommitError.TheVariants.{NoMemory};
 
-use dice_key::{KeyRef, Universe};
+use dice_engine::CommitRefusal;
+use dice_key::{KeyRef, Universe, Version};
 use std::alloc::AllocError;
 use std::error::Error;
 use std::fmt::{self, Debug, Display, Formatter};
+use std::sync::Arc;
 
 /// Why a commit is refused. It names the key of the first change that is at fault.
 #[derive(Drop)]
@@ -47,3 +50,17 @@ impl<U: Universe> Display for CommitError<U> {
 }
 
 impl<U: Universe> Error for CommitError<U> {}
+
+/// What came of a commit, with the key at fault shared.
+pub(crate) fn owned<U: Universe>(
+    made: Result<Version, CommitRefusal<'_, U>>,
+) -> Result<Version, CommitError<U>>
+    ensures { IsOwned made.entry result }
+{
+    match made {
+        Ok(version) => Ok(version),
+        Err(CommitRefusal::NotInjected(key)) => Err(CommitError::NotInjected(Arc::try_clone(key)?)),
+        Err(CommitRefusal::Twice(key)) => Err(CommitError::Twice(Arc::try_clone(key)?)),
+        Err(CommitRefusal::NoMemory) => Err(CommitError::NoMemory),
+    }
+}

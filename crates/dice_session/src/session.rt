@@ -1,21 +1,21 @@
 //! The session.
-ghost use Rattle.std.specs.Prelude.{◌≡◌, length, All, IfOk, OnOk, OnErr};
-ghost use Rattle.std.specs.Fn.{FnOnceReturnsAtMut};
+ghost use Rattle.std.specs.Prelude.{◌≡◌, length, IfOk, IfErr, IfSome, OnOk, OnErr};
 ghost use Rattle.std.specs.List.{AllZip};
-ghost use Rattle.turnstile.specs.Seats.{IsSeatOf};
+ghost use Rattle.std.specs.Map.{keys_of};
+ghost use Rattle.turnstile.specs.Events.{StartsWith};
+ghost use Rattle.dice_core.specs.Commits.{AreSettable, IsFirstFault};
 ghost use Rattle.dice_engine.specs.Lines.{AreLines, AreEventsFrom};
-ghost use Rattle.std.specs.Arc.{arc_value};
-ghost use Rattle.dice_session.specs.Session.{IsNew, Sets, Rests, committed, IsFound, IsRead};
+ghost use Rattle.dice_session.specs.Session.{IsNew, Sets, Rests, committed, fault_in, still_set, IsFound, IsRead};
 
 use crate::client;
 use crate::refusal::CommitError;
-use dice_engine::{CommitRefusal, Engine, Event, Open, Seat, Updater};
+use crate::workers::Workers;
+use dice_engine::{Engine, Event, Seat, Updater};
 use dice_key::{Line, NoMemory, Path, TypedKey, Universe, ValueRef, Version};
 use std::alloc::Global;
 use std::marker::Model;
 use std::mem;
 use std::sync::{Arc, Wait};
-use std::thread::Threads;
 
 /// An engine and the seat of its one writer, and the changes that were set since the last commit. Contracts see its commits, these
 /// changes, and the events that it has seen.
@@ -30,7 +30,8 @@ pub struct Session<U: Universe> {
 impl<U: Universe> Model for Session<U> {
     ghost use Rattle.std.specs.Arc.{arc_value};
     ghost use Rattle.dice_engine.specs.Turns.{log_of};
-    ghost use Rattle.dice_session.specs.Session.{SessionView, IsSole};
+    ghost use Rattle.dice_session.specs.Session.{SessionView};
+    ghost use Rattle.dice_session.specs.Sole.{IsSole};
 
     ghost Value = { SessionView U.Key U.Value };
 
@@ -83,14 +84,21 @@ impl<U: Universe> Session<U> {
     pub fn commit<R: Wait>(&mut self, rt: &R) -> Result<Version, CommitError<U>>
         ensures ok { OnOk result (self.new.commits ≡ committed U.Key.eq U.Value.eq U.meaning self.old.commits self.old.changes) }
         ensures version { IfOk result (λ v. v ≡ length self.new.commits) }
+        ensures settable { OnOk result (AreSettable U.meaning (keys_of self.old.changes)) }
+        ensures fault { IfErr result (λ e. IfSome (fault_in e) (IsFirstFault U.meaning (keys_of self.old.changes))) }
+        ensures changes { self.new.changes ≡ still_set result self.old.changes }
+        ensures events { StartsWith self.new.events self.old.events }
         ensures err { OnErr result (self.new.commits ≡ self.old.commits) }
     {
         let changes = mem::replace(&mut self.changes, Updater::new(self.alloc));
-        let made = owned(self.engine.commit(rt, &mut self.seat, &changes));
-        if let Err(CommitError::NoMemory) = made {
-            self.changes = changes;
+        match client::commit(rt, &*self.engine, &mut self.seat, &changes) {
+            Ok(version) => Ok(version),
+            Err(CommitError::NoMemory) => {
+                self.changes = changes;
+                Err(CommitError::NoMemory)
+            }
+            Err(fault) => Err(fault),
         }
-        made
     }
 
     /// What the key comes to at the newest version. It does the work itself, as far as no worker does.
@@ -161,43 +169,13 @@ impl<U: Universe> Session<U> {
         self.engine.events(rt, self.alloc, &mut self.seat, point)
     }
 
-    /// Calls `f` with this session, with so many workers beside it until it returns. They are fewer if memory or threads are refused:
-    /// then `compute` does more of the work.
-    pub fn with_workers<R: Threads + Wait + Sync, T, F: FnOnce(&mut Session<U>) -> T>(
-        &mut self,
-        rt: &R,
-        workers: u32,
-        f: F,
-    ) -> T
-        requires { F.IsAlwaysCallable f }
-        ensures { FnOnceReturnsAtMut F.FnOnce f self.old result self.new }
-    {
-        let Ok((engine, seats)) = self.split_seats(workers) else {
-            return f(self);
-        };
-        engine.with_workers(rt, seats, &Open, || f(self))
-    }
-
-    // The engine once more, and a seat for each worker, as far as there are numbers for them.
-    fn split_seats(&mut self, workers: u32) -> Result<(Arc<Engine<U>>, Vec<Seat<U>>), NoMemory>
-        ensures same { self.new ≡ self.old }
-        ensures seats { IfOk result (λ p. All (IsSeatOf (arc_value p.0)) p.1.items) }
+    /// So many workers for this session, who wait to be begun. They are fewer if no numbers for their seats are left.
+    pub fn workers(&mut self, count: u32) -> Result<Workers<U>, NoMemory>
+        ensures { self.new ≡ self.old }
     {
         let engine = Arc::try_clone(&self.engine)?;
-        let count = u64::from(workers).min(self.seat.spare());
-        let seats = self.engine.split_seats(self.alloc, &mut self.seat, count)?;
-        Ok((engine, seats))
-    }
-}
-
-/// What came of a commit, with the key at fault shared.
-fn owned<U: Universe>(
-    made: Result<Version, CommitRefusal<'_, U>>,
-) -> Result<Version, CommitError<U>> {
-    match made {
-        Ok(version) => Ok(version),
-        Err(CommitRefusal::NotInjected(key)) => Err(CommitError::NotInjected(Arc::try_clone(key)?)),
-        Err(CommitRefusal::Twice(key)) => Err(CommitError::Twice(Arc::try_clone(key)?)),
-        Err(CommitRefusal::NoMemory) => Err(CommitError::NoMemory),
+        let count = u64::from(count).min(self.seat.spare());
+        let seats = engine.split_seats(self.alloc, &mut self.seat, count)?;
+        Ok(Workers { engine, seats })
     }
 }

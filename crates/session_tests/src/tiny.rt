@@ -230,9 +230,9 @@ fn events_and_lines_are_of_one_journal(rt: HostRuntime) -> Result<(), Fail> {
 fn workers_do_jobs_beside_a_session(rt: HostRuntime) -> Result<(), Fail> {
     let mut session = session_of(&rt, rt.alloc(), &[(1, 2), (2, 7)])?;
     for workers in 0..3 {
-        let parity = session.with_workers(&rt, workers, |session| {
-            session.get(&rt, ParityKey { cell: 1 })
-        })?;
+        let parity = session
+            .workers(workers)?
+            .beside(&rt, || session.get(&rt, ParityKey { cell: 1 }))?;
         assert_eq!(rt; parity, Some(1));
     }
     let made = commit_all(&rt, &mut session, &[(2, 8)])?;
