@@ -8,19 +8,19 @@ use Rattle.std.specs.declared.vec.Vec.{Vec}
 use Rattle.atomic_table.specs.Seated.{TableId}
 use Rattle.dice_key.specs.Meaning.{Meaning}
 use Rattle.dice_model.specs.Eval.{HasValue}
-use Rattle.core_laws.specs.Stands.{CycleStands}
+use Rattle.journal.specs.Law.{CycleStands}
 use Rattle.journal.specs.declared.event.Told.{Told}
 use Rattle.journal.specs.declared.event.Told.TheVariants.{Open, Close, Ask}
-use Rattle.journal.specs.Events.{NotClosed, live_at}
+use Rattle.journal.specs.Events.{NotClosed, live_at, event_of, NotLeft}
 use Rattle.journal.specs.Tell.{event_by}
 use Rattle.turnstile.specs.Events.{StartsWith, events_by, AllBelow}
 use Rattle.turnstile.specs.Seats.{SeatView, IsSeatOf, first_seat}
 use Rattle.dice_core.specs.declared.commit.CommitRefusal.{CommitRefusal}
-use Rattle.dice_core.specs.Commits.{Fault, event_of, fault_of}
+use Rattle.dice_core.specs.Commits.{Fault, fault_of}
 use Rattle.dice_engine.specs.Turns.{log_of, newest_in, Later, Turn}
 use Rattle.dice_engine.specs.Rises.{log_of-append}
 use Rattle.dice_engine.specs.Calls.{AddsNothing, Opens, Asks, Closes, Commits, differing_from}
-use Rattle.dice_engine.specs.Conditions.{NotLeft, HasOpen, HasAsk, SawAsk}
+use Rattle.dice_engine.specs.Conditions.{HasOpen, HasAsk, SawAsk}
 use Rattle.dice_engine.specs.Seating.{GivesSeats}
 use Rattle.dice_engine.specs.declared.promise.Promise.{Promise}
 use Rattle.dice_engine.specs.declared.promise.Transaction.{Transaction}

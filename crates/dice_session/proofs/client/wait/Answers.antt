@@ -1,7 +1,7 @@
 use Rattle.std.proofs.Common.{◌∙◌, Ok, ap, subst}
 use Rattle.std.specs.Arc.{arc_value}
 use Rattle.dice_model.specs.Eval.{HasValue}
-use Rattle.core_laws.specs.Stands.{CycleStands}
+use Rattle.journal.specs.Law.{CycleStands}
 use Rattle.dice_engine.specs.Replies.{IsReply, settled_of}
 use Rattle.dice_session.proofs.Sole.{goes_work, asks_work, not_gone, saw_ask, moved}
 use Rattle.dice_session.proofs.client.wait.Goals as goal
