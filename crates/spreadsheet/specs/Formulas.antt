@@ -1,5 +1,5 @@
 -- What the texts of cells say.
-use Rattle.std.specs.Prelude.{◌+◌, ◌*◌, ◌-◌, ℕ, Bool, true, false, ◌&&◌, nat_le, nat_eq, if◌then◌else◌, List, [], ◌∷◌, length, take, drop, Option, Some, None, slice_get}
+use Rattle.std.specs.Prelude.{◌+◌, ◌*◌, ◌-◌, ℕ, Bool, true, false, ◌&&◌, nat_le, nat_eq, if◌then◌else◌, List, [], ◌∷◌, length, take, drop, Option, Some, None}
 use Rattle.spreadsheet.specs.declared.cell.Cell.{Cell}
 use Rattle.spreadsheet.specs.declared.formula.Formula.{Formula}
 use Rattle.spreadsheet.specs.declared.formula.Formula.TheVariants.{One, Two, Unreadable}
@@ -39,11 +39,11 @@ abbrev pub operator_of : ℕ → Option Operator
 operator_of b =
     if nat_eq b 43 then Some Plus else (if nat_eq b 45 then Some Minus else (if nat_eq b 42 then Some Times else (if nat_eq b 47 then Some Over else None)))
 
--- how many bytes stand before the first operator
 abbrev pub is_other : Option Operator → Bool
 is_other None = true
 is_other (Some o) = false
 
+-- how many bytes stand before the first operator
 abbrev pub before_operator : List ℕ → ℕ
 before_operator [] = 0
 before_operator (b ∷ bs) = if is_other (operator_of b) then before_operator bs + 1 else 0

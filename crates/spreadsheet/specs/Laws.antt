@@ -1,11 +1,9 @@
 -- The laws of the spreadsheet.
-use Rattle.std.specs.Prelude.{◌≡◌, ◌≤◌, List, [], ◌∷◌, Err, length, refl}
-use Rattle.std.specs.Result.{result_eq}
+use Rattle.std.specs.Prelude.{◌≡◌, ◌≤◌, nat_eq, List, [], ◌∷◌, Err, length, refl}
 use Rattle.std.proofs.Common.{ap, arith}
 use Rattle.dice_key.specs.Meaning.{Ends}
 use Rattle.dice_key.specs.Lawful.{SameKeys, AreSame}
 use Rattle.dice_key.specs.Same.{same_number, same_text, same_result, tied_two_numbers}
-use Rattle.std.specs.Prelude.{nat_eq}
 use Rattle.spreadsheet.specs.contracts.cell.CellOrd.TheImpl as by_cell
 use Rattle.spreadsheet.specs.contracts.cell.KeyOrd.TheImpl as by_key
 use Rattle.spreadsheet.specs.contracts.value.FaultPartialEq.TheImpl as faulty

@@ -11,7 +11,6 @@ use Rattle.spreadsheet.specs.declared.value.Value.{Value}
 use Rattle.spreadsheet.specs.declared.value.Value.TheVariants as value
 use Rattle.spreadsheet.specs.declared.formula.Formula.{Formula}
 use Rattle.spreadsheet.specs.declared.formula.Formula.TheVariants.{One, Two, Unreadable}
-use Rattle.spreadsheet.specs.declared.formula.Term.{Term}
 use Rattle.spreadsheet.specs.declared.formula.Term.TheVariants as term
 use Rattle.spreadsheet.specs.declared.formula.Operator.{Operator}
 use Rattle.spreadsheet.specs.declared.formula.Operator.TheVariants.{Plus, Minus, Times, Over}
