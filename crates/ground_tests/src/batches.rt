@@ -1,5 +1,6 @@
 //! What travels between an engine and a universe: batches, answers, paths and lines.
-use dice_key::{Answers, Batch, Line, NoMemory, Path};
+use dice_key::{Answers, Batch, Line, Move, NoMemory, Path};
+use pure_universe::{ask_all, done};
 use std::alloc::Global;
 use std::sync::Arc;
 use std::test::Fail;
@@ -95,5 +96,23 @@ fn lists_go_in_and_out_without_memory(rt: HostRuntime) -> Result<(), Fail> {
     assert!(rt; list_is_path(alloc, &[1, 2])?);
     assert!(rt; list_is_answers(alloc, 9)?);
     assert!(rt; list_is_line(alloc, b"cell 3")?);
+    Ok(())
+}
+
+#[test]
+fn moves_have_their_keys_in_order(rt: HostRuntime) -> Result<(), Fail> {
+    let alloc = rt.alloc();
+    let asked: Move<u32, u32> = ask_all(alloc, Vec::from_array(alloc, [7, 9, 7])?)?;
+    let right = match asked {
+        Move::Ask(batch) => are(batch.keys(), &[7, 9, 7]),
+        Move::Done(_) => false,
+    };
+    assert!(rt; right);
+    let ended: Move<u32, u32> = done(alloc, 5)?;
+    let right = match ended {
+        Move::Ask(_) => false,
+        Move::Done(value) => *value == 5,
+    };
+    assert!(rt; right);
     Ok(())
 }

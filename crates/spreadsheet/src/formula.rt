@@ -91,7 +91,7 @@ fn term_of(text: &[u8]) -> Option<Term>
     if let Some(cell) = cell_of(text) {
         return Some(Term::Cell(cell));
     }
-    match digits_from(0, text) {
+    match number_of(text) {
         Some(number) => Some(Term::Number(number)),
         None => None,
     }
@@ -109,18 +109,17 @@ pub(crate) fn cell_of(name: &[u8]) -> Option<Cell>
     }
 }
 
-/// The number that these digits make after those of a number; none if another byte stands there, or it is too large.
-fn digits_from(number: u64, digits: &[u8]) -> Option<u64>
-    ensures { result ≡ digits_from number digits.now }
+/// The number that these digits make; none if another byte stands there, or it is too large.
+fn number_of(digits: &[u8]) -> Option<u64>
+    ensures { result ≡ digits_from 0 digits.now }
 {
-    match digits {
-        [] => Some(number),
-        [digit, rest @ ..] => {
-            if b'0' <= *digit && *digit <= b'9' && number <= MOST_READ {
-                digits_from(number * 10 + u64::from(*digit - b'0'), rest)
-            } else {
-                None
-            }
+    let mut number = 0u64;
+    for i in 0..digits.len() {
+        let digit = digits[i];
+        if digit < b'0' || b'9' < digit || MOST_READ < number {
+            return None;
         }
+        number = number * 10 + u64::from(digit - b'0');
     }
+    Some(number)
 }
