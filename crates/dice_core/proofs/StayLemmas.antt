@@ -15,7 +15,7 @@ use Rattle.journal.specs.declared.event.Told.{Told}
 use Rattle.journal.specs.declared.event.Told.TheVariants.{Close, Leave, Drop}
 use Rattle.journal.specs.Events.{Asking, one_if, open_count, opened_at, live_at}
 use Rattle.core_laws.specs.Tasks.{Outcome, WithNothing}
-use Rattle.core_laws.proofs.Indices.{opened_counts}
+use Rattle.journal.proofs.Indices.{opened_counts}
 use Rattle.version_epoch.specs.Standings.{open_count_of}
 use Rattle.dice_jobs.specs.Jobs.{Name}
 use Rattle.dice_tasks.specs.Endings.{GivesUpAll}
@@ -93,7 +93,7 @@ module _ {K V : Type 0} (eq : K → K → Bool) (equality : IsEquality eq) (m : 
 
 module _ {K V : Type 0} (eq : K → K → Bool) (equality : IsEquality eq) (ps : List (K × Share K (Held K V))) (free : HasNoCycle (asked_of eq ps)) (k : K) (es : List (K × Outcome K V))
     (asked : (p : K × Outcome K V) → Has es p → (p.0 ≡ k) ⊎ ((q : K × Outcome K V) × Has es q × (asks eq ps q.0 (Tasked p.0) ≡ true))) where
-  keys : List K
+  abbrev keys : List K
   keys = map (λ (p : K × Outcome K V). p.0) es
 
   rises : (n : ℕ) (p : K × Outcome K V) (path : List K) → Has es p → ((e : K) → Has (p.0 ∷ path) e → Leads (asked_of eq ps) e p.0) → ((e : K) → Has (p.0 ∷ path) e → Has keys e) → AreDistinct (p.0 ∷ path) → length keys < length (p.0 ∷ path) + n → Leads (asked_of eq ps) p.0 k

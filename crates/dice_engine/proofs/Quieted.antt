@@ -7,9 +7,8 @@ use Rattle.std.proofs.lemmas.Option.{none-some}
 use Rattle.dice_key.specs.Meaning.{Meaning}
 use Rattle.journal.specs.declared.event.Told.{Told}
 use Rattle.journal.specs.declared.event.Told.TheVariants.{Close, Leave, Drop}
-use Rattle.journal.specs.Events.{Asking, decided, open_at, live_at}
-use Rattle.core_laws.specs.Stands.{lost_in_epoch}
-use Rattle.core_laws.proofs.Indices.{still_live}
+use Rattle.journal.specs.Events.{Asking, decided, open_at, live_at, lost_in_epoch}
+use Rattle.journal.proofs.Indices.{still_live}
 use Rattle.dice_core.specs.Cores.{CoreSeen, Came, ToValue, ToCycle, ToNothing, Pending, Absent, events_of, poll_of}
 use Rattle.dice_core.proofs.EventLemmas.{along}
 use Rattle.turnstile.specs.Seats.{SeatView}
