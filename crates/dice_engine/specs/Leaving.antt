@@ -3,7 +3,6 @@ use Rattle.std.specs.Prelude.{◌≡◌, ℕ, Bool, List, reverse, Some}
 use Rattle.journal.specs.declared.event.Told.{Told}
 use Rattle.journal.specs.Events.{Asking, decided, live_at, lost_in_epoch}
 
-
 module _ {K V : Type 0} (eq : K → K → Bool) where
   -- the journal J became I: each ask that is live then was live before; and no key was decided, and none was lost
   pub record DecidesNothing (J I : List (Told K V)) : Type 0 where

@@ -7,3 +7,4 @@ pub mod Lines
 pub mod Jobs
 pub mod Doings
 pub mod Leaving
+pub mod Seating

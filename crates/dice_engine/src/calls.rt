@@ -8,7 +8,7 @@ ghost use Rattle.dice_engine.specs.Turns.{newest_in, log_of, Turn};
 ghost use Rattle.dice_engine.specs.Conditions.{HasOpen, HasAsk, SawAsk};
 ghost use Rattle.dice_engine.specs.Calls.{AddsNothing, Opens, Closes, Asks, Leaves, Commits};
 ghost use Rattle.dice_engine.specs.Replies.{reply_of, IsReply};
-ghost use Rattle.dice_engine.specs.Lines.{AreLines};
+ghost use Rattle.dice_engine.specs.Lines.{AreLines, AreEventsFrom};
 ghost use Rattle.dice_engine.specs.Doings.{TellsOfCore};
 
 use crate::engine::{Engine, Seat};
@@ -16,6 +16,7 @@ use crate::promise::{Answer, Promise, Transaction};
 use crate::updater::Updater;
 use dice_core::CommitRefusal;
 use dice_key::{KeyRef, Line, NoMemory, Universe, Version};
+use journal::Event;
 use std::alloc::Global;
 use std::sync::Wait;
 
@@ -156,5 +157,40 @@ impl<U: Universe> Engine<U> {
         let lines = turn.state().lines(alloc, &*self.universe);
         self.stile.leave(turn);
         lines
+    }
+
+    /// How many events the journal has, which is the index of the next one. It adds nothing, and takes no memory.
+    pub fn event_count<R: Wait>(&self, rt: &R, seat: &mut Seat<U>) -> usize
+        requires seat { IsSeatOf self.now seat.old }
+        ensures turn { Turn U.Key.eq U.meaning seat.old seat.new (λ found. AddsNothing) }
+        ensures count { result ≡ length seat.new.seen }
+        ensures seat { IsSeatOf self.now seat.new }
+        ensures same { (seat.new.number ≡ seat.old.number) × (seat.new.writers ≡ seat.old.writers) }
+    {
+        let mut turn = self.stile.enter(rt, seat);
+        let count = turn.state().event_count();
+        self.stile.leave(turn);
+        count
+    }
+
+    /// The events of the journal from this index on, in order; none if there are no more. It adds nothing, and takes as long as these
+    /// events are. Their keys and values are shared.
+    pub fn events<R: Wait>(
+        &self,
+        rt: &R,
+        alloc: Global,
+        seat: &mut Seat<U>,
+        start: usize,
+    ) -> Result<Vec<Event<U::Key, U::Value>>, NoMemory>
+        requires seat { IsSeatOf self.now seat.old }
+        ensures turn { Turn U.Key.eq U.meaning seat.old seat.new (λ found. AddsNothing) }
+        ensures events { IfOk result (λ es. AreEventsFrom start seat.new.seen es.items) }
+        ensures seat { IsSeatOf self.now seat.new }
+        ensures same { (seat.new.number ≡ seat.old.number) × (seat.new.writers ≡ seat.old.writers) }
+    {
+        let mut turn = self.stile.enter(rt, seat);
+        let events = turn.state().events(alloc, start);
+        self.stile.leave(turn);
+        events
     }
 }

@@ -3,6 +3,7 @@
 
 mod calls;
 mod engine;
+mod events;
 mod gate;
 mod laws;
 mod lines;
@@ -10,11 +11,13 @@ mod promise;
 mod settling;
 mod state;
 mod updater;
+mod workers;
 mod working;
 
 pub use dice_core::CommitRefusal;
 pub use engine::{Engine, Seat};
 pub use gate::{Gate, Open};
+pub use journal::{Cause, Changes, Event};
 pub use laws::{
     conditions_stay, decided_when_closed, decisions_stay, one_writer_knows_all, own_asks_are_live,
     replies_are_exact, turns_go_on,

@@ -12,17 +12,18 @@ ghost use Rattle.dice_core.specs.Joinings.{IsToldOfMake};
 ghost use Rattle.dice_engine.specs.Turns.{newest_in, log_of, left_of, Adds, WorksOn};
 ghost use Rattle.dice_engine.specs.Calls.{AddsNothing, Opens, Closes, Asks, Leaves, Commits};
 ghost use Rattle.dice_engine.specs.Replies.{reply_of, Tells, IsLiveIn, IsReply};
-ghost use Rattle.dice_engine.specs.Lines.{AreLines};
+ghost use Rattle.dice_engine.specs.Lines.{AreLines, AreEventsFrom};
 ghost use Rattle.dice_engine.specs.Jobs.{GoesOut, GivesUpJob, TakesUpStep, ComesHome};
 ghost use Rattle.dice_engine.specs.Doings.{RestsByJournal};
 
+use crate::events::events_since;
 use crate::lines::lines_of;
 use crate::promise::{Answer, Promise, Transaction};
 use crate::updater::Updater;
 use dice_core::{CommitRefusal, Core, Job, JobName, Polled, Step};
 use dice_key::{KeyRef, Line, NoMemory, Universe, Version};
 use injected::cells_are_the_inputs;
-use journal::Told;
+use journal::{Event, Told};
 use std::alloc::Global;
 use std::sync::Arc;
 use turnstile::Tale;
@@ -207,6 +208,30 @@ impl<U: Universe> State<U> {
         let core = &*self.core;
         core.in_order();
         lines_of(alloc, universe, core.journal())
+    }
+
+    /// How many events there are.
+    pub(crate) fn event_count(&self) -> usize
+        ensures count { result ≡ length (events_of self.now.core.value) }
+        ensures lawful { IsLawfulJournal U.Key.eq U.meaning (events_of self.now.core.value) }
+    {
+        let core = &*self.core;
+        core.in_order();
+        core.journal().len()
+    }
+
+    /// The events from this index on, in order.
+    pub(crate) fn events(
+        &self,
+        alloc: Global,
+        start: usize,
+    ) -> Result<Vec<Event<U::Key, U::Value>>, NoMemory>
+        ensures events { IfOk result (λ es. AreEventsFrom start (events_of self.now.core.value) es.items) }
+        ensures lawful { IsLawfulJournal U.Key.eq U.meaning (events_of self.now.core.value) }
+    {
+        let core = &*self.core;
+        core.in_order();
+        events_since(alloc, core.journal(), start)
     }
 
     /// Takes the job of a task that is ready; it is out then, and nothing else is another. `None` exactly where no task is ready.

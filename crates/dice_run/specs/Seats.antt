@@ -69,7 +69,3 @@ pub record Asks (id : TableId) (s u : Place) (ask opened version : ℕ) (k : Key
 abbrev pub IsCome : List (List (Key × Value)) → ℕ → Key → Came → Type 0
 IsCome C v k (came.Value x) = HasValue key_equal buck C v k (arc_value x)
 IsCome C v k (came.Cycle p) = CycleStands key_equal buck C v k (arc_value p)
-
--- it has given numbers away, and is as before else
-abbrev pub GivesSeats : Place → Place → Type 0
-GivesSeats s u = u ≡ record s { spare_start = u.spare_start }

@@ -1,13 +1,13 @@
 //! The universe.
 ghost use Rattle.std.specs.Prelude.{◌≡◌, ◌<◌, ◌%◌, ◌^◌, ℕ, List, ◌++◌, ◌∷◌, [], length, map, IfOk, OnOk, Option, None};
 ghost use Rattle.std.specs.Arc.{arc_value};
-ghost use Rattle.dice_key.specs.Meaning.{Asks, Ends};
 ghost use Rattle.dice_key.specs.Lawful.{IsStep};
 ghost use Rattle.tiny_universe.specs.declared.place.Value.TheVariants.{Number};
 ghost use Rattle.tiny_universe.specs.Tiny.{next_move, batches, number_in, first_in, second_in};
 
 use crate::place::{Place, Value};
-use dice_key::{Answers, Batch, Kind, Line, Move, NoMemory, Universe, Version};
+use dice_key::{Answers, Kind, Line, Move, NoMemory, Universe, Version};
+use pure_universe::{ask, ask_both, done};
 use std::alloc::Global;
 use std::sync::Arc;
 
@@ -40,46 +40,31 @@ impl Tiny {
     fn step(&self, run: &Run) -> Result<Move<Place, Value>, NoMemory>
         ensures { IfOk result (λ p. IsStep p (next_move run.now.key (batches run.now.key run.now.version run.now.first run.now.second) run.now.version)) }
     {
+        let alloc = self.alloc;
         match (run.key, &run.first, &run.second) {
-            (Place::Cell(_), _, _) => self.done(Value::Number(0)),
-            (Place::Follow(cell), None, _) => self.ask(Place::Cell(cell)),
-            (Place::Follow(_), Some(first), None) => self.ask(Place::Cell(
-                (first_in(first) % (1 << 32)) as u32,
-            )),
-            (Place::Follow(_), Some(_), Some(second)) => self.done(Value::Number(first_in(second))),
-            (Place::Parity(cell), None, _) => self.ask(Place::Follow(cell)),
-            (Place::Parity(_), Some(first), _) => self.done(Value::Number(first_in(first) % 2)),
-            (Place::Sum(a, b), None, _) => self.ask_both(Place::Cell(a), Place::Cell(b)),
+            (Place::Cell(_), _, _) => done(alloc, Value::Number(0)),
+            (Place::Follow(cell), None, _) => ask(alloc, Place::Cell(cell)),
+            (Place::Follow(_), Some(first), None) => ask(
+                alloc,
+                Place::Cell((first_in(first) % (1 << 32)) as u32),
+            ),
+            (Place::Follow(_), Some(_), Some(second)) => done(
+                alloc,
+                Value::Number(first_in(second)),
+            ),
+            (Place::Parity(cell), None, _) => ask(alloc, Place::Follow(cell)),
+            (Place::Parity(_), Some(first), _) => done(alloc, Value::Number(first_in(first) % 2)),
+            (Place::Sum(a, b), None, _) => ask_both(alloc, Place::Cell(a), Place::Cell(b)),
             (Place::Sum(_, _), Some(first), _) => {
-                self.done(Value::Number(first_in(first).wrapping_add(second_in(first))))
+                done(
+                    alloc,
+                    Value::Number(first_in(first).wrapping_add(second_in(first))),
+                )
             }
-            (Place::Clock, _, _) => self.done(Value::Reading(run.version)),
-            (Place::Ring(side), None, _) => self.ask(Place::Ring(!side)),
-            (Place::Ring(_), Some(first), _) => self.done(Value::Number(first_in(first))),
+            (Place::Clock, _, _) => done(alloc, Value::Reading(run.version)),
+            (Place::Ring(side), None, _) => ask(alloc, Place::Ring(!side)),
+            (Place::Ring(_), Some(first), _) => done(alloc, Value::Number(first_in(first))),
         }
-    }
-
-    /// The move that is done with a value.
-    fn done(&self, value: Value) -> Result<Move<Place, Value>, NoMemory>
-        ensures { IfOk result (λ p. IsStep p (Ends value)) }
-    {
-        Ok(Move::Done(Arc::new(self.alloc, value)?))
-    }
-
-    /// The move that asks one key.
-    fn ask(&self, key: Place) -> Result<Move<Place, Value>, NoMemory>
-        ensures { IfOk result (λ p. IsStep p (Asks (key ∷ []))) }
-    {
-        Ok(Move::Ask(Batch::one(self.alloc, Arc::new(self.alloc, key)?)?))
-    }
-
-    /// The move that asks two keys.
-    fn ask_both(&self, a: Place, b: Place) -> Result<Move<Place, Value>, NoMemory>
-        ensures { IfOk result (λ p. IsStep p (Asks (a ∷ b ∷ []))) }
-    {
-        let mut batch = Batch::one(self.alloc, Arc::new(self.alloc, a)?)?;
-        batch.push(Arc::new(self.alloc, b)?)?;
-        Ok(Move::Ask(batch))
     }
 }
 

@@ -1,0 +1,74 @@
+//! The events of a journal, copied out of it.
+ghost use Rattle.std.specs.Prelude.{◌≡◌, IfOk};
+ghost use Rattle.journal.specs.Tell.{told, reason_of};
+ghost use Rattle.dice_engine.specs.Lines.{AreEventsFrom};
+
+use dice_key::{NoMemory, Universe};
+use journal::{Cause, Changes, Event, Journal};
+use std::alloc::Global;
+use std::sync::Arc;
+
+/// The events of a journal from this index on, in order. Keys and values are shared, not copied.
+pub(crate) fn events_since<U: Universe>(
+    alloc: Global,
+    journal: &Journal<U>,
+    start: usize,
+) -> Result<Vec<Event<U::Key, U::Value>>, NoMemory>
+    ensures { IfOk result (λ es. AreEventsFrom start journal.now.events es.items) }
+{
+    let count = journal.len();
+    let mut events = Vec::new(alloc);
+    for index in start..count {
+        events.push(shared_event(alloc, journal.event(index))?)?;
+    }
+    Ok(events)
+}
+
+/// The event once more, with its keys and values shared.
+fn shared_event<K: Drop, V: Drop>(
+    alloc: Global,
+    event: &Event<K, V>,
+) -> Result<Event<K, V>, NoMemory>
+    ensures { IfOk result (λ e. told e ≡ told event.now) }
+{
+    Ok(match event {
+        Event::Commit(by, changes) => Event::Commit(*by, shared_changes(alloc, changes)?),
+        Event::Open(by, version) => Event::Open(*by, *version),
+        Event::Close(by, opened) => Event::Close(*by, *opened),
+        Event::Ask(by, opened, key) => Event::Ask(*by, *opened, Arc::try_clone(key)?),
+        Event::Leave(by, ask) => Event::Leave(*by, *ask),
+        Event::Start(version, key, cause) => {
+            Event::Start(*version, Arc::try_clone(key)?, shared_cause(cause)?)
+        }
+        Event::Keep(version, key, base) => Event::Keep(*version, Arc::try_clone(key)?, *base),
+        Event::End(version, key) => Event::End(*version, Arc::try_clone(key)?),
+        Event::Cyclic(version, key) => Event::Cyclic(*version, Arc::try_clone(key)?),
+        Event::Drop(version, key) => Event::Drop(*version, Arc::try_clone(key)?),
+        Event::Lost(version, key) => Event::Lost(*version, Arc::try_clone(key)?),
+    })
+}
+
+/// The cause once more.
+fn shared_cause<K: Drop>(cause: &Cause<K>) -> Result<Cause<K>, NoMemory>
+    ensures { IfOk result (λ c. reason_of c ≡ reason_of cause.now) }
+{
+    Ok(match cause {
+        Cause::New => Cause::New,
+        Cause::Transient(base) => Cause::Transient(*base),
+        Cause::Differs(base, key) => Cause::Differs(*base, Arc::try_clone(key)?),
+    })
+}
+
+/// The changes once more, with their keys and values shared.
+fn shared_changes<K: Drop, V: Drop>(
+    alloc: Global,
+    changes: &Changes<K, V>,
+) -> Result<Changes<K, V>, NoMemory>
+    ensures { IfOk result (λ c. c ≡ changes.now) }
+{
+    let mut pairs = Vec::with_capacity(alloc, changes.pairs().len())?;
+    for (key, value) in changes.pairs() {
+        pairs.push((Arc::try_clone(key)?, Arc::try_clone(value)?))?;
+    }
+    Ok(Changes::from_pairs(pairs))
+}

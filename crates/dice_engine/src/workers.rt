@@ -1,0 +1,129 @@
+//! Workers beside a caller: each on a seat of its own, in a thread of its own.
+ghost use Rattle.std.specs.Prelude.{◌≡◌, ◌≤◌, All, IfOk};
+ghost use Rattle.turnstile.specs.Seats.{IsSeatOf, spare};
+ghost use Rattle.dice_engine.specs.Seating.{GivesSeats};
+
+use crate::engine::{Engine, Seat};
+use crate::gate::Gate;
+use crate::promise::Worked;
+use dice_key::{NoMemory, Universe};
+use std::alloc::Global;
+use std::sync::Wait;
+use std::sync::atomic::{AtomicU64, Ordering};
+use std::thread::{self, Threads, join};
+use std::time::Duration;
+
+/// How long a worker rests after a job, and at first if it finds none, in microseconds.
+const REST: u64 = 300;
+
+/// How often a rest is twice as long as the one before it, at most.
+const DOUBLED: u32 = 5;
+
+impl<U: Universe> Engine<U> {
+    /// Splits off so many seats. If memory is refused, those that were split off are let go.
+    pub fn split_seats(
+        &self,
+        alloc: Global,
+        seat: &mut Seat<U>,
+        count: u64,
+    ) -> Result<Vec<Seat<U>>, NoMemory>
+        requires seat { IsSeatOf self.now seat.old }
+        requires spare { count ≤ spare seat.old }
+        ensures gives { GivesSeats seat.old seat.new }
+        ensures seats { IfOk result (λ v. All (IsSeatOf self.now) v.items) }
+    {
+        let mut seats = Vec::new(alloc);
+        for _ in 0..count {
+            let new = self.split(seat)?;
+            seats.push(new)?;
+        }
+        Ok(seats)
+    }
+
+    /// Calls `f` in this thread, with a worker on each of these seats beside it. A worker does jobs in a thread of its own until `f`
+    /// has returned. If no thread can be made for a worker, its jobs are left to the others, and to `wait`.
+    pub fn with_workers<R: Threads + Wait + Sync, G: Gate, T, F: FnOnce() -> T>(
+        &self,
+        rt: &R,
+        seats: Vec<Seat<U>>,
+        gate: &G,
+        f: F,
+    ) -> T
+        requires seats { All (IsSeatOf self.now) seats.items }
+        requires call { F.pre f }
+        ensures { F.post f result }
+    {
+        let done = AtomicU64::new(0);
+        let stop = &done;
+        let (_, result) = join(
+            rt,
+            move || -> bool
+                requires { All (IsSeatOf self.now) seats.items }
+            { self.work_all(rt, seats, gate, stop) },
+            move || -> T
+                requires { F.pre f }
+                ensures { F.post f.entry result }
+            {
+                let result = f();
+                stop.store(1, Ordering::Release);
+                stop.wake_all();
+                result
+            },
+        );
+        result
+    }
+
+    // Each worker in a thread of its own, if one can be made. It answers whether each was begun.
+    fn work_all<R: Threads + Wait + Sync, G: Gate>(
+        &self,
+        rt: &R,
+        seats: Vec<Seat<U>>,
+        gate: &G,
+        stop: &AtomicU64,
+    ) -> bool
+        requires { All (IsSeatOf self.now) seats.items }
+    {
+        thread::map_vec(
+            rt,
+            seats,
+            &|seat: Seat<U>| -> bool
+                requires { IsSeatOf self.now seat }
+            { self.work_on(rt, seat, gate, stop) },
+        )
+        .is_ok()
+    }
+
+    // Does jobs until it is stopped, which it answers. After each job it rests a little, and for longer while it finds none; if the
+    // engine is taken, it rests first. So the turns are left to the caller: most jobs are short.
+    fn work_on<R: Wait, G: Gate>(
+        &self,
+        rt: &R,
+        mut seat: Seat<U>,
+        gate: &G,
+        stop: &AtomicU64,
+    ) -> bool
+        requires { IsSeatOf self.now seat }
+    {
+        let worker = (seat.number() % 4_294_967_296) as u32;
+        let mut tries = 0u32;
+        for _ in rt.forever() {
+            if stop.load(Ordering::Acquire) != 0 {
+                return true;
+            }
+            if !self.is_taken() {
+                match self.work(rt, &mut seat, gate, worker) {
+                    Worked::Did => tries = 0,
+                    Worked::Idle => tries = tries.saturating_add(1),
+                }
+            }
+            rest(rt, stop, tries);
+        }
+        unreachable!()
+    }
+}
+
+/// Sleeps for a while, the longer the more tries found nothing, but not on after the stop.
+fn rest<R: Wait>(rt: &R, stop: &AtomicU64, tries: u32) {
+    let time = Duration::from_micros(REST << tries.min(DOUBLED));
+    stop.park_timeout(rt, 0, time);
+}

@@ -1,0 +1,5 @@
+//! Tests of a session, on the example universe.
+#![tactic(auto)]
+
+#[cfg(test)]
+mod tiny;

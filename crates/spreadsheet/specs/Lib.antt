@@ -1,0 +1,3 @@
+pub mod Formulas
+pub mod Sheet
+pub mod Laws
