@@ -1,5 +1,6 @@
 //! The events of a journal, copied out of it.
 ghost use Rattle.std.specs.Prelude.{◌≡◌, IfOk};
+ghost use Rattle.dice_model.specs.Log.{pair_of};
 ghost use Rattle.journal.specs.Tell.{told, reason_of};
 ghost use Rattle.dice_engine.specs.Lines.{AreEventsFrom};
 
@@ -66,9 +67,18 @@ fn shared_changes<K: Drop, V: Drop>(
 ) -> Result<Changes<K, V>, NoMemory>
     ensures { IfOk result (λ c. c ≡ changes.now) }
 {
-    let mut pairs = Vec::with_capacity(alloc, changes.pairs().len())?;
-    for (key, value) in changes.pairs() {
-        pairs.push((Arc::try_clone(key)?, Arc::try_clone(value)?))?;
+    let all = changes.pairs();
+    let mut pairs = Vec::with_capacity(alloc, all.len())?;
+    for pair in all {
+        pairs.push(shared_pair(pair)?)?;
     }
     Ok(Changes::from_pairs(pairs))
+}
+
+/// The pair once more, with its key and value shared.
+fn shared_pair<K: Drop, V: Drop>(pair: &(Arc<K>, Arc<V>)) -> Result<(Arc<K>, Arc<V>), NoMemory>
+    ensures { IfOk result (λ p. pair_of p ≡ pair_of pair.now) }
+{
+    let (key, value) = pair;
+    Ok((Arc::try_clone(key)?, Arc::try_clone(value)?))
 }

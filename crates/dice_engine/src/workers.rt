@@ -62,7 +62,7 @@ impl<U: Universe> Engine<U> {
             { self.work_all(rt, seats, gate, stop) },
             move || -> T
                 requires { F.pre f }
-                ensures { F.post f.entry result }
+                ensures { F.post f result }
             {
                 let result = f();
                 stop.store(1, Ordering::Release);

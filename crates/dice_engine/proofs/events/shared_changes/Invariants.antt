@@ -2,5 +2,5 @@ use Rattle.std.proofs.Common.{◌≡◌, take}
 use Rattle.dice_model.specs.Log.{pairs_of}
 use Rattle.dice_engine.proofs.events.shared_changes.Given as goal
 
-abbrev pub invariant-loop-key : goal.invariant-loop-key
-invariant-loop-key g l = pairs_of l.pairs.items ≡ take l.key-index l.changes
+abbrev pub invariant-loop-pair : goal.invariant-loop-pair
+invariant-loop-pair g l = pairs_of l.pairs.items ≡ pairs_of (take l.pair-index l.all)
