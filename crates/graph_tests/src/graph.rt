@@ -309,6 +309,22 @@ fn a_finish_marks_no_version_beyond_a_change(rt: HostRuntime) -> Result<(), Fail
     Ok(())
 }
 
+const OTHER: [Call; 6] = [
+    SET,
+    Call::Commit(2, 1, 6),
+    Call::Finish(KEY, 2, TWELVE, Place::Cell(1), 6),
+    // One that asked the key at the version before, at which the key's entry says nothing.
+    Call::Finish(USER, 1, TWELVE, KEY, 10),
+    Call::Look(USER, 1, Seen::Match(TWELVE, 1)),
+    Call::NoMatch(USER, 2),
+];
+
+#[test]
+fn an_entry_of_other_versions_adds_none(rt: HostRuntime) -> Result<(), Fail> {
+    assert!(rt; first_other(rt.alloc(), &OTHER)? == None);
+    Ok(())
+}
+
 const LATER: [Call; 7] = [
     SET,
     FINISHED,
