@@ -19,6 +19,8 @@ use injected::{Cells, cells_are_the_inputs, cells_in_order};
 use journal::{Changes, Event};
 use std::alloc::Global;
 use std::collections::HashSet;
+use std::error::Error;
+use std::fmt::{self, Debug, Display, Formatter};
 use std::hash::Hash;
 use std::sync::Arc;
 use versioned_graph::Graph;
@@ -33,6 +35,28 @@ pub enum CommitRefusal<'a, U: Universe> {
     /// Memory was refused.
     NoMemory,
 }
+
+impl<U: Universe> Debug for CommitRefusal<'_, U> {
+    fn fmt<W: fmt::Write>(&self, f: &mut Formatter<W>) -> fmt::Result {
+        match self {
+            CommitRefusal::NotInjected(_) => f.write_str("NotInjected(_)"),
+            CommitRefusal::Twice(_) => f.write_str("Twice(_)"),
+            CommitRefusal::NoMemory => f.write_str("NoMemory"),
+        }
+    }
+}
+
+impl<U: Universe> Display for CommitRefusal<'_, U> {
+    fn fmt<W: fmt::Write>(&self, f: &mut Formatter<W>) -> fmt::Result {
+        match self {
+            CommitRefusal::NotInjected(_) => f.write_str("a key is set that is not injected"),
+            CommitRefusal::Twice(_) => f.write_str("a key is set twice in one commit"),
+            CommitRefusal::NoMemory => f.write_str("no memory"),
+        }
+    }
+}
+
+impl<U: Universe> Error for CommitRefusal<'_, U> {}
 
 /// Tests changes in order: each key has to be injected, and to stand in no earlier pair. The first that fails is named.
 pub(crate) fn check_changes<'a, U: Universe>(

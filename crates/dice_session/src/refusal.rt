@@ -42,9 +42,9 @@ impl<U: Universe> Debug for CommitError<U> {
 impl<U: Universe> Display for CommitError<U> {
     fn fmt<W: fmt::Write>(&self, f: &mut Formatter<W>) -> fmt::Result {
         match self {
-            CommitError::NotInjected(_) => f.write_str("a key was set that is not injected"),
-            CommitError::Twice(_) => f.write_str("a key was set twice in one commit"),
-            CommitError::NoMemory => f.write_str("memory was refused"),
+            CommitError::NotInjected(_) => f.write_str("a key is set that is not injected"),
+            CommitError::Twice(_) => f.write_str("a key is set twice in one commit"),
+            CommitError::NoMemory => f.write_str("no memory"),
         }
     }
 }
