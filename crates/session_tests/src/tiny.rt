@@ -134,7 +134,7 @@ fn commits_are_made_or_refused(rt: HostRuntime) -> Result<(), Fail> {
     match session.commit(&rt) {
         Err(refused @ CommitError::NotInjected(_)) => {
             let text = format!(in rt.alloc(); "{refused}")?;
-            assert_eq!(rt; text.as_str(), "a key was set that is not injected");
+            assert_eq!(rt; text.as_str(), "a key is set that is not injected");
         }
         _ => assert!(rt; false),
     }
