@@ -113,15 +113,18 @@ module _ {K V : Type 0} (eq : K → K → Bool) (equality : IsEquality eq) (m : 
   -- after an end at v, a task at work without asker goes: its Drop is allowed, and it was no end
   pub drops : ended_at R ≡ Some v → IsAllowed eq m R (Drop v k) × VersionStands eq m (Drop v k ∷ R) v W u us × (ended_at (Drop v k ∷ R) ≡ Some v)
   drops after = (
-    (record {
-      undecided = undecided;
-      unasked = λ i a e at y. (let z : s.asks a.key (Promised i) ≡ true = h.promises i a e at (λ c. (h.each k taken.0 taken.1).computed (subst (λ x. m.kind x ≡ Injected) y c)) in
-          not_both (subst (λ q. s.asks q (Promised i) ≡ true) y z) (w.unasked (Promised i)));
-      once = (h.each k taken.0 taken.1).once;
-      asked = (h.each k taken.0 taken.1).asked;
-      reaches = (h.each k taken.0 taken.1).reached;
-      after = after;
-    }, (h.each k taken.0 taken.1).computed),
+    (
+      record {
+        undecided = undecided;
+        unasked = λ i a e at y. (let z : s.asks a.key (Promised i) ≡ true = h.promises i a e at (λ c. (h.each k taken.0 taken.1).computed (subst (λ x. m.kind x ≡ Injected) y c)) in
+            not_both (subst (λ q. s.asks q (Promised i) ≡ true) y z) (w.unasked (Promised i)));
+        once = (h.each k taken.0 taken.1).once;
+        asked = (h.each k taken.0 taken.1).asked;
+        reaches = (h.each k taken.0 taken.1).reached;
+        after = after;
+      },
+      (h.each k taken.0 taken.1).computed,
+    ),
     record {
       promised = λ q i e. h.promised q i (before q (Promised i) e);
       promises = λ i a e at c. promise_stays eq k s u w.asks a.key i (h.promises i a e at c);

@@ -143,9 +143,11 @@ module _ {K V : Type 0} (eq : K → K → Bool) (equality : IsEquality eq) (m : 
           let p = has_mapped (λ (p : K × Outcome K V). p.0) g.ends a.key h in
           let r = g.ended.ended p.0 p.1 in
           let now : held_in eq d v a.key ≡ Some (held_ended r.0.name WithNothing) = ap (λ x. task_at eq x a.key) table ∙ (e ∙ (ap (task_at eq g.tasks) (sym p.2) ∙ (r.3 ∙ ap (λ o. Some (held_ended r.0.name o)) (g.ended.comes p.0 p.1)))) in
-          inr (same,
+          inr (
+            same,
             subst (λ u. Leads (asked_of eq (table_at c.tables u)) a.key n.key) (sym same) (subst (λ q. Leads (asked_of eq (table_at c.tables n.version)) q n.key) p.2 (waited eq equality (table_at c.tables n.version) (sc.rests.each n.version).stands.no_cycle n.key g.ends g.ended.asked p.0 p.1)),
-            by_task (m.kind a.key) (open_count_of d.sessions.epochs v) (cell_at eq m d.cells v a.key) (held_to (held_in eq d v a.key)) computed ∙ ap held_to now)
+            by_task (m.kind a.key) (open_count_of d.sessions.epochs v) (cell_at eq m d.cells v a.key) (held_to (held_in eq d v a.key)) computed ∙ ap held_to now,
+          )
       by_end (inr none) e = inl (stay (λ _. ap (λ x. task_at eq x a.key) table ∙ (e ∙ (g.ended.others a.key (λ p h i. none (subst (Has (map (λ (p : K × Outcome K V). p.0) g.ends)) i (has_map (λ (p : K × Outcome K V). p.0) g.ends p h))) ∙ ap (λ u. task_at eq (table_at c.tables u) a.key) (sym same)))))
 
       by_drop : (b : Bool) → task_at eq qs a.key ≡ cond b None (task_at eq g.tasks a.key) → Stays ⊎ IsLost

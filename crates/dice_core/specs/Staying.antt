@@ -17,4 +17,4 @@ module _ {K V : Type 0} (eq : K → K → Bool) (m : Meaning K V) where
   abbrev pub LosesWaitersOnly : Name K → CoreSeen K V → CoreSeen K V → Type 0
   LosesWaitersOnly n c d = (i v : ℕ) (a : Asking K) → live_at (past_of d) i ≡ Some a → opened_at (past_of d) v a.opened ≡ true
       → (poll_of eq m d v a.key ≡ poll_of eq m c v a.key)
-        ⊎ ((v ≡ n.version) × Leads (asked_of eq (table_at c.tables v)) a.key n.key × (poll_of eq m d v a.key ≡ ToNothing))
+      ⊎ ((v ≡ n.version) × Leads (asked_of eq (table_at c.tables v)) a.key n.key × (poll_of eq m d v a.key ≡ ToNothing))

@@ -98,8 +98,8 @@ module _ {K V : Type 0} (eq : K → K → Bool) (equality : IsEquality eq) where
     asked_found (Open c w ∷ R) v k l a = by_begin (begins R w v) a.asked (λ h. asked_found R v k l.1 (asked_before (Open c w) R v k l.1 a h))
       where
         by_begin : (b : Bool) → Has (Open c w ∷ cond b [] (epoch_of R v)) (Ask a.by a.opened k) → (Has (epoch_of R v) (Ask a.by a.opened k) → asked_in_epoch eq R v k ≡ true) → cond b false (asked_in_epoch eq R v k) ≡ true
-        by_begin true g again = elim g [ | inl e ↦ cc | inr i ↦ elim i [ ] ]
-        by_begin false g again = elim g [ | inl e ↦ cc | inr i ↦ again i ]
+        by_begin true g again = elim g [ inl e ↦ cc | inr i ↦ elim i [ ] ]
+        by_begin false g again = elim g [ inl e ↦ cc | inr i ↦ again i ]
     asked_found (Ask c s q ∷ R) v k l a = elim (a.asked) [
       | inl e ↦ or_left (opened_at R v s && eq k q) (asked_in_epoch eq R v k) (and_from (opened_at R v s) (eq k q) (here (Ask c s q) refl e) (subst (λ y. eq k y ≡ true) (sym (ask_same (Ask c s q) c s a.by a.opened q k refl e).1) (equality.itself k)))
       | inr h ↦ or_right (opened_at R v s && eq k q) (asked_in_epoch eq R v k) (asked_found R v k l.1 (asked_before (Ask c s q) R v k l.1 a h))
@@ -113,15 +113,15 @@ module _ {K V : Type 0} (eq : K → K → Bool) (equality : IsEquality eq) where
             let there : event_at R s ≡ Some (Open a.opener v) = opening_before (Ask c s q) R s a.opener v b (subst (λ t. event_at (Ask c s q ∷ R) t ≡ Some (Open a.opener v)) (sym (ask_same x c s a.by a.opened q k i e).0) a.opening) in
             let version = open_same (Open o.by o.version) o.by o.version a.opener v refl (same_Some _ _ (sym (open_event R s o f) ∙ there)) in
             ap (is_for (λ (o : Opened). eqb o.version v)) f ∙ eq-eqb o.version v version
-    asked_found (Commit c d ∷ R) v k l h = elim (h.asked) [ | inl e ↦ cc | inr g ↦ asked_found R v k l.1 (asked_before (Commit c d) R v k l.1 h g) ]
-    asked_found (Close c s ∷ R) v k l h = elim (h.asked) [ | inl e ↦ cc | inr g ↦ asked_found R v k l.1 (asked_before (Close c s) R v k l.1 h g) ]
-    asked_found (Leave c a ∷ R) v k l h = elim (h.asked) [ | inl e ↦ cc | inr g ↦ asked_found R v k l.1 (asked_before (Leave c a) R v k l.1 h g) ]
-    asked_found (Start w q c ∷ R) v k l h = elim (h.asked) [ | inl e ↦ cc | inr g ↦ asked_found R v k l.1 (asked_before (Start w q c) R v k l.1 h g) ]
-    asked_found (Keep w q b ∷ R) v k l h = elim (h.asked) [ | inl e ↦ cc | inr g ↦ asked_found R v k l.1 (asked_before (Keep w q b) R v k l.1 h g) ]
-    asked_found (End w q ∷ R) v k l h = elim (h.asked) [ | inl e ↦ cc | inr g ↦ asked_found R v k l.1 (asked_before (End w q) R v k l.1 h g) ]
-    asked_found (Cyclic w q ∷ R) v k l h = elim (h.asked) [ | inl e ↦ cc | inr g ↦ asked_found R v k l.1 (asked_before (Cyclic w q) R v k l.1 h g) ]
-    asked_found (Drop w q ∷ R) v k l h = elim (h.asked) [ | inl e ↦ cc | inr g ↦ asked_found R v k l.1 (asked_before (Drop w q) R v k l.1 h g) ]
-    asked_found (Lost w q ∷ R) v k l h = elim (h.asked) [ | inl e ↦ cc | inr g ↦ asked_found R v k l.1 (asked_before (Lost w q) R v k l.1 h g) ]
+    asked_found (Commit c d ∷ R) v k l h = elim (h.asked) [ inl e ↦ cc | inr g ↦ asked_found R v k l.1 (asked_before (Commit c d) R v k l.1 h g) ]
+    asked_found (Close c s ∷ R) v k l h = elim (h.asked) [ inl e ↦ cc | inr g ↦ asked_found R v k l.1 (asked_before (Close c s) R v k l.1 h g) ]
+    asked_found (Leave c a ∷ R) v k l h = elim (h.asked) [ inl e ↦ cc | inr g ↦ asked_found R v k l.1 (asked_before (Leave c a) R v k l.1 h g) ]
+    asked_found (Start w q c ∷ R) v k l h = elim (h.asked) [ inl e ↦ cc | inr g ↦ asked_found R v k l.1 (asked_before (Start w q c) R v k l.1 h g) ]
+    asked_found (Keep w q b ∷ R) v k l h = elim (h.asked) [ inl e ↦ cc | inr g ↦ asked_found R v k l.1 (asked_before (Keep w q b) R v k l.1 h g) ]
+    asked_found (End w q ∷ R) v k l h = elim (h.asked) [ inl e ↦ cc | inr g ↦ asked_found R v k l.1 (asked_before (End w q) R v k l.1 h g) ]
+    asked_found (Cyclic w q ∷ R) v k l h = elim (h.asked) [ inl e ↦ cc | inr g ↦ asked_found R v k l.1 (asked_before (Cyclic w q) R v k l.1 h g) ]
+    asked_found (Drop w q ∷ R) v k l h = elim (h.asked) [ inl e ↦ cc | inr g ↦ asked_found R v k l.1 (asked_before (Drop w q) R v k l.1 h g) ]
+    asked_found (Lost w q ∷ R) v k l h = elim (h.asked) [ inl e ↦ cc | inr g ↦ asked_found R v k l.1 (asked_before (Lost w q) R v k l.1 h g) ]
 
   -- a run that no later event ends
   goes_on : (x : Told K V) (R : List (Told K V)) (v : ℕ) (k : K) → (x ≡ End v k → ⊥) → (x ≡ Cyclic v k → ⊥) → (x ≡ Drop v k → ⊥) → (x ≡ Lost v k → ⊥) → RunsByWords R v k → RunsByWords (x ∷ R) v k
@@ -130,10 +130,10 @@ module _ {K V : Type 0} (eq : K → K → Bool) (equality : IsEquality eq) where
     later = x ∷ w.later;
     before = w.before;
     all = ap (λ y. x ∷ y) w.all;
-    not_ended = λ h. elim h [ | inl i ↦ e i | inr g ↦ w.not_ended g ];
-    not_cyclic = λ h. elim h [ | inl i ↦ c i | inr g ↦ w.not_cyclic g ];
-    not_dropped = λ h. elim h [ | inl i ↦ d i | inr g ↦ w.not_dropped g ];
-    not_lost = λ h. elim h [ | inl i ↦ l i | inr g ↦ w.not_lost g ];
+    not_ended = λ h. elim h [ inl i ↦ e i | inr g ↦ w.not_ended g ];
+    not_cyclic = λ h. elim h [ inl i ↦ c i | inr g ↦ w.not_cyclic g ];
+    not_dropped = λ h. elim h [ inl i ↦ d i | inr g ↦ w.not_dropped g ];
+    not_lost = λ h. elim h [ inl i ↦ l i | inr g ↦ w.not_lost g ];
   }
 
   pub runs_says : (R : List (Told K V)) (v : ℕ) (k : K) → is_running eq R v k ≡ true → RunsByWords R v k

@@ -151,11 +151,11 @@ module _ {K V : Type 0} (eq : K → K → Bool) (equality : IsEquality eq) where
 
   -- an epoch has decided a key only as it is found: no key is decided twice in an epoch of a lawful journal
   decided_first : (d : Decision) (e : Told K V) (E R : List (Told K V)) (v : ℕ) (k : K) → IsDecidedAmong (e ∷ E) v k d
-    → ((b : ℕ) → d ≡ ByValue → e ≡ Keep v k b → decided eq (e ∷ R) v k ≡ Some d) → (d ≡ ByValue → e ≡ End v k → decided eq (e ∷ R) v k ≡ Some d)
-    → (d ≡ ByCycle → e ≡ Cyclic v k → decided eq (e ∷ R) v k ≡ Some d) → (IsDecidedAmong E v k d → decided eq (e ∷ R) v k ≡ Some d) → decided eq (e ∷ R) v k ≡ Some d
-  decided_first ByValue e E R v k (inl p) keep end cycle again = elim p.1 [ | inl h ↦ keep p.0 refl h | inr h ↦ again (inl (p.0, h)) ]
-  decided_first ByValue e E R v k (inr h) keep end cycle again = elim h [ | inl g ↦ end refl g | inr g ↦ again (inr g) ]
-  decided_first ByCycle e E R v k h keep end cycle again = elim h [ | inl g ↦ cycle refl g | inr g ↦ again g ]
+      → ((b : ℕ) → d ≡ ByValue → e ≡ Keep v k b → decided eq (e ∷ R) v k ≡ Some d) → (d ≡ ByValue → e ≡ End v k → decided eq (e ∷ R) v k ≡ Some d)
+      → (d ≡ ByCycle → e ≡ Cyclic v k → decided eq (e ∷ R) v k ≡ Some d) → (IsDecidedAmong E v k d → decided eq (e ∷ R) v k ≡ Some d) → decided eq (e ∷ R) v k ≡ Some d
+  decided_first ByValue e E R v k (inl p) keep end cycle again = elim p.1 [ inl h ↦ keep p.0 refl h | inr h ↦ again (inl (p.0, h)) ]
+  decided_first ByValue e E R v k (inr h) keep end cycle again = elim h [ inl g ↦ end refl g | inr g ↦ again (inr g) ]
+  decided_first ByCycle e E R v k h keep end cycle again = elim h [ inl g ↦ cycle refl g | inr g ↦ again g ]
 
   now_kept : (e : Told K V) (R : List (Told K V)) (v b : ℕ) (k : K) (d : Decision) → d ≡ ByValue → e ≡ Keep v k b → decided eq (e ∷ R) v k ≡ Some d
   now_kept e R v b k d i h = subst (λ x. decided eq (x ∷ R) v k ≡ Some d) (sym h) (ap (λ t. cond t (Some ByValue) (decided eq R v k)) (itself eq equality v k) ∙ ap Some (sym i))
@@ -175,7 +175,7 @@ module _ {K V : Type 0} (eq : K → K → Bool) (equality : IsEquality eq) where
       by_name false e = h
 
   none_decided : (E : List (Told K V)) (v : ℕ) (k : K) (d : Decision) → E ≡ [] → IsDecidedAmong E v k d → ⊥
-  none_decided [] v k ByValue e h = elim h [ | inl p ↦ elim p.1 [ ] | inr g ↦ elim g [ ] ]
+  none_decided [] v k ByValue e h = elim h [ inl p ↦ elim p.1 [ ] | inr g ↦ elim g [ ] ]
   none_decided [] v k ByCycle e h = elim h [ ]
   none_decided (x ∷ E) v k d e h = cc
 
@@ -185,33 +185,33 @@ module _ {K V : Type 0} (eq : K → K → Bool) (equality : IsEquality eq) where
     decided_found (Open c w ∷ R) v k d l h = by_begin (begins R w v) h (λ g. decided_found R v k d l.1 g)
       where
         tail : (b : Bool) (d : Decision) → IsDecidedAmong (Open c w ∷ cond b [] (epoch_of R v)) v k d → IsDecidedAmong (cond b [] (epoch_of R v)) v k d
-        tail b ByValue (inl p) = elim p.1 [ | inl e ↦ cc | inr g ↦ inl (p.0, g) ]
-        tail b ByValue (inr g) = elim g [ | inl e ↦ cc | inr i ↦ inr i ]
-        tail b ByCycle g = elim g [ | inl e ↦ cc | inr i ↦ i ]
+        tail b ByValue (inl p) = elim p.1 [ inl e ↦ cc | inr g ↦ inl (p.0, g) ]
+        tail b ByValue (inr g) = elim g [ inl e ↦ cc | inr i ↦ inr i ]
+        tail b ByCycle g = elim g [ inl e ↦ cc | inr i ↦ i ]
 
         by_begin : (b : Bool) → IsDecidedAmong (Open c w ∷ cond b [] (epoch_of R v)) v k d → (IsDecidedAmong (epoch_of R v) v k d → decided eq R v k ≡ Some d) → cond b None (decided eq R v k) ≡ Some d
         by_begin true g again = absurd (none_decided [] v k d refl (tail true d g))
         by_begin false g again = again (tail false d g)
     decided_found (Keep w q b ∷ R) v k d l h = decided_first d (Keep w q b) (epoch_of R v) R v k h (λ c i e. now_kept (Keep w q b) R v c k d i e) (now_ended (Keep w q b) R v k d) (now_cyclic (Keep w q b) R v k d)
-      (λ g. still_decided R w v q k d ByValue l.0.1.0 (decided_found R v k d l.1 g))
+        (λ g. still_decided R w v q k d ByValue l.0.1.0 (decided_found R v k d l.1 g))
     decided_found (End w q ∷ R) v k d l h = decided_first d (End w q) (epoch_of R v) R v k h (λ c i e. now_kept (End w q) R v c k d i e) (now_ended (End w q) R v k d) (now_cyclic (End w q) R v k d)
-      (λ g. still_decided R w v q k d ByValue l.0.2 (decided_found R v k d l.1 g))
+        (λ g. still_decided R w v q k d ByValue l.0.2 (decided_found R v k d l.1 g))
     decided_found (Cyclic w q ∷ R) v k d l h = decided_first d (Cyclic w q) (epoch_of R v) R v k h (λ c i e. now_kept (Cyclic w q) R v c k d i e) (now_ended (Cyclic w q) R v k d) (now_cyclic (Cyclic w q) R v k d)
-      (λ g. still_decided R w v q k d ByCycle l.0.1 (decided_found R v k d l.1 g))
+        (λ g. still_decided R w v q k d ByCycle l.0.1 (decided_found R v k d l.1 g))
     decided_found (Commit c d ∷ R) v k n l h = decided_first n (Commit c d) (epoch_of R v) R v k h (λ x i f. now_kept (Commit c d) R v x k n i f) (now_ended (Commit c d) R v k n) (now_cyclic (Commit c d) R v k n)
-      (λ g. decided_found R v k n l.1 g)
+        (λ g. decided_found R v k n l.1 g)
     decided_found (Close c s ∷ R) v k n l h = decided_first n (Close c s) (epoch_of R v) R v k h (λ x i f. now_kept (Close c s) R v x k n i f) (now_ended (Close c s) R v k n) (now_cyclic (Close c s) R v k n)
-      (λ g. decided_found R v k n l.1 g)
+        (λ g. decided_found R v k n l.1 g)
     decided_found (Ask c s q ∷ R) v k n l h = decided_first n (Ask c s q) (epoch_of R v) R v k h (λ x i f. now_kept (Ask c s q) R v x k n i f) (now_ended (Ask c s q) R v k n) (now_cyclic (Ask c s q) R v k n)
-      (λ g. decided_found R v k n l.1 g)
+        (λ g. decided_found R v k n l.1 g)
     decided_found (Leave c a ∷ R) v k n l h = decided_first n (Leave c a) (epoch_of R v) R v k h (λ x i f. now_kept (Leave c a) R v x k n i f) (now_ended (Leave c a) R v k n) (now_cyclic (Leave c a) R v k n)
-      (λ g. decided_found R v k n l.1 g)
+        (λ g. decided_found R v k n l.1 g)
     decided_found (Start w q c ∷ R) v k n l h = decided_first n (Start w q c) (epoch_of R v) R v k h (λ x i f. now_kept (Start w q c) R v x k n i f) (now_ended (Start w q c) R v k n) (now_cyclic (Start w q c) R v k n)
-      (λ g. decided_found R v k n l.1 g)
+        (λ g. decided_found R v k n l.1 g)
     decided_found (Drop w q ∷ R) v k n l h = decided_first n (Drop w q) (epoch_of R v) R v k h (λ x i f. now_kept (Drop w q) R v x k n i f) (now_ended (Drop w q) R v k n) (now_cyclic (Drop w q) R v k n)
-      (λ g. decided_found R v k n l.1 g)
+        (λ g. decided_found R v k n l.1 g)
     decided_found (Lost w q ∷ R) v k n l h = decided_first n (Lost w q) (epoch_of R v) R v k h (λ x i f. now_kept (Lost w q) R v x k n i f) (now_ended (Lost w q) R v k n) (now_cyclic (Lost w q) R v k n)
-      (λ g. decided_found R v k n l.1 g)
+        (λ g. decided_found R v k n l.1 g)
 
   -- what was lost in an epoch
   pub lost_says : (R : List (Told K V)) (v : ℕ) (k : K) → lost_in_epoch eq R v k ≡ true → Has (epoch_of R v) (Lost v k)
@@ -221,7 +221,7 @@ module _ {K V : Type 0} (eq : K → K → Bool) (equality : IsEquality eq) where
       by_begin : (b : Bool) → cond b false (lost_in_epoch eq R v k) ≡ true → (lost_in_epoch eq R v k ≡ true → Has (epoch_of R v) (Lost v k)) → Has (Open c w ∷ cond b [] (epoch_of R v)) (Lost v k)
       by_begin true q again = cc
       by_begin false q again = inr (again q)
-  lost_says (Lost w q ∷ R) v k e = elim (or_cases (names_by eq w q v k) (lost_in_epoch eq R v k) e) [ | inl h ↦ inl (alike eq equality Lost w v q k h) | inr h ↦ inr (lost_says R v k h) ]
+  lost_says (Lost w q ∷ R) v k e = elim (or_cases (names_by eq w q v k) (lost_in_epoch eq R v k) e) [ inl h ↦ inl (alike eq equality Lost w v q k h) | inr h ↦ inr (lost_says R v k h) ]
   lost_says (Commit c d ∷ R) v k h = inr (lost_says R v k h)
   lost_says (Close c s ∷ R) v k h = inr (lost_says R v k h)
   lost_says (Ask c s q ∷ R) v k h = inr (lost_says R v k h)
@@ -237,18 +237,18 @@ module _ {K V : Type 0} (eq : K → K → Bool) (equality : IsEquality eq) where
   lost_found (Open c w ∷ R) v k h = by_begin (begins R w v) h (λ g. lost_found R v k g)
     where
       by_begin : (b : Bool) → Has (Open c w ∷ cond b [] (epoch_of R v)) (Lost v k) → (Has (epoch_of R v) (Lost v k) → lost_in_epoch eq R v k ≡ true) → cond b false (lost_in_epoch eq R v k) ≡ true
-      by_begin true g again = elim g [ | inl e ↦ cc | inr i ↦ elim i [ ] ]
-      by_begin false g again = elim g [ | inl e ↦ cc | inr i ↦ again i ]
+      by_begin true g again = elim g [ inl e ↦ cc | inr i ↦ elim i [ ] ]
+      by_begin false g again = elim g [ inl e ↦ cc | inr i ↦ again i ]
   lost_found (Lost w q ∷ R) v k h = elim h [
     | inl e ↦ subst (λ x. lost_in_epoch eq (x ∷ R) v k ≡ true) (sym e) (or_left (names_by eq v k v k) (lost_in_epoch eq R v k) (itself eq equality v k))
     | inr g ↦ or_right (names_by eq w q v k) (lost_in_epoch eq R v k) (lost_found R v k g)
   ]
-  lost_found (Commit c d ∷ R) v k h = elim h [ | inl e ↦ cc | inr g ↦ lost_found R v k g ]
-  lost_found (Close c s ∷ R) v k h = elim h [ | inl e ↦ cc | inr g ↦ lost_found R v k g ]
-  lost_found (Ask c s q ∷ R) v k h = elim h [ | inl e ↦ cc | inr g ↦ lost_found R v k g ]
-  lost_found (Leave c a ∷ R) v k h = elim h [ | inl e ↦ cc | inr g ↦ lost_found R v k g ]
-  lost_found (Start w q c ∷ R) v k h = elim h [ | inl e ↦ cc | inr g ↦ lost_found R v k g ]
-  lost_found (Keep w q b ∷ R) v k h = elim h [ | inl e ↦ cc | inr g ↦ lost_found R v k g ]
-  lost_found (End w q ∷ R) v k h = elim h [ | inl e ↦ cc | inr g ↦ lost_found R v k g ]
-  lost_found (Cyclic w q ∷ R) v k h = elim h [ | inl e ↦ cc | inr g ↦ lost_found R v k g ]
-  lost_found (Drop w q ∷ R) v k h = elim h [ | inl e ↦ cc | inr g ↦ lost_found R v k g ]
+  lost_found (Commit c d ∷ R) v k h = elim h [ inl e ↦ cc | inr g ↦ lost_found R v k g ]
+  lost_found (Close c s ∷ R) v k h = elim h [ inl e ↦ cc | inr g ↦ lost_found R v k g ]
+  lost_found (Ask c s q ∷ R) v k h = elim h [ inl e ↦ cc | inr g ↦ lost_found R v k g ]
+  lost_found (Leave c a ∷ R) v k h = elim h [ inl e ↦ cc | inr g ↦ lost_found R v k g ]
+  lost_found (Start w q c ∷ R) v k h = elim h [ inl e ↦ cc | inr g ↦ lost_found R v k g ]
+  lost_found (Keep w q b ∷ R) v k h = elim h [ inl e ↦ cc | inr g ↦ lost_found R v k g ]
+  lost_found (End w q ∷ R) v k h = elim h [ inl e ↦ cc | inr g ↦ lost_found R v k g ]
+  lost_found (Cyclic w q ∷ R) v k h = elim h [ inl e ↦ cc | inr g ↦ lost_found R v k g ]
+  lost_found (Drop w q ∷ R) v k h = elim h [ inl e ↦ cc | inr g ↦ lost_found R v k g ]

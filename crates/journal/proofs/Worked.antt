@@ -107,30 +107,73 @@ committed : (n : ℕ) → IsCommit small (file_with n)
 committed n = record { some = omega arith; injected = (refl, tt); distinct = ((λ h. h), tt) }
 
 pub is_lawful : IsLawfulJournal same_key small (worked (Differs 1 File))
-is_lawful =
-  ( (record { by = 0; version = 2 }, refl, refl) ,
-  ( (record { by = 0; version = 1 }, refl, refl) ,
-  ( (wanted (first_events 19) 2 13 12 Digest refl refl (to_digest two 2), (refl, refl), record { base = refl; value = held 7 0; here = record { depth = 5; gives = refl }; there = record { depth = 5; gives = refl }; lasts = inr refl }, (λ h. cc)) ,
-  ( (wanted (first_events 18) 2 13 12 Action refl refl (to_action two 2), (refl, refl), record { base = refl; value = held 7 0; here = record { depth = 4; gives = refl }; there = record { depth = 4; gives = refl }; lasts = inr refl }, (λ h. cc)) ,
-  ( (wanted (first_events 17) 2 13 12 Rule refl refl (to_rule two 2), refl, refl, (held 7 0, record { depth = 3; gives = refl }), (λ h. cc)) ,
-  ( (wanted (first_events 16) 2 13 12 Rule refl refl (to_rule two 2), (refl, refl), (refl, 1, backs (first_events 16) Rule (held 7 0) refl (record { depth = 3; gives = refl }), rule_differs), (λ h. cc)) ,
-  ( (wanted (first_events 15) 2 13 12 Package refl refl (to_package two 2), refl, refl, (held 7 2, record { depth = 2; gives = refl }), (λ h. cc)) ,
-  ( (wanted (first_events 14) 2 13 12 Package refl refl (to_package two 2), (refl, refl), (refl, 1, backs (first_events 14) Package (held 7 1) refl (record { depth = 2; gives = refl }), package_differs), (λ h. cc)) ,
-  ( (record { by = 0; version = 2 }, refl) ,
-  ( refl ,
-  ( (committed 2, ((λ h. (let e : 1 ≡ 2 = ap (λ (x : Held). x.comment) h in cc)), tt)) ,
-  ( (wanted (first_events 10) 1 2 1 Digest refl refl (to_digest (file_with 1 ∷ []) 1), refl, refl, (held 7 0, record { depth = 5; gives = refl }), (λ h. cc)) ,
-  ( (wanted (first_events 9) 1 2 1 Action refl refl (to_action (file_with 1 ∷ []) 1), refl, refl, (held 7 0, record { depth = 4; gives = refl }), (λ h. cc)) ,
-  ( (wanted (first_events 8) 1 2 1 Rule refl refl (to_rule (file_with 1 ∷ []) 1), refl, refl, (held 7 0, record { depth = 3; gives = refl }), (λ h. cc)) ,
-  ( (wanted (first_events 7) 1 2 1 Package refl refl (to_package (file_with 1 ∷ []) 1), refl, refl, (held 7 1, record { depth = 2; gives = refl }), (λ h. cc)) ,
-  ( (wanted (first_events 6) 1 2 1 Package refl refl (to_package (file_with 1 ∷ []) 1), (refl, refl), λ b. refl, (λ h. cc)) ,
-  ( (wanted (first_events 5) 1 2 1 Rule refl refl (to_rule (file_with 1 ∷ []) 1), (refl, refl), λ b. refl, (λ h. cc)) ,
-  ( (wanted (first_events 4) 1 2 1 Action refl refl (to_action (file_with 1 ∷ []) 1), (refl, refl), λ b. refl, (λ h. cc)) ,
-  ( (wanted (first_events 3) 1 2 1 Digest refl refl (to_digest (file_with 1 ∷ []) 1), (refl, refl), λ b. refl, (λ h. cc)) ,
-  ( (record { by = 0; version = 1 }, refl) ,
-  ( refl ,
-  ( (committed 1, ((λ h. (let e : 0 ≡ 1 = ap (λ (x : Held). x.comment) h in cc)), tt)) ,
-  tt ))))))))))))))))))))))
+is_lawful = (
+  (record { by = 0; version = 2 }, refl, refl),
+  (
+    (record { by = 0; version = 1 }, refl, refl),
+    (
+      (wanted (first_events 19) 2 13 12 Digest refl refl (to_digest two 2), (refl, refl), record { base = refl; value = held 7 0; here = record { depth = 5; gives = refl }; there = record { depth = 5; gives = refl }; lasts = inr refl }, (λ h. cc)),
+      (
+        (wanted (first_events 18) 2 13 12 Action refl refl (to_action two 2), (refl, refl), record { base = refl; value = held 7 0; here = record { depth = 4; gives = refl }; there = record { depth = 4; gives = refl }; lasts = inr refl }, (λ h. cc)),
+        (
+          (wanted (first_events 17) 2 13 12 Rule refl refl (to_rule two 2), refl, refl, (held 7 0, record { depth = 3; gives = refl }), (λ h. cc)),
+          (
+            (wanted (first_events 16) 2 13 12 Rule refl refl (to_rule two 2), (refl, refl), (refl, 1, backs (first_events 16) Rule (held 7 0) refl (record { depth = 3; gives = refl }), rule_differs), (λ h. cc)),
+            (
+              (wanted (first_events 15) 2 13 12 Package refl refl (to_package two 2), refl, refl, (held 7 2, record { depth = 2; gives = refl }), (λ h. cc)),
+              (
+                (wanted (first_events 14) 2 13 12 Package refl refl (to_package two 2), (refl, refl), (refl, 1, backs (first_events 14) Package (held 7 1) refl (record { depth = 2; gives = refl }), package_differs), (λ h. cc)),
+                (
+                  (record { by = 0; version = 2 }, refl),
+                  (
+                    refl,
+                    (
+                      (committed 2, ((λ h. (let e : 1 ≡ 2 = ap (λ (x : Held). x.comment) h in cc)), tt)),
+                      (
+                        (wanted (first_events 10) 1 2 1 Digest refl refl (to_digest (file_with 1 ∷ []) 1), refl, refl, (held 7 0, record { depth = 5; gives = refl }), (λ h. cc)),
+                        (
+                          (wanted (first_events 9) 1 2 1 Action refl refl (to_action (file_with 1 ∷ []) 1), refl, refl, (held 7 0, record { depth = 4; gives = refl }), (λ h. cc)),
+                          (
+                            (wanted (first_events 8) 1 2 1 Rule refl refl (to_rule (file_with 1 ∷ []) 1), refl, refl, (held 7 0, record { depth = 3; gives = refl }), (λ h. cc)),
+                            (
+                              (wanted (first_events 7) 1 2 1 Package refl refl (to_package (file_with 1 ∷ []) 1), refl, refl, (held 7 1, record { depth = 2; gives = refl }), (λ h. cc)),
+                              (
+                                (wanted (first_events 6) 1 2 1 Package refl refl (to_package (file_with 1 ∷ []) 1), (refl, refl), λ b. refl, (λ h. cc)),
+                                (
+                                  (wanted (first_events 5) 1 2 1 Rule refl refl (to_rule (file_with 1 ∷ []) 1), (refl, refl), λ b. refl, (λ h. cc)),
+                                  (
+                                    (wanted (first_events 4) 1 2 1 Action refl refl (to_action (file_with 1 ∷ []) 1), (refl, refl), λ b. refl, (λ h. cc)),
+                                    (
+                                      (wanted (first_events 3) 1 2 1 Digest refl refl (to_digest (file_with 1 ∷ []) 1), (refl, refl), λ b. refl, (λ h. cc)),
+                                      (
+                                        (record { by = 0; version = 1 }, refl),
+                                        (
+                                          refl,
+                                          (
+                                            (committed 1, ((λ h. (let e : 0 ≡ 1 = ap (λ (x : Held). x.comment) h in cc)), tt)),
+                                            tt,
+                                          ),
+                                        ),
+                                      ),
+                                    ),
+                                  ),
+                                ),
+                              ),
+                            ),
+                          ),
+                        ),
+                      ),
+                    ),
+                  ),
+                ),
+              ),
+            ),
+          ),
+        ),
+      ),
+    ),
+  ),
+)
 
 -- the package has a base
 pub is_unlawful : IsLawfulJournal same_key small (worked New) → ⊥

@@ -78,8 +78,8 @@ file_with n = (File, record { target = 7; comment = n }) ∷ []
 -- the digest is asked for at version 1, and all is computed
 abbrev pub first_version : List (Told Key Held)
 first_version =
-  Commit 0 (file_with 1) ∷ Open 0 1 ∷ Ask 0 1 Digest ∷ Start 1 Digest New ∷ Start 1 Action New ∷ Start 1 Rule New ∷ Start 1 Package New
-  ∷ End 1 Package ∷ End 1 Rule ∷ End 1 Action ∷ End 1 Digest ∷ []
+    Commit 0 (file_with 1) ∷ Open 0 1 ∷ Ask 0 1 Digest ∷ Start 1 Digest New ∷ Start 1 Action New ∷ Start 1 Rule New ∷ Start 1 Package New
+    ∷ End 1 Package ∷ End 1 Rule ∷ End 1 Action ∷ End 1 Digest ∷ []
 
 -- the comment changes, and the digest is asked for at version 2
 abbrev pub second_begins : List (Told Key Held)
@@ -88,8 +88,8 @@ second_begins = Commit 0 (file_with 2) ∷ Open 0 2 ∷ Ask 0 12 Digest ∷ []
 -- the rule comes to its old value, so action and digest are kept
 abbrev pub second_version : Reason Key → List (Told Key Held)
 second_version cause =
-  Start 2 Package cause ∷ End 2 Package ∷ Start 2 Rule (Differs 1 Package) ∷ End 2 Rule ∷ Keep 2 Action 1 ∷ Keep 2 Digest 1
-  ∷ Close 0 1 ∷ Close 0 12 ∷ []
+    Start 2 Package cause ∷ End 2 Package ∷ Start 2 Rule (Differs 1 Package) ∷ End 2 Rule ∷ Keep 2 Action 1 ∷ Keep 2 Digest 1
+    ∷ Close 0 1 ∷ Close 0 12 ∷ []
 
 -- the journal, with this cause for the second start of the package
 abbrev pub worked : Reason Key → List (Told Key Held)

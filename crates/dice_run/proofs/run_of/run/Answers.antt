@@ -35,10 +35,10 @@ returns-in-Ok-Run-clause-complete g c accepted (command.Bulk n w) asks given sou
 
 pub returns-in-Ok-Bulk-clause-complete : goal.returns-in-Ok-Bulk-clause-complete
 returns-in-Ok-Bulk-clause-complete g c = λ accepted k asks given source sink. elim c.run_bulk.ensures.only as (λ _. (c.run_bulk.result ≡ Done) ⊎ (c.run_bulk.result ≡ NoMemory)) [
-    | inl e ↦ inl e
-    | inr (inl e) ↦ absurd (sink (c.run_bulk.ensures.write e).0)
-    | inr (inr e) ↦ inr e
-  ]
+  | inl e ↦ inl e
+  | inr (inl e) ↦ absurd (sink (c.run_bulk.ensures.write e).0)
+  | inr (inr e) ↦ inr e
+]
 
 pub returns-in-Err-Refused-clause-complete : goal.returns-in-Err-Refused-clause-complete
 returns-in-Err-Refused-clause-complete g c = λ accepted k asks given source sink. absurd (c.in-Err-Refused.ensures.refused refl accepted)
