@@ -1,4 +1,4 @@
-use Rattle.std.proofs.Common.{◌≡◌, ◌∙◌, ◌⊎◌, inl, inr, ℕ, List, codes, map, Option, Some, None, refl, sym, subst}
+use Rattle.std.proofs.Common.{◌≡◌, ◌∙◌, ◌⊎◌, inl, inr, ℕ, List, codes, map, Option, Some, None, Err, ap, sym, subst}
 use Rattle.std.specs.Prelude.{IsSomeAnd}
 use Rattle.dice_words.specs.Accepted.{Asks, IsOf}
 use Rattle.dice_words.specs.declared.words.Command.{Command}
@@ -41,4 +41,4 @@ returns-in-Ok-Bulk-clause-complete g c = λ accepted k asks given source sink. e
 ]
 
 pub returns-in-Err-Refused-clause-complete : goal.returns-in-Err-Refused-clause-complete
-returns-in-Err-Refused-clause-complete g c = λ accepted k asks given source sink. absurd (c.in-Err-Refused.ensures.refused refl accepted)
+returns-in-Err-Refused-clause-complete g c = λ accepted k asks given source sink. absurd (c.in-Err-Refused.ensures.refused (ap Err c.in-Err-Refused.field-0-is) accepted)
