@@ -1,6 +1,6 @@
 -- What the turns of a session's seat do.
 use Rattle.std.proofs.Common.{◌≡◌, ◌<◌, ◌++◌, ◌∷◌, ℕ, zero, suc, Bool, List, [], length, map, get_or, arith, reverse, Option, Some, None, refl, sym, ap, ◌∙◌, subst, append-nil, append_assoc}
-use Rattle.std.specs.Prelude.{Result, Ok, Err, OnOk, OnErr, IfOk, IfErr, IfSome}
+use Rattle.std.specs.Prelude.{Result, Ok, Err, OnOk, OnErr, IfOk, IfErr, IfSome, cond, true, false}
 use Rattle.std.specs.Arc.{arc_value}
 use Rattle.std.specs.List.{AllByRecursion, AllZip}
 use Rattle.std.specs.declared.sync.Arc.{Arc}
@@ -10,7 +10,7 @@ use Rattle.dice_key.specs.Meaning.{Meaning}
 use Rattle.dice_model.specs.Eval.{HasValue}
 use Rattle.journal.specs.Law.{CycleStands}
 use Rattle.journal.specs.declared.event.Told.{Told}
-use Rattle.journal.specs.declared.event.Told.TheVariants.{Open, Close, Ask}
+use Rattle.journal.specs.declared.event.Told.TheVariants.{Open, Close, Ask, Leave}
 use Rattle.journal.specs.Events.{NotClosed, live_at, event_of, NotLeft}
 use Rattle.journal.specs.Tell.{event_by}
 use Rattle.turnstile.specs.Events.{StartsWith, events_by, AllBelow}
@@ -19,13 +19,13 @@ use Rattle.dice_core.specs.declared.commit.CommitRefusal.{CommitRefusal}
 use Rattle.dice_core.specs.Commits.{Fault, fault_of}
 use Rattle.dice_engine.specs.Turns.{log_of, newest_in, Later, Turn}
 use Rattle.dice_engine.specs.Rises.{log_of-append}
-use Rattle.dice_engine.specs.Calls.{AddsNothing, Opens, Asks, Closes, Commits, differing_from}
+use Rattle.dice_engine.specs.Calls.{AddsNothing, AreDrops, Opens, Asks, Leaves, Closes, Commits, differing_from}
 use Rattle.dice_engine.specs.Conditions.{HasOpen, HasAsk, SawAsk}
 use Rattle.dice_engine.specs.Seating.{GivesSeats}
 use Rattle.dice_engine.specs.declared.promise.Promise.{Promise}
 use Rattle.dice_engine.specs.declared.promise.Transaction.{Transaction}
 use Rattle.dice_engine.proofs.Callers.{seat_later, same_number, same_writers, log_of_one, ask_later, live_in_seen, turn_open, turn_ask, open_after_work, saw_own}
-use Rattle.dice_session.specs.Sole.{IsSole, Goes, IsOpen, IsAsked, AreAsked}
+use Rattle.dice_session.specs.Sole.{IsSole, IsReady, Goes, IsOpen, IsAsked, AreAsked}
 use Rattle.dice_session.specs.Sole.{Asks as AsksOn}
 use Rattle.dice_session.specs.declared.session.Found.{Found}
 use Rattle.dice_session.specs.declared.refusal.CommitError.{CommitError}
@@ -40,6 +40,17 @@ below_first n (x ∷ xs) ys b = (b.0, below_first n xs ys b.1)
 after_changes : {K V : Type 0} (n : ℕ) (C : List (List (K × V))) (c : List (K × V)) → C ++ log_of (event_of n c) ≡ with_changes C c
 after_changes n C [] = append-nil C
 after_changes n C (p ∷ c) = refl
+
+-- a commit closes nothing
+not_closed_by : {K V : Type 0} (i n : ℕ) (c : List (K × V)) → NotClosed i (event_of n c)
+not_closed_by i n [] = tt
+not_closed_by i n (p ∷ c) = tt
+
+-- a leaving commits and closes nothing
+leaves_open : {K V : Type 0} (i n ask v : ℕ) (b : Bool) (own work : List (Told K V)) → cond b ((own ≡ Leave n ask ∷ []) × AreDrops v work) (AddsNothing own work)
+    → (log_of own ≡ []) × NotClosed i own
+leaves_open i n ask v true own work h = subst (λ es. (log_of es ≡ []) × NotClosed i es) (sym h.0) (refl, tt)
+leaves_open i n ask v false own work h = subst (λ es. (log_of es ≡ []) × NotClosed i es) (sym h.0) (refl, tt)
 
 none_some : {X : Type 0} {x : X} → None ≡ Some x → ⊥
 none_some e = cc
@@ -159,6 +170,21 @@ module _ {K V : Type 0} (eq : K → K → Bool) (m : Meaning K V) (id : TableId)
     newest = t.adds.did.1 ∙ ap length (found_log eq m id s u o _ t ∙ sym (goes_open opened version t).log);
   }
 
+  module _ (opened version ask v : ℕ) (t : Turn eq m s u (λ found. Leaves s.number ask opened v found)) where
+    left_so : (log_of t.adds.own ≡ []) × NotClosed opened t.adds.own
+    left_so = leaves_open opened s.number ask v _ t.adds.own t.adds.work t.adds.did
+
+    pub goes_leave : Goes id s u
+    goes_leave = goes_turn eq m id s u o _ t t.adds.own refl left_so.0
+
+    pub still_leave : IsOpen s opened version → IsOpen u opened version
+    still_leave n = record { has = turn_open eq m s u _ t opened version left_so.1 n.has; newest = n.newest ∙ ap length (sym goes_leave.log) }
+
+  -- a transaction that is kept stays open in turns that add nothing
+  pub ready_nothing : (kept : Option Transaction) → IfSome kept (λ t. IsOpen s t.opened t.version) → Turn eq m s u (λ found. AddsNothing) → IsReady id u kept
+  ready_nothing None h t = record { sole = (goes_nothing t).sole; still = tt }
+  ready_nothing (Some k) h t = record { sole = (goes_nothing t).sole; still = (asks_nothing k.opened k.version h t).still }
+
   pub goes_close : (opened version : ℕ) → Turn eq m s u (λ found. Closes s.number opened version) → Goes id s u
   goes_close opened version t = goes_turn eq m id s u o _ t (Close s.number opened ∷ []) t.adds.did.0 refl
 
@@ -178,6 +204,10 @@ module _ {U K V R : Type 0} where
       let a : HasAsk s p.ask opened p.version (arc_value p.key) = subst (λ i. HasAsk s p.ask i p.version (arc_value p.key)) n.1 h in
       let b : HasAsk s p.ask opened version (arc_value p.key) = subst (λ v. HasAsk s p.ask opened v (arc_value p.key)) n.0 a in
       record { same_key = n.2; same_opened = n.1; same_version = n.0; has = subst (HasAsk s p.ask opened version) n.2 b }
+
+  -- of an ask for its own key
+  pub asked_own : (s : SeatView (Told K V)) (opened version : ℕ) (k : K) (p : Promise U K V R) → IsAsked s opened version k p → IsAsked s opened version (arc_value p.key) p
+  asked_own s opened version k p a = record { same_key = refl; same_opened = a.same_opened; same_version = a.same_version; has = subst (HasAsk s p.ask opened version) (sym a.same_key) a.has }
 
   pub has_ask : (s : SeatView (Told K V)) (opened version : ℕ) (k : K) (p : Promise U K V R) → IsAsked s opened version k p → HasAsk s p.ask p.opened p.version (arc_value p.key)
   has_ask s opened version k p a =
@@ -220,6 +250,10 @@ module _ {K V : Type 0} (eq : K → K → Bool) (m : Meaning K V) (id : TableId)
     pub commit_sole : {A E : Type 0} (r : Result A E) → OnOk r IsCommitting → OnErr r IsNothing → IsSole id u
     commit_sole (Ok a) t n = sole_later eq m id s u o t.later
     commit_sole (Err e) t n = sole_later eq m id s u o n.later
+
+    pub commit_open : {A E : Type 0} (r : Result A E) → OnOk r IsCommitting → OnErr r IsNothing → (i v : ℕ) → HasOpen s i v → HasOpen u i v
+    commit_open (Ok a) t n i v h = turn_open eq m s u _ t i v (subst (NotClosed i) (sym t.adds.did.0) (not_closed_by i s.number (differing_from eq veq m (log_of t.found) ps))) h
+    commit_open (Err e) t n i v h = turn_open eq m s u _ n i v (subst (NotClosed i) (sym n.adds.did.0) tt) h
 
     pub commit_begins : {A E : Type 0} (r : Result A E) → OnOk r IsCommitting → OnErr r IsNothing → StartsWith u.seen s.seen
     commit_begins (Ok a) t n = t.later.begins

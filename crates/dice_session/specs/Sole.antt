@@ -1,5 +1,5 @@
 -- What the seat of a session knows: it is the one writer, so it knows of all commits, and of its transactions and asks whether they are open.
-use Rattle.std.specs.Prelude.{◌≡◌, ℕ, List}
+use Rattle.std.specs.Prelude.{◌≡◌, ℕ, List, Option, IfSome}
 use Rattle.std.specs.Arc.{arc_value}
 use Rattle.std.specs.List.{AllByRecursion}
 use Rattle.atomic_table.specs.Seated.{TableId}
@@ -10,6 +10,7 @@ use Rattle.turnstile.specs.Seats.{SeatView, IsSeatOf}
 use Rattle.dice_engine.specs.Turns.{log_of, newest_in}
 use Rattle.dice_engine.specs.Conditions.{HasOpen, HasAsk}
 use Rattle.dice_engine.specs.declared.promise.Promise.{Promise}
+use Rattle.dice_engine.specs.declared.promise.Transaction.{Transaction}
 
 module _ {K V : Type 0} where
   -- the seat is the first of this engine, and the one writer: it knows of all events that tell a number
@@ -30,6 +31,11 @@ module _ {K V : Type 0} where
   pub record IsOpen (s : SeatView (Told K V)) (opened version : ℕ) : Type 0 where
     pub has : HasOpen s opened version
     pub newest : version ≡ newest_in s.seen
+
+  -- between two calls: it is the one writer, and has open the transaction that is kept for the next call, if any
+  pub record IsReady (id : TableId) (s : SeatView (Told K V)) (kept : Option Transaction) : Type 0 where
+    pub sole : IsSole id s
+    pub still : IfSome kept (λ t. IsOpen s t.opened t.version)
 
   -- after turns of its own in this transaction, which stays open, as its asks stay
   pub record Asks (id : TableId) (s u : SeatView (Told K V)) (opened version : ℕ) : Type 0 where

@@ -10,19 +10,20 @@ ghost use Rattle.dice_session.specs.Session.{IsNew, Sets, Rests, committed, faul
 use crate::client;
 use crate::refusal::CommitError;
 use crate::workers::Workers;
-use dice_engine::{Engine, Event, Seat, Updater};
+use dice_engine::{Engine, Event, Seat, Transaction, Updater};
 use dice_key::{Line, NoMemory, Path, TypedKey, Universe, ValueRef, Version};
 use std::alloc::Global;
 use std::marker::Model;
 use std::mem;
 use std::sync::{Arc, Wait};
 
-/// An engine and the seat of its one writer, and the changes that were set since the last commit. Contracts see its commits, these
-/// changes, and the events that it has seen.
+/// An engine and the seat of its one writer, the transaction that it keeps open at the newest version, if any, and the changes that
+/// were set since the last commit. Contracts see its commits, these changes, and the events that it has seen.
 #[derive(Drop)]
 pub struct Session<U: Universe> {
     engine: Arc<Engine<U>>,
     seat: Seat<U>,
+    kept: Option<Transaction>,
     changes: Updater<U>,
     alloc: Global,
 }
@@ -31,13 +32,13 @@ impl<U: Universe> Model for Session<U> {
     ghost use Rattle.std.specs.Arc.{arc_value};
     ghost use Rattle.dice_engine.specs.Turns.{log_of};
     ghost use Rattle.dice_session.specs.Session.{SessionView};
-    ghost use Rattle.dice_session.specs.Sole.{IsSole};
+    ghost use Rattle.dice_session.specs.Sole.{IsReady};
 
     ghost Value = { SessionView U.Key U.Value };
 
     ghost view = { λ s. record { commits = log_of s.seat.seen; changes = s.changes; events = s.seat.seen } };
 
-    ghost invariant = { λ s. IsSole (arc_value s.engine) s.seat };
+    ghost invariant = { λ s. IsReady (arc_value s.engine) s.seat s.kept };
 }
 
 /// What a key came to.
@@ -61,6 +62,7 @@ impl<U: Universe> Session<U> {
         Ok(Session {
             engine,
             seat,
+            kept: None,
             changes,
             alloc,
         })
@@ -91,7 +93,7 @@ impl<U: Universe> Session<U> {
         ensures err { OnErr result (self.new.commits ≡ self.old.commits) }
     {
         let changes = mem::replace(&mut self.changes, Updater::new(self.alloc));
-        match client::commit(rt, &*self.engine, &mut self.seat, &changes) {
+        match client::commit(rt, &*self.engine, &mut self.seat, &mut self.kept, &changes) {
             Ok(version) => Ok(version),
             Err(CommitError::NoMemory) => {
                 self.changes = changes;
@@ -107,7 +109,7 @@ impl<U: Universe> Session<U> {
         ensures found { IfOk result (IsFound U.Key.eq U.meaning self.old.commits key) }
     {
         let key = Arc::new(self.alloc, key)?;
-        client::compute(rt, &*self.engine, &mut self.seat, key)
+        client::compute(rt, &*self.engine, &mut self.seat, &mut self.kept, key)
     }
 
     /// What these keys come to at the newest version, each as by `compute`, in their order. They are asked in one transaction, so work
@@ -120,7 +122,14 @@ impl<U: Universe> Session<U> {
         ensures rests { Rests self.old self.new }
         ensures found { IfOk result (λ v. AllZip (IsFound U.Key.eq U.meaning self.old.commits) keys.items v.items) }
     {
-        client::compute_all(rt, self.alloc, &*self.engine, &mut self.seat, keys)
+        client::compute_all(
+            rt,
+            self.alloc,
+            &*self.engine,
+            &mut self.seat,
+            &mut self.kept,
+            keys,
+        )
     }
 
     /// What the value of a key of this kind holds at the newest version. It is `None` if the key reaches a cycle, or was set to a value

@@ -220,7 +220,7 @@ fn events_and_lines_are_of_one_journal(rt: HostRuntime) -> Result<(), Fail> {
     let end = session.events_since(&rt, lines.len())?;
     assert_eq!(rt; end.len(), 0);
     match lines.last() {
-        Some(last) => assert_eq!(rt; last.as_bytes(), b"close 0 1".as_slice()),
+        Some(last) => assert_eq!(rt; last.as_bytes(), b"leave 0 2".as_slice()),
         None => assert!(rt; false),
     }
     Ok(())
