@@ -1,12 +1,15 @@
 #!/bin/sh
 # Runs the program with each allocation refused in turn, with each read and each write failing in turn, and with each of these made
 # short in turn, and prints how the runs ended. Needs `cc`; not a part of the gate.
-#   bench/refuse.sh              builds the proved program first, if it is not there
-#   bench/refuse.sh PROGRAM      tries this one
+#   bench/refuse.sh                  builds the proved program first, if it is not there
+#   bench/refuse.sh PROGRAM          tries this one
+#   bench/refuse.sh tests BINARY..   runs each test of these, as `rt test` leaves them in crates/*_tests/out, with each of its
+#                                    allocations refused in turn; of a test with more than 2,000 of them, 2,000 that lie evenly
 here=$(cd "$(dirname "$0")/.." && pwd) || exit 1
 work=$(mktemp -d) || exit 1
 trap 'rm -rf "$work"' EXIT
 dice=$1
+[ "$dice" = tests ] && shift
 if [ -z "$dice" ]; then
     "$here/dice" run </dev/null || exit 1
     dice="$here/crates/dice_cli/out/dice_cli"
@@ -79,6 +82,64 @@ __attribute__((destructor)) static void tell_at_end(void) { tell(); }
 C
 cc -O2 -shared -fPIC -o "$work/refuse.so" "$work/refuse.c" || exit 1
 
+if [ "$dice" = tests ]; then
+    python3 - "$work" "$@" <<'PYTHON'
+import collections, os, subprocess, sys
+from concurrent.futures import ThreadPoolExecutor
+work, *binaries = sys.argv[1:]
+most = 2000
+
+def run(binary, test, number=0, tell=None):
+    """Runs a test, and returns the status and what was printed."""
+    extra = {"LD_PRELOAD": f"{work}/refuse.so", "REFUSE_KIND": "memory", "REFUSE_NUMBER": str(number)}
+    if tell:
+        extra["REFUSE_TELL"] = tell
+    done = subprocess.run([binary, test], stdout=subprocess.PIPE, stderr=subprocess.STDOUT, env={**os.environ, **extra}, timeout=120)
+    return done.returncode, done.stdout.decode(errors="replace")
+
+def calls(binary, test):
+    """How many allocations a run of a test makes."""
+    tell = f"{work}/calls"
+    if run(binary, test, tell=tell)[0]:
+        sys.exit(f"{binary} {test}: fails with all memory there")
+    with open(tell) as file:
+        return int(file.read())
+
+def ending(got):
+    """How a test ended, and whether it may end so: a refusal is told as one, and no other answer changes."""
+    status, said = got
+    if status == 0 and "test result: ok" in said:
+        return "passed", True
+    if status == 101 and any(it in said for it in ("NoMemory", "AllocError", "AllocFailed", "no memory")):
+        return "told that memory was refused", True
+    # (many rows call a helper that gives nothing where memory is refused, so these runs only show that nothing else goes wrong)
+    if status == -6 and "assertion failed" in said:
+        return "stopped at a row", True
+    return f"status {status}: {' '.join(said.split())[:150]}", False
+
+bad = 0
+print("| Tests of | Tests | Runs | How they ended |\n|---|---|---|---|")
+for binary in binaries:
+    ends, runs = collections.Counter(), 0
+    listed = subprocess.run([binary, "--list"], stdout=subprocess.PIPE, text=True).stdout
+    tests = [it[: -len(": test")] for it in listed.splitlines() if it.endswith(": test")]
+    for test in tests:
+        count = calls(binary, test)
+        numbers = range(1, count + 1) if count <= most else sorted({1 + i * count // most for i in range(most)})
+        with ThreadPoolExecutor(os.cpu_count()) as pool:
+            for number, got in zip(numbers, pool.map(lambda n: run(binary, test, n), numbers)):
+                text, fine = ending(got)
+                runs += 1
+                ends[text if fine else "otherwise"] += 1
+                if not fine:
+                    bad += 1
+                    print(f"{test}, allocation {number} of {count}: {text}", file=sys.stderr)
+    name = os.path.basename(binary).replace("_tests_tests", "_tests")
+    print(f"| `{name}` | {len(tests)} | {runs} | {'; '.join(f'{n} {text}' for text, n in ends.most_common())} |", flush=True)
+sys.exit(1 if bad else 0)
+PYTHON
+    exit
+fi
 python3 - "$dice" "$work" "$here"/examples/*.dice <<'PYTHON'
 import collections, os, subprocess, sys
 from concurrent.futures import ThreadPoolExecutor
