@@ -42,7 +42,7 @@ impl Lot {
     }
 
     fn cell(&mut self) -> u32 {
-        self.draw(CELLS) as u32
+        (self.draw(CELLS) % CELLS) as u32
     }
 
     fn place(&mut self) -> Place {
