@@ -4,7 +4,7 @@
 #   bench/refuse.sh                  builds the proved program first, if it is not there
 #   bench/refuse.sh PROGRAM          tries this one
 #   bench/refuse.sh tests BINARY..   runs each test of these, as `rt test` leaves them in crates/*_tests/out, with each of its
-#                                    allocations refused in turn; of a test with more than 2,000 of them, 2,000 that lie evenly
+#                                    allocations refused in turn; of a test with more than 2,000 of them, 100 that lie evenly
 here=$(cd "$(dirname "$0")/.." && pwd) || exit 1
 work=$(mktemp -d) || exit 1
 trap 'rm -rf "$work"' EXIT
@@ -87,7 +87,7 @@ if [ "$dice" = tests ]; then
 import collections, os, subprocess, sys
 from concurrent.futures import ThreadPoolExecutor
 work, *binaries = sys.argv[1:]
-most = 2000
+most, sample = 2000, 100
 
 def run(binary, test, number=0, tell=None):
     """Runs a test, and returns the status and what was printed."""
@@ -125,7 +125,7 @@ for binary in binaries:
     tests = [it[: -len(": test")] for it in listed.splitlines() if it.endswith(": test")]
     for test in tests:
         count = calls(binary, test)
-        numbers = range(1, count + 1) if count <= most else sorted({1 + i * count // most for i in range(most)})
+        numbers = range(1, count + 1) if count <= most else sorted({1 + i * count // sample for i in range(sample)})
         with ThreadPoolExecutor(os.cpu_count()) as pool:
             for number, got in zip(numbers, pool.map(lambda n: run(binary, test, n), numbers)):
                 text, fine = ending(got)
