@@ -113,7 +113,7 @@ def ending(got):
     if status == 101 and any(it in said for it in ("NoMemory", "AllocError", "AllocFailed", "no memory")):
         return "told that memory was refused", True
     # (many rows call a helper that gives nothing where memory is refused, so these runs only show that nothing else goes wrong)
-    if status == -6 and "assertion failed" in said:
+    if status == -6 and "test stopped at" in said:
         return "stopped at a row", True
     return f"status {status}: {' '.join(said.split())[:150]}", False
 
