@@ -1,4 +1,6 @@
 //! A pure universe as a universe.
+ghost use Rattle.std.specs.Prelude.{◌≡◌};
+
 use crate::pure::Pure;
 use dice_key::{Answers, Kind, Line, Move, NoMemory, Universe, Version};
 use std::alloc::Global;
@@ -9,6 +11,8 @@ use std::sync::Arc;
 pub struct Plain<P: Pure> {
     alloc: Global,
     pure: P,
+    absent: Arc<P::Value>,
+    ghost absent_is: { absent.value ≡ P.absent },
 }
 
 /// A run: its key, its version, and the answers to its batches.
@@ -20,9 +24,14 @@ pub struct Run<P: Pure> {
 }
 
 impl<P: Pure> Plain<P> {
-    /// The universe over this pure one. Its runs are allocated by `alloc`.
-    pub fn new(alloc: Global, pure: P) -> Plain<P> {
-        Plain { alloc, pure }
+    /// The universe over this pure one. Its keys, values and runs are allocated by `alloc`.
+    pub fn new(alloc: Global, pure: P) -> Result<Plain<P>, NoMemory> {
+        let absent = Arc::new(alloc, pure.absent(alloc)?)?;
+        Ok(Plain {
+            alloc,
+            pure,
+            absent,
+        })
     }
 }
 
@@ -36,7 +45,7 @@ impl<P: Pure> Universe for Plain<P> {
 
     type Run = Run<P>;
 
-    ghost meaning = { plain P.is_injected P.absent P.next P.most P.text };
+    ghost meaning = { plain P.is_injected (λ k. P.absent) P.next (λ k. P.most) P.text };
 
     ghost running = { λ r. record { key = arc_value r.key; version = r.version; answered = history (P.next (arc_value r.key)) r.answers.items } };
 
@@ -48,8 +57,8 @@ impl<P: Pure> Universe for Plain<P> {
         }
     }
 
-    fn absent(&self, key: &P::Key) -> &Arc<P::Value> {
-        self.pure.absent(key)
+    fn absent(&self, _key: &P::Key) -> &Arc<P::Value> {
+        &self.absent
     }
 
     fn begin(
@@ -58,7 +67,7 @@ impl<P: Pure> Universe for Plain<P> {
         version: u64,
     ) -> Result<(Run<P>, Move<P::Key, P::Value>), NoMemory> {
         let answers = Vec::new(self.alloc);
-        let step = self.pure.next(&**key, answers.as_slice())?;
+        let step = self.pure.next(self.alloc, &**key, answers.as_slice())?;
         let key = Arc::try_clone(key)?;
         let run = Run {
             key,
@@ -74,7 +83,8 @@ impl<P: Pure> Universe for Plain<P> {
         answers: &Answers<P::Value>,
     ) -> Result<Move<P::Key, P::Value>, NoMemory> {
         run.answers.push(answers.try_clone(self.alloc)?)?;
-        self.pure.next(&*run.key, run.answers.as_slice())
+        self.pure
+            .next(self.alloc, &*run.key, run.answers.as_slice())
     }
 
     /// No key is a projection, so an engine never asks for a base. There is none to give, and this only answers `NoMemory`.
@@ -91,15 +101,15 @@ impl<P: Pure> Universe for Plain<P> {
         false
     }
 
-    fn most_batches(&self, key: &P::Key) -> u32 {
-        self.pure.most_batches(key)
+    fn most_batches(&self, _key: &P::Key) -> u32 {
+        self.pure.most_batches()
     }
 
     fn print(&self, key: &P::Key, short: bool) -> Result<Line, NoMemory> {
-        self.pure.print(key, short)
+        self.pure.print(self.alloc, key, short)
     }
 
-    ghost lawful = { plain_is_lawful P.is_injected P.absent P.next P.most P.text P.ends };
+    ghost lawful = { plain_is_lawful P.is_injected (λ k. P.absent) P.next (λ k. P.most) P.text P.ends };
 
     ghost same_keys = { P.same_keys };
 

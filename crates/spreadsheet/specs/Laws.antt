@@ -13,10 +13,10 @@ use Rattle.spreadsheet.specs.declared.cell.Key.TheVariants as key
 use Rattle.spreadsheet.specs.declared.value.Fault.TheVariants.{Unreadable, OutOfRange, DividedByZero}
 use Rattle.spreadsheet.specs.declared.value.Value.{Value}
 use Rattle.spreadsheet.specs.declared.value.Value.TheVariants as value
-use Rattle.spreadsheet.specs.Sheet.{next_move, most_of, result_of, formula_in}
+use Rattle.spreadsheet.specs.Sheet.{next_move, result_of, formula_in}
 
--- after as many answers as its bound a key is done
-pub ends : (k : Key) (A : List (List Value)) → most_of k ≤ length A → (x : Value) × (next_move k A ≡ Ends x)
+-- after two answered batches a key is done
+pub ends : (k : Key) (A : List (List Value)) → 2 ≤ length A → (x : Value) × (next_move k A ≡ Ends x)
 ends (key.Text c) A h = (value.Number (Err Unreadable), refl)
 ends (key.Value c) [] h = absurd (omega arith)
 ends (key.Value c) (xs ∷ []) h = absurd (omega arith)

@@ -78,10 +78,6 @@ next_move (key.Value c) [] = Asks (key.Text c ∷ [])
 next_move (key.Value c) (xs ∷ []) = asked_by (formula_in xs)
 next_move (key.Value c) (xs ∷ ys ∷ A) = Ends (value.Number (result_of (formula_in xs) ys))
 
-abbrev pub most_of : Key → ℕ
-most_of (key.Text c) = 0
-most_of (key.Value c) = 2
-
 abbrev pub name_of : Cell → List ℕ
 name_of c = c.column ∷ c.row ∷ []
 

@@ -20,7 +20,7 @@ pub(crate) struct Desk {
 impl Desk {
     /// A sheet of empty cells.
     pub(crate) fn new<R: Wait>(rt: &R, alloc: Global) -> Result<Desk> {
-        let session = Session::new(rt, alloc, Plain::new(alloc, Sheet::new(alloc)?))?;
+        let session = Session::new(rt, alloc, Plain::new(alloc, Sheet)?)?;
         Ok(Desk {
             session,
             changed_at: 0,

@@ -15,22 +15,10 @@ use std::sync::Arc;
 
 /// The universe.
 #[derive(Drop)]
-pub struct Sheet {
-    alloc: Global,
-    empty: Arc<Value>,
-    ghost empty_is: { empty.value ≡ value.Text [] },
-}
-
-impl Sheet {
-    /// The universe. Its keys and values are allocated by `alloc`.
-    pub fn new(alloc: Global) -> Result<Sheet, NoMemory> {
-        let empty = Arc::new(alloc, Value::Text(Text::from_slice(alloc, b"")?))?;
-        Ok(Sheet { alloc, empty })
-    }
-}
+pub struct Sheet;
 
 impl Pure for Sheet {
-    ghost use Rattle.spreadsheet.specs.Sheet.{is_text, next_move, most_of, text_of};
+    ghost use Rattle.spreadsheet.specs.Sheet.{is_text, next_move, text_of};
     ghost use Rattle.spreadsheet.specs.Laws.{ends, same_keys, equal_values};
 
     type Key = Key;
@@ -39,11 +27,11 @@ impl Pure for Sheet {
 
     ghost is_injected = { is_text };
 
-    ghost absent = { λ k. value.Text [] };
+    ghost absent = { value.Text [] };
 
     ghost next = { next_move };
 
-    ghost most = { most_of };
+    ghost most = { 2 };
 
     ghost text = { text_of };
 
@@ -51,12 +39,16 @@ impl Pure for Sheet {
         matches!(key, Key::Text(_))
     }
 
-    fn absent(&self, _key: &Key) -> &Arc<Value> {
-        &self.empty
+    fn absent(&self, alloc: Global) -> Result<Value, NoMemory> {
+        Ok(Value::Text(Text::from_slice(alloc, b"")?))
     }
 
-    fn next(&self, key: &Key, answers: &[Answers<Value>]) -> Result<Move<Key, Value>, NoMemory> {
-        let alloc = self.alloc;
+    fn next(
+        &self,
+        alloc: Global,
+        key: &Key,
+        answers: &[Answers<Value>],
+    ) -> Result<Move<Key, Value>, NoMemory> {
         match (*key, answers) {
             (Key::Text(_), _) => done(alloc, Value::Number(Err(Fault::Unreadable))),
             (Key::Value(cell), []) => ask(alloc, Key::Text(cell)),
@@ -81,19 +73,16 @@ impl Pure for Sheet {
         }
     }
 
-    fn most_batches(&self, key: &Key) -> u32 {
-        match key {
-            Key::Text(_) => 0,
-            Key::Value(_) => 2,
-        }
+    fn most_batches(&self) -> u32 {
+        2
     }
 
-    fn print(&self, key: &Key, short: bool) -> Result<Line, NoMemory> {
+    fn print(&self, alloc: Global, key: &Key, short: bool) -> Result<Line, NoMemory> {
         let (word, cell): (&[u8], _) = match *key {
             Key::Text(cell) => (b"text ", cell),
             Key::Value(cell) => (b"value ", cell),
         };
-        let mut text = Vec::new(self.alloc);
+        let mut text = Vec::new(alloc);
         if !short {
             text.extend_from_slice(word)?;
         }

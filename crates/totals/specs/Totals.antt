@@ -24,16 +24,12 @@ next_move (Cell n) A = Ends 0
 next_move (Total n) [] = if nat_eq n 0 then Asks (Cell 0 ∷ []) else Asks (Cell n ∷ Total (n - 1) ∷ [])
 next_move (Total n) (xs ∷ A) = Ends (total_of xs)
 
-abbrev pub most_of : Key → ℕ
-most_of (Cell n) = 0
-most_of (Total n) = 1
-
 abbrev pub text_of : Key → Bool → List ℕ
 text_of (Cell n) short = codes "cell " ++ decimal n
 text_of (Total n) short = codes "total " ++ decimal n
 
--- after as many answers as its bound a key is done
-pub ends : (k : Key) (A : List (List ℕ)) → most_of k ≤ length A → (x : ℕ) × (next_move k A ≡ Ends x)
+-- after one answered batch a key is done
+pub ends : (k : Key) (A : List (List ℕ)) → 1 ≤ length A → (x : ℕ) × (next_move k A ≡ Ends x)
 ends (Cell n) A h = (0, refl)
 ends (Total n) [] h = absurd (omega arith)
 ends (Total n) (xs ∷ A) h = (total_of xs, refl)

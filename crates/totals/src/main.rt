@@ -10,7 +10,7 @@ use pure_universe::Plain;
 
 fn main(rt: HostRuntime) -> Result<()> {
     let alloc = rt.alloc();
-    let mut session = Session::new(&rt, alloc, Plain::new(alloc, Totals::new(alloc)?))?;
+    let mut session = Session::new(&rt, alloc, Plain::new(alloc, Totals)?)?;
     for (cell, number) in [(0, 1), (2, 5), (1, 7)] {
         session.set(Key::Cell(cell), number)?;
         let version = session.commit(&rt)?;

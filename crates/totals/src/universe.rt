@@ -5,7 +5,6 @@ ghost use Rattle.totals.specs.Totals.{total_of};
 use dice_key::{Answers, Line, Move, NoMemory};
 use pure_universe::{Pure, ask, ask_both, done};
 use std::alloc::Global;
-use std::sync::Arc;
 
 /// What can be asked for.
 #[derive(Clone, Copy, Debug, PartialEq, Eq, PartialOrd, Ord, Hash)]
@@ -18,22 +17,10 @@ pub enum Key {
 
 /// The universe.
 #[derive(Drop)]
-pub struct Totals {
-    alloc: Global,
-    zero: Arc<u64>,
-    ghost zero_is: { zero.value ≡ 0 },
-}
-
-impl Totals {
-    /// The universe. Its keys and values are allocated by `alloc`.
-    pub fn new(alloc: Global) -> Result<Totals, NoMemory> {
-        let zero = Arc::new(alloc, 0)?;
-        Ok(Totals { alloc, zero })
-    }
-}
+pub struct Totals;
 
 impl Pure for Totals {
-    ghost use Rattle.totals.specs.Totals.{is_cell, next_move, most_of, text_of, ends, same_keys};
+    ghost use Rattle.totals.specs.Totals.{is_cell, next_move, text_of, ends, same_keys};
     ghost use Rattle.dice_key.specs.Same.{same_number};
 
     type Key = Key;
@@ -42,11 +29,11 @@ impl Pure for Totals {
 
     ghost is_injected = { is_cell };
 
-    ghost absent = { λ k. 0 };
+    ghost absent = { 0 };
 
     ghost next = { next_move };
 
-    ghost most = { most_of };
+    ghost most = { 1 };
 
     ghost text = { text_of };
 
@@ -54,30 +41,32 @@ impl Pure for Totals {
         matches!(key, Key::Cell(_))
     }
 
-    fn absent(&self, _key: &Key) -> &Arc<u64> {
-        &self.zero
+    fn absent(&self, _alloc: Global) -> Result<u64, NoMemory> {
+        Ok(0)
     }
 
-    fn next(&self, key: &Key, answers: &[Answers<u64>]) -> Result<Move<Key, u64>, NoMemory> {
+    fn next(
+        &self,
+        alloc: Global,
+        key: &Key,
+        answers: &[Answers<u64>],
+    ) -> Result<Move<Key, u64>, NoMemory> {
         match (*key, answers) {
-            (Key::Cell(_), _) => done(self.alloc, 0),
-            (Key::Total(0), []) => ask(self.alloc, Key::Cell(0)),
-            (Key::Total(n), []) => ask_both(self.alloc, Key::Cell(n), Key::Total(n - 1)),
-            (Key::Total(_), [first, ..]) => done(self.alloc, total_of(first)),
+            (Key::Cell(_), _) => done(alloc, 0),
+            (Key::Total(0), []) => ask(alloc, Key::Cell(0)),
+            (Key::Total(n), []) => ask_both(alloc, Key::Cell(n), Key::Total(n - 1)),
+            (Key::Total(_), [first, ..]) => done(alloc, total_of(first)),
         }
     }
 
-    fn most_batches(&self, key: &Key) -> u32 {
-        match key {
-            Key::Cell(_) => 0,
-            Key::Total(_) => 1,
-        }
+    fn most_batches(&self) -> u32 {
+        1
     }
 
-    fn print(&self, key: &Key, _short: bool) -> Result<Line, NoMemory> {
+    fn print(&self, alloc: Global, key: &Key, _short: bool) -> Result<Line, NoMemory> {
         let text = match *key {
-            Key::Cell(n) => format!(in self.alloc; "cell {n}")?,
-            Key::Total(n) => format!(in self.alloc; "total {n}")?,
+            Key::Cell(n) => format!(in alloc; "cell {n}")?,
+            Key::Total(n) => format!(in alloc; "total {n}")?,
         };
         Ok(Line::from_bytes(text.into_bytes()))
     }
