@@ -2,6 +2,7 @@
 ghost use Rattle.std.specs.Prelude.{◌≡◌, ◌↔◌, ◌≤◌, ℕ, Bool, true, List, [], IsTrue, IfOk, IsErrOf, drop, length};
 ghost use Rattle.buck_label.specs.Paths.{is_segment_byte, IsPathText, IsPath};
 ghost use Rattle.buck_label.specs.Machine.{path_from, after, is_simple};
+ghost use Rattle.buck_label.specs.Refusals.{refused_text};
 ghost use Rattle.buck_label.specs.declared.path.Refused.TheVariants.{NoMemory};
 ghost use Rattle.std.specs.Prelude.{Some, nat_eq, refl};
 ghost use Rattle.std.specs.Ordering.{nat_cmp};
@@ -13,20 +14,32 @@ ghost use Rattle.shared_text.specs.Texts.{hash_of, hash_of_equal};
 use shared_text::Text;
 use std::alloc::{AllocError, Global};
 use std::cmp::Ordering;
+use std::error::Error;
+use std::fmt;
 use std::hash::{Hash, Hasher};
 use std::marker::Model;
-use thiserror::Error;
 
 /// Why a text was not read.
-#[derive(Clone, Copy, Debug, PartialEq, Eq, Error)]
+#[derive(Clone, Copy, Debug, PartialEq, Eq)]
 pub enum Refused {
     /// The text is not in the grammar.
-    #[error("not a path or label")]
     Bad,
     /// Memory was refused.
-    #[error("no memory")]
     NoMemory,
 }
+
+impl fmt::Display for Refused {
+    ghost output = { λ refused. Some (refused_text refused) };
+
+    fn fmt<W: fmt::Write>(&self, f: &mut fmt::Formatter<W>) -> fmt::Result {
+        f.write_str(match self {
+            Refused::Bad => "not a path or label",
+            Refused::NoMemory => "no memory",
+        })
+    }
+}
+
+impl Error for Refused {}
 
 /// How far a segment has been read.
 #[derive(Clone, Copy, Debug, PartialEq, Eq)]

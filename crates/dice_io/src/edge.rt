@@ -1,14 +1,25 @@
 //! What a source and a sink promise.
-ghost use Rattle.std.specs.Prelude.{◌≡◌, ◌≤◌, ◌<◌, ℕ, List, length, Option, IfOk, OnOk, OnErr, IsErrOf, IsErr};
+ghost use Rattle.std.specs.Prelude.{◌≡◌, ◌≤◌, ◌<◌, ℕ, List, length, Option, Some, codes, IfOk, OnOk, OnErr, IsErrOf, IsErr};
+ghost use Rattle.dice_io.specs.Faults.{read_fail_text};
 ghost use Rattle.dice_io.specs.Streams.{Reads, Unread, Takes, Unchanged, one_more};
 
 use std::alloc::AllocError;
-use thiserror::Error;
+use std::error::Error;
+use std::fmt;
 
 /// Memory was refused.
-#[derive(Clone, Copy, Debug, PartialEq, Eq, Drop, Error)]
-#[error("no memory")]
+#[derive(Clone, Copy, Debug, PartialEq, Eq, Drop)]
 pub struct NoMemory;
+
+impl fmt::Display for NoMemory {
+    ghost output = { λ _. Some (codes "no memory") };
+
+    fn fmt<W: fmt::Write>(&self, f: &mut fmt::Formatter<W>) -> fmt::Result {
+        f.write_str("no memory")
+    }
+}
+
+impl Error for NoMemory {}
 
 impl From<AllocError> for NoMemory {
     fn from(_error: AllocError) -> NoMemory {
@@ -17,13 +28,26 @@ impl From<AllocError> for NoMemory {
 }
 
 /// Why nothing was read: the source failed, or there was no memory for the bytes.
-#[derive(Clone, Copy, Debug, PartialEq, Eq, Drop, Error)]
+#[derive(Clone, Copy, Debug, PartialEq, Eq, Drop)]
 pub enum ReadFail {
-    #[error("read failed")]
+    /// The source failed.
     Failed,
-    #[error("no memory")]
+    /// Memory was refused.
     NoMemory,
 }
+
+impl fmt::Display for ReadFail {
+    ghost output = { λ fail. Some (read_fail_text fail) };
+
+    fn fmt<W: fmt::Write>(&self, f: &mut fmt::Formatter<W>) -> fmt::Result {
+        f.write_str(match self {
+            ReadFail::Failed => "read failed",
+            ReadFail::NoMemory => "no memory",
+        })
+    }
+}
+
+impl Error for ReadFail {}
 
 impl From<AllocError> for ReadFail {
     ghost use Rattle.std.specs.Prelude.{◌≡◌};
@@ -37,9 +61,18 @@ impl From<AllocError> for ReadFail {
 }
 
 /// The sink failed.
-#[derive(Clone, Copy, Debug, PartialEq, Eq, Drop, Error)]
-#[error("write failed")]
+#[derive(Clone, Copy, Debug, PartialEq, Eq, Drop)]
 pub struct Failed;
+
+impl fmt::Display for Failed {
+    ghost output = { λ _. Some (codes "write failed") };
+
+    fn fmt<W: fmt::Write>(&self, f: &mut fmt::Formatter<W>) -> fmt::Result {
+        f.write_str("write failed")
+    }
+}
+
+impl Error for Failed {}
 
 /// Where bytes are read from.
 ///

@@ -7,7 +7,8 @@ ghost use Rattle.dice_words.specs.Accepted.{bulk, dice, dice_alone, run, targets
 use clap::error::ErrorKind;
 use clap::{ArgAction, ArgMatches, value_parser};
 use std::alloc::{AllocError, Global};
-use thiserror::Error;
+use std::error::Error;
+use std::fmt;
 
 /// What the program is told to do.
 #[derive(Clone, Copy, Debug, PartialEq, Eq, Drop)]
@@ -29,13 +30,29 @@ pub enum Command {
 }
 
 /// Why the words name no command: they are refused, a call for help among them, or memory was.
-#[derive(Clone, Copy, Debug, PartialEq, Eq, Drop, Error)]
+#[derive(Clone, Copy, Debug, PartialEq, Eq, Drop)]
 pub enum WordsFail {
-    #[error("words refused")]
+    /// The words name no command.
     Refused,
-    #[error("no memory")]
+    /// Memory was refused.
     NoMemory,
 }
+
+impl fmt::Display for WordsFail {
+    ghost use Rattle.std.specs.Prelude.{Some};
+    ghost use Rattle.dice_words.specs.Faults.{words_fail_text};
+
+    ghost output = { λ fail. Some (words_fail_text fail) };
+
+    fn fmt<W: fmt::Write>(&self, f: &mut fmt::Formatter<W>) -> fmt::Result {
+        f.write_str(match self {
+            WordsFail::Refused => "words refused",
+            WordsFail::NoMemory => "no memory",
+        })
+    }
+}
+
+impl Error for WordsFail {}
 
 impl From<AllocError> for WordsFail {
     ghost use Rattle.std.specs.Prelude.{◌≡◌};

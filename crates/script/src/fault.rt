@@ -2,11 +2,12 @@
 ghost use Rattle.std.specs.Prelude.{◌≡◌, Some};
 ghost use Rattle.std.specs.Fmt.{padded};
 ghost use Rattle.script.specs.Words.{text_of};
+ghost use Rattle.script.specs.Refusals.{refusal_text};
 ghost use Rattle.script.specs.declared.fault.Stop.TheVariants as stop;
 
 use std::alloc::AllocError;
+use std::error::Error;
 use std::fmt;
-use thiserror::Error;
 
 /// The test of a line that failed.
 #[derive(Clone, Copy, Debug, PartialEq, Eq)]
@@ -70,19 +71,30 @@ impl fmt::Display for Word {
 }
 
 /// Why a script was refused.
-#[derive(Clone, Copy, Debug, PartialEq, Eq, Error)]
+#[derive(Clone, Copy, Debug, PartialEq, Eq)]
 pub enum ScriptRefusal {
     /// The first line with a fault, and there the first test that fails. The line's number is 1
     /// plus the LFs before it, those in put bytes counted.
-    #[error("line {line}: {word}")]
     Fault { line: usize, word: Word },
     /// The script has more than 4,194,304 bytes.
-    #[error("script too long")]
     TooLong,
     /// Memory was refused.
-    #[error("no memory")]
     NoMemory,
 }
+
+impl fmt::Display for ScriptRefusal {
+    ghost output = { λ refusal. Some (refusal_text refusal) };
+
+    fn fmt<W: fmt::Write>(&self, f: &mut fmt::Formatter<W>) -> fmt::Result {
+        match self {
+            ScriptRefusal::Fault { line, word } => write!(f, "line {line}: {word}"),
+            ScriptRefusal::TooLong => f.write_str("script too long"),
+            ScriptRefusal::NoMemory => f.write_str("no memory"),
+        }
+    }
+}
+
+impl Error for ScriptRefusal {}
 
 /// Why a line was not taken.
 #[derive(Clone, Copy)]

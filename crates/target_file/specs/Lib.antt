@@ -18,3 +18,4 @@ pub mod Code
 pub mod Contents
 pub mod Reading
 pub mod Rows
+pub mod Faults

@@ -1,7 +1,10 @@
 //! What can go wrong.
+ghost use Rattle.std.specs.Prelude.{Some};
+ghost use Rattle.target_file.specs.Faults.{fault_text};
 
 use std::alloc::{AllocError, AllocFailed};
-use thiserror::Error;
+use std::error::Error;
+use std::fmt;
 
 /// Memory was refused.
 #[derive(Clone, Copy, Debug, PartialEq, Eq)]
@@ -20,13 +23,24 @@ impl<T: Drop> From<AllocFailed<T>> for NoMemory {
 }
 
 /// Why a target file was not read.
-#[derive(Clone, Copy, Debug, PartialEq, Eq, Error)]
+#[derive(Clone, Copy, Debug, PartialEq, Eq)]
 pub enum FileFault {
     /// The bytes are no target file. `line` is the line of the first byte with which no target file goes on, or
     /// of the end where every prefix begins one.
-    #[error("bad target file, line {line}")]
     Bad { line: u64 },
     /// Memory was refused.
-    #[error("out of memory")]
     NoMemory,
 }
+
+impl fmt::Display for FileFault {
+    ghost output = { λ fault. Some (fault_text fault) };
+
+    fn fmt<W: fmt::Write>(&self, f: &mut fmt::Formatter<W>) -> fmt::Result {
+        match self {
+            FileFault::Bad { line } => write!(f, "bad target file, line {line}"),
+            FileFault::NoMemory => f.write_str("out of memory"),
+        }
+    }
+}
+
+impl Error for FileFault {}
