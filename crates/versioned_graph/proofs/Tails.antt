@@ -2,7 +2,7 @@
 use Rattle.std.proofs.Common.{◌≡◌, ◌≢◌, ◌≤◌, ◌<◌, ◌⊎◌, inl, inr, ℕ, suc, Bool, true, false, not, ◌&&◌, ◌||◌, cond, nat_le, nat_lt, List, [], ◌∷◌, ◌++◌, length, Option, Some, None, refl, sym, ◌∙◌, subst, arith, length-append}
 use Rattle.std.proofs.lemmas.Bool.{lt-ltb, cases_lt, and_from, and_parts, cases_Bool, or_cases, or_left, or_right}
 use Rattle.std.proofs.Common.{ltb-true}
-use Rattle.dice_key.specs.Meaning.{Meaning}
+use Rattle.dice_key.specs.Meaning.{Meaning, Answered}
 use Rattle.dice_key.specs.Lawful.{IsLawful}
 use Rattle.dice_key.specs.declared.universe.Kind.TheVariants.{Injected}
 use Rattle.dice_model.specs.Log.{input}
@@ -43,6 +43,14 @@ module _ {K V : Type 0} (eq : K → K → Bool) (m : Meaning K V) (C : List (Lis
       by_tests false true r = r refl
       by_tests false false r = p e refl
 
+-- a trace stays one in a longer log
+pub trace_stable : {K V : Type 0} (eq : K → K → Bool) (m : Meaning K V) (C : List (List (K × V))) (c : List (K × V)) (k : K) (v : ℕ) (A : List (Answered K V)) (x : V) → v ≤ length C → IsTrace eq m C v k A x → IsTrace eq m (C ++ c ∷ []) v k A x
+trace_stable eq m C c k v A x within t = record {
+  computed = t.computed;
+  goes = goes_stable eq m C (c ∷ []) v within k [] A t.goes;
+  ends = t.ends;
+}
+
 module _ {K V : Type 0} (eq : K → K → Bool) (m : Meaning K V) (C : List (List (K × V))) (c : List (K × V)) (k : K) (e : Kept K V) (is_true : IsTrue eq m C k e) where
   abbrev pub N : ℕ
   N = length C
@@ -54,11 +62,7 @@ module _ {K V : Type 0} (eq : K → K → Bool) (m : Meaning K V) (C : List (Lis
   longer = let h = length-append C (c ∷ []) in omega arith
 
   still_traced : IsTrace eq m D is_true.finished k e.trace e.value
-  still_traced = let h = is_true.within in let l = is_true.before in record {
-    computed = is_true.traced.computed;
-    goes = goes_stable eq m C (c ∷ []) is_true.finished (omega arith) k [] e.trace is_true.traced.goes;
-    ends = is_true.traced.ends;
-  }
+  still_traced = let h = is_true.within in let l = is_true.before in trace_stable eq m C c k is_true.finished e.trace e.value (omega arith) is_true.traced
 
   -- an entry whose tail is cut
   pub cut_true : IsTrue eq m D k (cut_at (suc N) e)

@@ -39,6 +39,15 @@ named e = (arc_value e.0, e.1)
 abbrev pub entry_at : {K V : Type 0} → (K → K → Bool) → List (K × Stored K V) → K → Option (Kept K V)
 entry_at eq es k = option_map kept_of (lookup (eq k) es)
 
+-- whether a finish at v writes the trace: there is no entry, or it is not newer
+abbrev pub writes_trace : {K V : Type 0} → Option (Kept K V) → ℕ → Bool
+writes_trace None v = true
+writes_trace (Some e) v = nat_le e.version v
+
+-- of each key the version of the finish that wrote its trace, after one of k at v: where this writes the trace, v
+abbrev pub writers_with : {K : Type 0} → (K → K → Bool) → K → Bool → ℕ → (K → ℕ) → K → ℕ
+writers_with eq k writes v w q = cond (eq k q && writes) v (w q)
+
 -- an entry that was seen at a version
 abbrev pub seen_at : {K V : Type 0} → ℕ → Kept K V → Kept K V
 seen_at v e = record { value = e.value; trace = e.trace; ranges = e.ranges; version = max e.version v }

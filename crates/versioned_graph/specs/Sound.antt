@@ -45,6 +45,14 @@ module _ {K V : Type 0} (eq : K → K → Bool) (m : Meaning K V) where
   abbrev pub AreTrue : List (List (K × V)) → List (K × Stored K V) → Type 0
   AreTrue C es = (k : K) (e : Kept K V) → entry_at eq es k ≡ Some e → IsTrue C k e × IsTailed C (length C) (Edges es) k e
 
+  -- the trace of an entry of k is the key's at v, which is at most the entry's own version
+  abbrev pub IsTracedAt : List (List (K × V)) → ℕ → K → Kept K V → Type 0
+  IsTracedAt C v k e = (v ≤ e.version) × IsTrace eq m C v k e.trace e.value
+
+  -- so is that of each entry, at the version that w tells of its key: that of the finish that wrote the trace
+  abbrev pub AreTracedAt : List (List (K × V)) → (K → ℕ) → List (K × Stored K V) → Type 0
+  AreTracedAt C w es = (k : K) (e : Kept K V) → entry_at eq es k ≡ Some e → IsTracedAt C (w k) k e
+
   -- at each version the inputs are those of the log; above the newest, those of the newest
   abbrev pub Holds : List (List (K × V)) → (ℕ → K → V) → Type 0
   Holds C at = (w : ℕ) (k : K) → at w k ≡ input eq m C w k

@@ -1,18 +1,18 @@
 //! The graph.
-ghost use Rattle.std.specs.Prelude.{◌≡◌, ◌<◌, ◌≤◌, ◌++◌, ◌∷◌, ℕ, List, [], length, map, suc, OnOk, OnErr, if◌then◌else◌, Some, true};
+ghost use Rattle.std.specs.Prelude.{◌≡◌, ◌<◌, ◌≤◌, ◌++◌, ◌∷◌, ℕ, List, [], length, map, suc, OnOk, OnErr, if◌then◌else◌, Some, true, false};
 ghost use Rattle.std.specs.Arc.{arc_value};
 ghost use Rattle.std.specs.Map.{keys_of};
 ghost use Rattle.std.specs.Option.{option_map};
 ghost use Rattle.injected.specs.Seen.{cell_at};
 ghost use Rattle.dice_model.specs.Asks.{IsTrace};
 ghost use Rattle.dice_model.specs.Eval.{HasValue};
-ghost use Rattle.versioned_graph.specs.Edges.{Records, IsCut, is_edge};
-ghost use Rattle.versioned_graph.specs.Entries.{Kept, entry_at, finished, seen_at, written};
+ghost use Rattle.versioned_graph.specs.Edges.{CommitReaches, Records, IsCut, is_edge};
+ghost use Rattle.versioned_graph.specs.Entries.{Kept, entry_at, finished, seen_at, writers_with, writes_trace, written};
 ghost use Rattle.versioned_graph.specs.Looks.{look_of, look, Matches};
-ghost use Rattle.versioned_graph.specs.Sound.{AreTrue, Holds};
+ghost use Rattle.versioned_graph.specs.Sound.{AreTrue, AreTracedAt, Holds};
 ghost use Rattle.lists.specs.Lists.{Has};
 
-use crate::cut::{cut_all, forget_all};
+use crate::cut::cut_reached;
 use crate::entry::Entry;
 use crate::finish::link_open;
 use crate::found::Found;
@@ -87,7 +87,11 @@ impl<U: Universe> Graph<U> {
         ensures entries { (q : U.Key) → entry_at U.Key.eq self.new q ≡ (if U.Key.eq (arc_value key.now) q then option_map (seen_at version) (entry_at U.Key.eq self.old (arc_value key.now)) else entry_at U.Key.eq self.old q) }
         ensures edges { (j : U.Key) (q : U.Key) → is_edge U.Key.eq self.new j q ≡ is_edge U.Key.eq self.old j q }
         ensures kept { (C : List (List (U.Key × U.Value))) (e : Kept U.Key U.Value) → AreTrue U.Key.eq U.meaning C self.old → version ≤ length C → entry_at U.Key.eq self.old (arc_value key.now) ≡ Some e → e.ranges version ≡ true → AreTrue U.Key.eq U.meaning C self.new }
+
+        // Each trace is still that of the finish that wrote it, at the version that `w` tells.
+        ensures traced { (C : List (List (U.Key × U.Value))) (w : U.Key → ℕ) → AreTracedAt U.Key.eq U.meaning C w self.old → AreTracedAt U.Key.eq U.meaning C w self.new }
     {
+        laws_of::<U>();
         self.store.seen(key, version);
     }
 
@@ -109,6 +113,10 @@ impl<U: Universe> Graph<U> {
         ensures ok { OnOk result ((q : U.Key) → entry_at U.Key.eq self.new q ≡ (if U.Key.eq (arc_value key) q then Some (written U.meaning U.Value.eq (entry_at U.Key.eq self.old (arc_value key)) (finished U.meaning U.Value.eq (cell_at U.Key.eq U.meaning cells.now) (entry_at U.Key.eq self.old) version (arc_value value) (arc_value trace))) else entry_at U.Key.eq self.old q)) }
         ensures edges { OnOk result (Records U.Key.eq U.meaning U.Value.eq (arc_value key) (finished U.meaning U.Value.eq (cell_at U.Key.eq U.meaning cells.now) (entry_at U.Key.eq self.old) version (arc_value value) (arc_value trace)) self.old self.new) }
         ensures kept { OnOk result ((C : List (List (U.Key × U.Value))) → Holds U.Key.eq U.meaning C (cell_at U.Key.eq U.meaning cells.now) → version ≤ length C → IsTrace U.Key.eq U.meaning C version (arc_value key) (arc_value trace) (arc_value value) → AreTrue U.Key.eq U.meaning C self.old → AreTrue U.Key.eq U.meaning C self.new) }
+
+        // Where the entry was not newer, its trace is the one that was given, and of this version; each other one is as before. (`w` tells
+        // of each key the version of the finish that wrote its trace.)
+        ensures traced { OnOk result ((C : List (List (U.Key × U.Value))) (w : U.Key → ℕ) → IsTrace U.Key.eq U.meaning C version (arc_value key) (arc_value trace) (arc_value value) → AreTracedAt U.Key.eq U.meaning C w self.old → AreTracedAt U.Key.eq U.meaning C (writers_with U.Key.eq (arc_value key) (writes_trace (entry_at U.Key.eq self.old (arc_value key)) version) version w) self.new) }
         ensures err { OnErr result (self.new ≡ self.old) }
     {
         laws_of::<U>();
@@ -134,12 +142,15 @@ impl<U: Universe> Graph<U> {
     pub fn commit(&mut self, changed: &[Arc<U::Key>], version: u64) -> Result<(), NoMemory>
         ensures cut { OnOk result (IsCut U.Key.eq self.old (map arc_value changed.now) version self.new) }
         ensures kept { OnOk result ((C : List (List (U.Key × U.Value))) (c : List (U.Key × U.Value)) → version ≡ suc (length C) → ((k : U.Key) → Has (keys_of c) k → Has (map arc_value changed.now) k) → AreTrue U.Key.eq U.meaning C self.old → AreTrue U.Key.eq U.meaning (C ++ c ∷ []) self.new) }
+
+        // No edge is left from a key that it reached; each trace is still that of the finish that wrote it.
+        ensures unused { OnOk result ((j : U.Key) (q : U.Key) → CommitReaches U.Key.eq self.old (map arc_value changed.now) j → is_edge U.Key.eq self.new j q ≡ false) }
+        ensures traced { OnOk result ((C : List (List (U.Key × U.Value))) (c : List (U.Key × U.Value)) (w : U.Key → ℕ) → AreTrue U.Key.eq U.meaning C self.old → AreTracedAt U.Key.eq U.meaning C w self.old → AreTracedAt U.Key.eq U.meaning (C ++ c ∷ []) w self.new) }
         ensures err { OnErr result (self.new ≡ self.old) }
     {
         laws_of::<U>();
         let reached = reached(self.alloc, &self.store, &self.users, changed)?;
-        cut_all(&mut self.store, &reached, version);
-        forget_all(&mut self.users, &reached);
+        cut_reached(&mut self.store, &mut self.users, &reached, version);
         Ok(())
     }
 }

@@ -9,6 +9,7 @@ use Rattle.versioned_graph.specs.Users.{users_of}
 use Rattle.versioned_graph.proofs.Sets.{any_map}
 use Rattle.versioned_graph.proofs.FinishLemmas.{made, finish_true, others_tailed}
 use Rattle.versioned_graph.proofs.Holding.{true_with}
+use Rattle.versioned_graph.proofs.Traced.{finish_traced}
 use Rattle.versioned_graph.proofs.graph.Graph.finish.Goals as goal
 use Rattle.lists.specs.Lists.{Has}
 use Rattle.std.proofs.lemmas.Bool.{and_parts, or_cases}
@@ -64,6 +65,15 @@ returns-clause-kept g c C holds within trace t =
     true_with eq m C keys.same k (Some (written m veq (entry_at eq es k) n)) es fs (returns-clause-ok g c)
     (finish_true eq keys m law veq same C at holds es fs t k v x A within trace (returns-clause-edges g c))
     (others_tailed eq keys m law veq same C at holds es fs t k v x A within trace (returns-clause-edges g c))
+
+pub returns-clause-traced : goal.returns-clause-traced
+returns-clause-traced g c C w trace t =
+    let eq = g.U.Key.PartialEq.eq in
+    let m = g.U.Universe.meaning in
+    let veq = g.U.Value.PartialEq.eq in
+    let es = c.args.self.now in
+    let n = finished m veq (cell_at eq m c.args.cells.now) (entry_at eq es) c.args.version (arc_value c.args.value) (arc_value c.args.trace) in
+    finish_traced eq c.laws_of.ensures.keys.same m C veq c.laws_of.ensures.values.same (arc_value c.args.key) n es c.put.new.self w (returns-clause-ok g c) trace t
 
 pub invariant_of-self-2 : goal.invariant_of-self-2
 invariant_of-self-2 g c = λ j q e.
