@@ -130,7 +130,8 @@ impl<U: Universe> Core<U> {
         // Each entry holds true values at the versions that it is known for, up to the newest.
         ensures entries { AreTrue U.Key.eq U.meaning (commits_of (past_of self.now)) self.now.entries }
 
-        // Its trace is the key's at a version at which the key was decided by a value, and so was its own; each key that was has one.
+        // Each comes from decisions: its trace is the key's at a version at which the key came to a value, and at its own version the key
+        // did too. Each key that came to a value has an entry.
         ensures backed { EntriesStand U.Key.eq U.meaning (past_of self.now) self.now.entries }
 
         // At every version the promises are the live asks, and each task stands where it does by what the journal tells; a task at work is
