@@ -10,11 +10,12 @@ use Rattle.dice_key.specs.Meaning.{Meaning}
 use Rattle.journal.specs.declared.event.Told.{Told}
 use Rattle.journal.specs.declared.event.Told.TheVariants.{Open, Close, Ask, Leave}
 use Rattle.journal.specs.Events.{Opened, Asking, is_for, one_if, open_at, opened_at, open_count, live_at}
+use Rattle.journal.specs.Words.{begins_epoch}
 use Rattle.journal.specs.Law.{IsLawfulBack}
 use Rattle.journal.proofs.Indices.{opened_below, live_below, opened_counts}
 use Rattle.version_epoch.specs.declared.open_versions.Standing.{Standing}
 use Rattle.version_epoch.specs.Standings.{open_count_of, epoch_of}
-use Rattle.dice_core.specs.Sessions.{SessionSeen, SessionsSeen, opened_of, has_ask, opened_in, among_in, session_at, transaction_at, ask_at, is_among, asks_in, IsSame, Opens, Asks, Leaves, Closes, Takes, SessionsStand, Closing, moves_sessions}
+use Rattle.dice_core.specs.Sessions.{SessionSeen, SessionsSeen, opened_of, has_ask, opened_in, among_in, session_at, transaction_at, ask_at, is_among, epochs_begun, asks_in, IsSame, Opens, Asks, Leaves, Closes, Takes, SessionsStand, Closing, moves_sessions}
 
 -- the same test from the other side
 pub eqb_flips : (a b : ℕ) → eqb a b ≡ eqb b a
@@ -51,6 +52,14 @@ counted_fewer : (v w n m : ℕ) → n ≡ m → cond (eqb v w) (n - 1) n ≡ m -
 counted_fewer v w n m e = rw (eqb_flips w v) (by_test (eqb v w))
   where
     by_test : (x : Bool) → cond x (n - 1) n ≡ m - one_if x
+    by_test true = omega arith
+    by_test false = omega arith
+
+-- the number of a version's epochs with one more, by a test from either side
+begun_more : (v w n m p q : ℕ) → n ≡ m → p ≡ q → cond (eqb w v && eqb p 0) (n + 1) n ≡ m + one_if (eqb v w && eqb q 0)
+begun_more v w n m p q e f = by_test (eqb w v && eqb p 0) ∙ ap (λ b. m + one_if b) (ap (λ x. x && eqb p 0) (eqb_flips w v) ∙ ap (λ y. eqb v w && eqb y 0) f)
+  where
+    by_test : (x : Bool) → cond x (n + 1) n ≡ m + one_if x
     by_test true = omega arith
     by_test false = omega arith
 
@@ -150,9 +159,18 @@ module _ {K V : Type 0} where
   count_within (Close by t ∷ R) v = let h = count_within R v in omega arith
   count_within (_ ∷ R) v = let h = count_within R v in omega arith
 
+  -- at most as many epochs have begun as there are events
+  epochs_within : (R : List (Told K V)) (v : ℕ) → epochs_begun R v ≤ length R
+  epochs_within [] v = omega arith
+  epochs_within (e ∷ R) v = by_test (begins_epoch e R v) (epochs_within R v)
+    where
+      by_test : (x : Bool) → epochs_begun R v ≤ length R → epochs_begun R v + one_if x ≤ suc (length R)
+      by_test true h = omega arith
+      by_test false h = omega arith
+
   -- a transaction may be opened while the journal is shorter than this number
   pub open_fits : (R : List (Told K V)) (s : SessionsSeen K) (top v : ℕ) → SessionsStand R s → length R < top → (open_count_of s.epochs v < top) × (epoch_of s.epochs v < top)
-  open_fits R s top v st l = ((let a = st.counts v in let b = count_within R v in omega arith), (let c = st.epochs v in omega arith))
+  open_fits R s top v st l = ((let a = st.counts v in let b = count_within R v in omega arith), (let c = st.epochs v in let d = epochs_within R v in omega arith))
 
   -- an open transaction counts at its version
   pub close_fits : (eq : K → K → Bool) (m : Meaning K V) (R : List (Told K V)) (s : SessionsSeen K) (t : ℕ) (o : Opened) → IsLawfulBack eq m R → SessionsStand R s → transaction_at s t ≡ Some o → 0 < open_count_of s.epochs o.version
@@ -179,7 +197,7 @@ module _ {K V : Type 0} where
     asks = λ i. ap (lookup (nat_eq i)) a;
     counts = c;
     among = λ w i. ap (λ ts. among_in ts w i) t;
-    epochs = λ v. (let h = e v in omega arith);
+    epochs = e;
   }
 
   pub same_stands : (R : List (Told K V)) (s u : SessionsSeen K) → IsSame s u → SessionsStand R s → SessionsStand R u
@@ -188,7 +206,7 @@ module _ {K V : Type 0} where
     asks = λ i. e.asks i ∙ st.asks i;
     counts = λ v. ap (λ es. open_count_of es v) e.epochs ∙ st.counts v;
     among = λ t i. e.among t i ∙ st.among t i;
-    epochs = λ v. subst (λ es. epoch_of es v ≤ length R) (sym e.epochs) (st.epochs v);
+    epochs = λ v. ap (λ es. epoch_of es v) e.epochs ∙ st.epochs v;
   }
 
   -- the other events change nothing of what is open
@@ -205,16 +223,12 @@ module _ {K V : Type 0} where
     asks = λ i. o.asks i ∙ st.asks i;
     counts = λ w. o.counts w ∙ counted_more w v _ _ (st.counts w);
     among = λ t i. o.among t i ∙ listed t i (eqb n t) refl;
-    epochs = λ w. (let h = st.epochs w in let p = o.epochs w in by_test _ _ _ p h);
+    epochs = λ w. o.epochs w ∙ begun_more v w _ _ _ _ (st.epochs w) (st.counts w);
   }
     where
       listed : (t i : ℕ) (b : Bool) → eqb n t ≡ b → cond b false (is_among s t i) ≡ asks_in R t i
       listed t i true q = sym (sym (st.among t i) ∙ unlisted s.transactions t i (fresh_transaction R s t st (e ∙ eqb-true n t q)))
       listed t i false q = st.among t i
-
-      by_test : (b : Bool) (x y : ℕ) → x ≡ cond b (y + 1) y → y ≤ length R → x ≤ suc (length R)
-      by_test true x y p h = omega arith
-      by_test false x y p h = omega arith
 
   pub asks_stand : (R : List (Told K V)) (index by t : ℕ) (k : K) (s u : SessionsSeen K) → Asks index (record { by = by; opened = t; key = k }) s u → SessionsStand R s → length R ≡ index → SessionsStand (Ask by t k ∷ R) u
   asks_stand R n by t k s u o st e = record {
@@ -309,7 +323,7 @@ module _ {K V : Type 0} where
     asks = λ i. o.asks i ∙ (by_test i (eqb n i) refl ∙ ap (λ b. cond b (live_at R i) (live_at (Close by t ∷ R) i)) (sym (e i)));
     counts = λ w. ap (λ es. open_count_of es w) o.epochs ∙ c.counts w;
     among = λ w i. ap (λ ts. among_in ts w i) o.transactions ∙ c.among w i;
-    epochs = λ w. subst (λ es. epoch_of es w ≤ length R) (sym o.epochs) (c.epochs w);
+    epochs = λ w. ap (λ es. epoch_of es w) o.epochs ∙ c.epochs w;
     live = λ i p. c.live i (fewer (eqb n i) (has_ask rest i) (sym (e i) ∙ p));
   }
     where

@@ -16,7 +16,7 @@ use Rattle.version_epoch.specs.Standings.{open_count_of}
 use Rattle.versioned_graph.specs.Entries.{Stored}
 use Rattle.dice_jobs.specs.Jobs.{Name, Assigned}
 use Rattle.core_laws.specs.Tasks.{IsReady, IsOut, WithValue, WithCycle, WithNothing, Standing, Works, Ended}
-use Rattle.core_laws.specs.Desk.{World, Rests, AreAll, is_out}
+use Rattle.core_laws.specs.Desk.{World, Rests, AreAll, is_ready, is_out}
 use Rattle.dice_core.specs.Commits.{SameSets}
 use Rattle.dice_steps.specs.Cells.{CellsStand}
 use Rattle.dice_tasks.specs.Entries.{EntriesStand}
@@ -101,6 +101,13 @@ module _ {K V : Type 0} (eq : K → K → Bool) where
   -- the asks and the tasks of all versions
   abbrev pub world_of : List (ℕ × List (K × Share K (Held K V))) → World K V
   world_of ts = record { asked = λ v. asked_of eq (table_at ts v); tasks = λ v. tasks_of eq (table_at ts v) }
+
+  -- the task of a key at a version is ready; its job is out
+  abbrev pub ready_at : CoreSeen K V → ℕ × K → Bool
+  ready_at c p = is_ready (tasks_of eq (table_at c.tables p.0) p.1)
+
+  abbrev pub out_at : CoreSeen K V → ℕ × K → Bool
+  out_at c p = is_out (tasks_of eq (table_at c.tables p.0) p.1)
 
   -- a job of this name is out
   abbrev pub IsNameOut : CoreSeen K V → Name K → Type 0

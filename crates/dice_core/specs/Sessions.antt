@@ -1,11 +1,12 @@
 -- What is open: the transactions, and the asks in them that were not left.
-use Rattle.std.specs.Prelude.{◌≡◌, ◌≤◌, ◌+◌, ◌-◌, ℕ, Bool, true, false, cond, ◌&&◌, nat_eq, List, ◌∷◌, length, Option, Some, None, unwrap_or}
+use Rattle.std.specs.Prelude.{◌≡◌, ◌+◌, ◌-◌, ℕ, Bool, true, false, cond, ◌&&◌, nat_eq, List, [], ◌∷◌, length, Option, Some, None, unwrap_or}
 use Rattle.std.specs.Map.{lookup}
 use Rattle.std.specs.List.{list_any}
 use Rattle.std.specs.Option.{option_map}
 use Rattle.journal.specs.declared.event.Told.{Told}
 use Rattle.journal.specs.declared.event.Told.TheVariants.{Commit, Open, Close, Ask, Leave, Start, Keep, End, Cyclic, Drop, Lost}
-use Rattle.journal.specs.Events.{Opened, Asking, is_for, open_at, open_count, live_at}
+use Rattle.journal.specs.Events.{Opened, Asking, is_for, one_if, open_at, open_count, live_at}
+use Rattle.journal.specs.Words.{begins_epoch}
 use Rattle.version_epoch.specs.declared.open_versions.Standing.{Standing}
 use Rattle.version_epoch.specs.Standings.{open_count_of, epoch_of}
 
@@ -122,18 +123,23 @@ module _ {K : Type 0} where
     pub owed : owed u + 1 ≡ owed s
 
 module _ {K V : Type 0} where
+  -- how many epochs of v have begun: how many events of the journal R, read backwards, begin one
+  abbrev pub epochs_begun : List (Told K V) → ℕ → ℕ
+  epochs_begun [] v = 0
+  epochs_begun (e ∷ R) v = epochs_begun R v + one_if (begins_epoch e R v)
+
   -- the ask i is live, in the transaction t
   abbrev pub asks_in : List (Told K V) → ℕ → ℕ → Bool
   asks_in R t i = is_for (λ (a : Asking K). nat_eq t a.opened) (live_at R i)
 
   -- what is kept is what the journal R, read backwards, says: which transactions are open, which asks are live, how many transactions are open at
-  -- each version, and which asks each transaction has. No version has begun more epochs than there are events
+  -- each version, which asks each transaction has, and how many epochs of each version have begun
   pub record SessionsStand (R : List (Told K V)) (s : SessionsSeen K) : Type 0 where
     pub transactions : (i : ℕ) → transaction_at s i ≡ open_at R i
     pub asks : (i : ℕ) → ask_at s i ≡ live_at R i
     pub counts : (v : ℕ) → open_count_of s.epochs v ≡ open_count R v
     pub among : (t i : ℕ) → is_among s t i ≡ asks_in R t i
-    pub epochs : (v : ℕ) → epoch_of s.epochs v ≤ length R
+    pub epochs : (v : ℕ) → epoch_of s.epochs v ≡ epochs_begun R v
 
   -- the same while the transaction t is closed: all is as after its Close, but that these asks of t are still to be taken out
   pub record Closing (R : List (Told K V)) (by t : ℕ) (rest : List ℕ) (s : SessionsSeen K) : Type 0 where
@@ -141,7 +147,7 @@ module _ {K V : Type 0} where
     pub asks : (i : ℕ) → ask_at s i ≡ cond (has_ask rest i) (live_at R i) (live_at (Close by t ∷ R) i)
     pub counts : (v : ℕ) → open_count_of s.epochs v ≡ open_count (Close by t ∷ R) v
     pub among : (w i : ℕ) → is_among s w i ≡ asks_in (Close by t ∷ R) w i
-    pub epochs : (v : ℕ) → epoch_of s.epochs v ≤ length R
+    pub epochs : (v : ℕ) → epoch_of s.epochs v ≡ epochs_begun R v
     pub live : (i : ℕ) → has_ask rest i ≡ true → asks_in R t i ≡ true
 
   -- the event opens or closes a transaction, or asks or leaves

@@ -12,17 +12,19 @@ ghost use Rattle.task_share.specs.Seen.{task_at, asks, asked_of};
 ghost use Rattle.journal.specs.Events.{Opened, Asking, commits_of, decided, open_at, open_count, opened_at, live_at, lost_in_epoch, event_of};
 ghost use Rattle.injected.specs.Seen.{cell_at};
 ghost use Rattle.journal.specs.Law.{IsLawfulJournal, CycleStands};
-ghost use Rattle.version_epoch.specs.Standings.{open_count_of};
+ghost use Rattle.version_epoch.specs.Standings.{open_count_of, epoch_of};
 ghost use Rattle.versioned_graph.specs.Sound.{AreTrue};
+ghost use Rattle.core_laws.specs.Desk.{AreAll};
 ghost use Rattle.core_laws.specs.Stands.{IsAtRest};
 ghost use Rattle.dice_core.specs.Commits.{CommitsEntries, Fault, fault_of, AreSettable, IsFirstFault, differing_of};
 ghost use Rattle.dice_steps.specs.Cells.{CellsStand};
 ghost use Rattle.dice_tasks.specs.Endings.{GivesUpAll};
+ghost use Rattle.dice_tasks.specs.Entries.{EntriesStand};
 ghost use Rattle.dice_tasks.specs.Hands.{KeepsWork, tasks_of};
 ghost use Rattle.dice_core.specs.Givings.{stale_of, Gives, IsTakenUp};
 ghost use Rattle.dice_core.specs.Joinings.{AsksForKey};
-ghost use Rattle.dice_core.specs.Sessions.{transaction_at, ask_at};
-ghost use Rattle.dice_core.specs.Cores.{CoreSeen, Came, ToValue, ToCycle, ToNothing, Pending, Absent, came_of, decision_of, events_of, past_of, table_at, held_to, injected_to, held_in, poll_of, Turned, IsAsBefore, KeepsTasksOf, DropsThese, IsJobOut, IsNameOut, TakesOut, GivesUpOnly};
+ghost use Rattle.dice_core.specs.Sessions.{transaction_at, ask_at, epochs_begun};
+ghost use Rattle.dice_core.specs.Cores.{CoreSeen, Came, ToValue, ToCycle, ToNothing, Pending, Absent, came_of, decision_of, events_of, past_of, table_at, held_to, injected_to, held_in, poll_of, Turned, IsAsBefore, KeepsTasksOf, DropsThese, ready_at, out_at, IsJobOut, IsNameOut, TakesOut, GivesUpOnly};
 ghost use Rattle.dice_core.specs.Staying.{AnswersStay, LosesWaitersOnly};
 ghost use Rattle.lists.specs.Lists.{Has};
 
@@ -118,8 +120,19 @@ impl<U: Universe> Core<U> {
         ensures counts { (v : ℕ) → open_count_of self.now.sessions.epochs v ≡ open_count (past_of self.now) v }
         ensures cells { CellsStand U.Key.eq (past_of self.now) self.now.cells }
 
+        // So is how many epochs of each version have begun.
+        ensures epochs { (v : ℕ) → epoch_of self.now.sessions.epochs v ≡ epochs_begun (past_of self.now) v }
+
+        // The tasks that are ready are listed, each once, and so are those whose jobs are out.
+        ensures ready { AreAll (ready_at U.Key.eq self.now) self.now.desk.ready }
+        ensures outs { AreAll (out_at U.Key.eq self.now) self.now.desk.out }
+
         // Each entry holds true values at the versions that it is known for, up to the newest.
         ensures entries { AreTrue U.Key.eq U.meaning (commits_of (past_of self.now)) self.now.entries }
+
+        // Each comes from decisions: its trace is the key's at a version at which the key came to a value, and at its own version the key
+        // did too. Each key that came to a value has an entry.
+        ensures backed { EntriesStand U.Key.eq U.meaning (past_of self.now) self.now.entries }
 
         // At every version the promises are the live asks, and each task stands where it does by what the journal tells; a task at work is
         // asked for, what it waits for is at work, and without an open transaction there is none.

@@ -24,6 +24,7 @@ use Rattle.dice_tasks.specs.declared.making.Making.{Making}
 use Rattle.dice_tasks.specs.declared.making.Making.TheVariants.{Join, Match, Run, Check}
 use Rattle.dice_tasks.proofs.WaitLemmas.{key_there, wait_of}
 use Rattle.dice_steps.specs.AtHand.{AtHand}
+use Rattle.dice_steps.specs.Orders.{AreLastFirst}
 use Rattle.dice_steps.specs.Plans.{key_in, wait_for, waits_of, is_awaited, AreParts, IsAtHand, IsRoomy, GoesOnSo, WaitsSo}
 use Rattle.dice_steps.specs.Taken.{MakesTasks, WaitsFor, IsAnswerTo, GoesOnWith}
 use Rattle.dice_steps.specs.Batches.{AreMakable, MakesParted, MakesParts}
@@ -65,7 +66,7 @@ valued_not_free o x e f =
     cc
 
 module _ {U K V R : Type 0} (eq : K → K → Bool) (equality : IsEquality eq) (m : Meaning K V) (law : IsLawful m) (v : ℕ) (w : World K V) (owed : ℕ) (a : Assigned K V) (ks : List K) (xs : List (Part U K V R)) (ps qs rs : List (K × Share K (Held K V))) (d e f : DeskSeen K V) (es fs : List (K × Stored K V)) (s : Seen K V)
-    (hand : AtHand eq m v w owed ps d es s) (out : task_at eq ps a.name.key ≡ Some (held_of a IsOut)) (parts : AreParts {U = U} {R = R} eq m v (length d.events) ps es a.name.key ks xs) (makes : MakesParts eq xs v ps d qs e) (parted : MakesParted eq m v (length d.events) xs ps d es qs e fs) where
+    (hand : AtHand eq m v w owed ps d es s) (out : task_at eq ps a.name.key ≡ Some (held_of a IsOut)) (parts : AreParts {U = U} {R = R} eq m v (length d.events) ps es a.name.key ks xs) (order : AreLastFirst ks (map key_in xs)) (makes : MakesParts eq xs v ps d qs e) (parted : MakesParted eq m v (length d.events) xs ps d es qs e fs) where
   free_out : IsFree (task_at eq ps a.name.key) → ⊥
   free_out g = let z : works a IsOut ≡ Ended WithNothing = subst IsFree out g in cc
 
@@ -90,6 +91,7 @@ module _ {U K V R : Type 0} (eq : K → K → Bool) (equality : IsEquality eq) (
         | inl i ↦ absurd (n.computed i)
         | inr r ↦ subst (Has parted.made) r.2 (parted.all r.0 r.1 (subst (λ z. IsFree (task_at eq ps z)) (sym r.2) n.free))
       ];
+      order = λ j q i. order j q (parted.order j q i);
       these = record {
         tasks = λ q i. turned_other q (own_not q i) ∙ parted.these.tasks q i;
         told = told ∙ parted.these.told;
@@ -194,13 +196,13 @@ module _ {U K V R : Type 0} (eq : K → K → Bool) (equality : IsEquality eq) (
   pub goes_done : (n : Ahead K V) → GoesOnSo eq m v owed a ks ps d es s xs n → ReturnsJob eq v k a n.job qs rs e f → MakesTasks eq m v a ks s ps d es rs f fs × GoesOnWith eq m v a ks s ps d es rs f fs
   goes_done n plan back0 =
       let back = subst (λ z. ReturnsJob eq v z a n.job qs rs e f) (sym own) back0 in (
-        tasks_made eq equality m law v w owed a ks xs ps qs rs d e f es fs s hand out_own roomy.parts makes all_parted (held_of n.job IsReady) back.table.tasks back.desk.rest.events,
-        goes_on_with eq equality m law v w owed a ks xs ps qs rs d e f es fs s hand out_own roomy.parts makes all_parted n plan.known plan.job plan.answers back,
+        tasks_made eq equality m law v w owed a ks xs ps qs rs d e f es fs s hand out_own roomy.parts roomy.order makes all_parted (held_of n.job IsReady) back.table.tasks back.desk.rest.events,
+        goes_on_with eq equality m law v w owed a ks xs ps qs rs d e f es fs s hand out_own roomy.parts roomy.order makes all_parted n plan.known plan.job plan.answers back,
       )
 
   pub waits_done : (ws : List (WaitOf K)) → WaitsSo eq m v owed a ks ps d es s xs ws → (p : Waits K V) → p.job ≡ a → p.keys ≡ ks → ParksJob eq v k p ws qs rs e f → Working eq m v [] w owed rs f → MakesTasks eq m v a ks s ps d es rs f fs × WaitsFor eq m v a ks s ps d es rs f fs
   waits_done ws plan p job keys to0 work =
       let to = subst (λ z. ParksJob eq v z p ws qs rs e f) (sym own) to0 in (
-        tasks_made eq equality m law v w owed a ks xs ps qs rs d e f es fs s hand out_own roomy.parts makes all_parted (held_of p.job (IsWaiting p.keys)) to.tasks to.desk.rest.events,
-        waits_for eq equality m law v w owed a ks xs ps qs rs d e f es fs s hand out_own roomy.parts makes all_parted ws plan.waits plan.some p job keys to work,
+        tasks_made eq equality m law v w owed a ks xs ps qs rs d e f es fs s hand out_own roomy.parts roomy.order makes all_parted (held_of p.job (IsWaiting p.keys)) to.tasks to.desk.rest.events,
+        waits_for eq equality m law v w owed a ks xs ps qs rs d e f es fs s hand out_own roomy.parts roomy.order makes all_parted ws plan.waits plan.some p job keys to work,
       )

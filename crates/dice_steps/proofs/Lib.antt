@@ -7,6 +7,7 @@ pub mod LookedLemmas
 pub mod MakesLemmas
 pub mod NotedLemmas
 pub mod PartLemmas
+pub mod OrderLemmas
 pub mod PlacedLemmas
 pub mod PlanLemmas
 pub mod QuietLemmas

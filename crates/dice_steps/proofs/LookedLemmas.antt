@@ -16,10 +16,12 @@ use Rattle.dice_tasks.specs.Makings.{IsFree, HasTask, IsMaking, IsMade, MakesAlo
 use Rattle.dice_tasks.specs.declared.making.Making.{Making}
 use Rattle.dice_tasks.specs.declared.making.Making.TheVariants.{Join, Match, Run, Check}
 use Rattle.dice_tasks.proofs.MakeFrames.{making_on}
+use Rattle.dice_steps.specs.Orders.{IsBefore}
 use Rattle.dice_steps.specs.Plans.{key_in, is_awaited, IsPart}
 use Rattle.dice_steps.specs.Taken.{says, told_of}
 use Rattle.dice_steps.specs.Batches.{AreMakable, MakesParted}
 use Rattle.dice_steps.specs.declared.plan.Part.{Part}
+use Rattle.dice_steps.proofs.OrderLemmas.{before_more, before_end}
 use Rattle.dice_steps.proofs.PartLemmas.{map_last}
 use Rattle.lists.proofs.Distinct.{apart, distinct_left}
 use Rattle.lists.proofs.Members.{has_end, has_last, has_map, has_more}
@@ -43,6 +45,7 @@ module _ {U K V R : Type 0} (eq : K → K → Bool) (m : Meaning K V) (v born : 
     of_part = λ q h. absurd h;
     free = λ q h. absurd h;
     all = λ p h f. h;
+    order = λ j q h. absurd h;
     these = record { tasks = λ q h. absurd h; told = sym (append-nil d.events); entries = λ q h. absurd h; other_entries = λ q n. refl; edges = λ j q. refl };
     others = λ q n. refl;
   }
@@ -101,6 +104,10 @@ module _ {U K V R : Type 0} (eq : K → K → Bool) (equality : IsEquality eq) (
       distinct = (not_made, h.distinct);
       of_part = λ q i. elim i as (λ _. (x : Part U K V R) × Has (rest ++ p ∷ []) x × (key_in x ≡ q)) [ inl j ↦ (p, has_end rest p, j) | inr j ↦ (let r = h.of_part q j in (r.0, has_more rest p r.0 r.1, r.2)) ];
       free = λ q i. elim i as (λ _. IsFree (task_at eq ps q)) [ inl j ↦ subst (λ z. IsFree (task_at eq ps z)) j free | inr j ↦ subst IsFree (alone.tasks q (later q j)) (h.free q j) ];
+      order = λ j q i. subst (λ z. IsBefore z q j) (sym (map_last key_in rest p)) (elim i as (λ _. IsBefore (map key_in rest ++ k ∷ []) q j) [
+        | inl o ↦ (let r = h.of_part q o.1 in subst (λ z. IsBefore (map key_in rest ++ k ∷ []) q z) o.0 (before_end (map key_in rest) k q (subst (Has (map key_in rest)) r.2 (has_map key_in rest r.0 r.1))))
+        | inr o ↦ before_more (map key_in rest) k q j (h.order j q o)
+      ]);
       all = λ x i g. elim (has_last rest p x i) as (λ _. Has (k ∷ h.made) (key_in x)) [ inl o ↦ inr (h.all x o (subst IsFree (sym (alone.tasks (key_in x) (other_key x o))) g)) | inr s ↦ inl (ap key_in s) ];
       these = record {
         tasks = λ q i. elim i as (λ _. task_at eq rs q ≡ Some (task_by v q born (says eq m v es q))) [
@@ -125,6 +132,7 @@ module _ {U K V R : Type 0} (eq : K → K → Bool) (equality : IsEquality eq) (
       distinct = w.distinct;
       of_part = λ q i. (let r = w.of_part q i in (r.0, has_more rest p r.0 r.1, r.2));
       free = w.free;
+      order = λ j q i. subst (λ z. IsBefore z q j) (sym (map_last key_in rest p)) (before_more (map key_in rest) k q j (w.order j q i));
       all = λ x i g. elim (has_last rest p x i) as (λ _. Has w.made (key_in x)) [ inl o ↦ w.all x o g | inr s ↦ absurd (has_free (task_at eq ps k) has (subst (λ (z : Part U K V R). IsFree (task_at eq ps (key_in z))) (sym s) g)) ];
       these = w.these;
       others = w.others;

@@ -1,5 +1,5 @@
 -- A plan is one over the room that was made for it, and leaves what is seen as it was.
-use Rattle.std.proofs.Common.{◌≡◌, inl, inr, ◌<◌, ◌≤◌, ◌+◌, ◌*◌, ℕ, Bool, true, false, ◌&&◌, ◌||◌, List, [], ◌∷◌, ◌++◌, length, reverse, Option, Some, None, refl, sym, ap, ◌∙◌, subst, arith}
+use Rattle.std.proofs.Common.{◌≡◌, inl, inr, ◌<◌, ◌≤◌, ◌+◌, ◌*◌, ℕ, Bool, true, false, ◌&&◌, ◌||◌, List, [], ◌∷◌, ◌++◌, length, map, reverse, Option, Some, None, refl, sym, ap, ◌∙◌, subst, arith}
 use Rattle.std.specs.List.{AllZip, list_any}
 use Rattle.std.specs.Option.{option_map}
 use Rattle.std.specs.Prelude.{◌==◌}
@@ -26,6 +26,7 @@ use Rattle.dice_tasks.specs.Helds.{Held, Ahead, task_of}
 use Rattle.dice_tasks.specs.Hands.{DeskSeen, KeepsHands, HasDeskRoom, desk_of, Working, tasks_of, seen_world}
 use Rattle.dice_tasks.specs.Entries.{EntriesStand}
 use Rattle.dice_tasks.specs.Makings.{IsFree, IsMaking, task_by}
+use Rattle.dice_steps.specs.Orders.{AreLastFirst}
 use Rattle.dice_steps.specs.Plans.{key_in, wait_for, waits_of, is_awaited, HasNone, IsPart, AreParts, ArePlaced, IsAtHand, IsRoomy, GoesOnSo, WaitsSo, IsPlan, IsPlanDone, IfEnds}
 use Rattle.dice_steps.specs.Taken.{says, told_of, NeedsTask, MakesTasks, WaitsFor, GoesOnWith, EndsByCycle, IsBatchDone}
 use Rattle.dice_steps.specs.Batches.{TakesUp}
@@ -110,6 +111,7 @@ module _ {K V : Type 0} (eq : K → K → Bool) (m : Meaning K V) (v : ℕ) (ps 
       distinct = h.distinct;
       needed = λ q i. needs_from q (h.needed q i);
       all = λ q n. h.all q (needs_to q n);
+      order = h.order;
       these = record {
         tasks = λ q i. h.these.tasks q i ∙ ap (λ (J : List (Told K V)). Some (task_by v q (length J) (says eq m v es q))) hands.events;
         told = h.these.told ∙ ap (λ (J : List (Told K V)). J ++ told_of eq m v es h.made) hands.events;
@@ -142,7 +144,7 @@ module _ {K V : Type 0} (eq : K → K → Bool) (m : Meaning K V) (v : ℕ) (ps 
 -- ---- the plan
 
 module _ {U K V R : Type 0} (eq : K → K → Bool) (equality : IsEquality eq) (m : Meaning K V) (v : ℕ) (a : Assigned K V) (ks : List K) (xs : List (Part U K V R)) (ps qs : List (K × Share K (Held K V))) (d e : DeskSeen K V) (es : List (K × Stored K V)) (s : Seen K V)
-    (tasks : KeepsTasks eq ps qs) (asked : KeepsAsks eq ps qs) (hands : KeepsHands d e) (parts : AreParts eq m v (length d.events) ps es a.name.key ks xs) where
+    (tasks : KeepsTasks eq ps qs) (asked : KeepsAsks eq ps qs) (hands : KeepsHands d e) (parts : AreParts eq m v (length d.events) ps es a.name.key ks xs) (order : AreLastFirst ks (map key_in xs)) where
   parts_then : AreParts eq m v (length e.events) qs es a.name.key ks xs
   parts_then = subst (λ (x : List (Told K V)). AreParts eq m v (length x) qs es a.name.key ks xs) (sym hands.events) (parts_same eq ps qs tasks m v (length d.events) es asked a.name.key ks xs parts)
 
@@ -150,6 +152,7 @@ module _ {U K V R : Type 0} (eq : K → K → Bool) (equality : IsEquality eq) (
     roomy_so : IsRoomy eq m v owed a ks qs e es s xs
     roomy_so = record {
       parts = parts_then;
+      order = order;
       placed = placed;
       desk = record {
         spare = (let r = room.spare in omega arith);

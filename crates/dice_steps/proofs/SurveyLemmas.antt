@@ -12,13 +12,15 @@ use Rattle.task_share.specs.Seen.{Share, asked_of}
 use Rattle.versioned_graph.specs.Entries.{Stored}
 use Rattle.core_laws.proofs.Shapes.{not_both}
 use Rattle.dice_tasks.specs.Helds.{Held}
+use Rattle.dice_steps.specs.Orders.{AreInOrder}
 use Rattle.dice_steps.specs.Plans.{key_in, IsPart, AreParts}
 use Rattle.dice_steps.specs.Taken.{MayWaitFor}
 use Rattle.dice_steps.specs.declared.plan.Part.{Part}
 use Rattle.dice_steps.proofs.NotedLemmas.{AreSeen, seen_more}
-use Rattle.dice_steps.proofs.PartLemmas.{keys_next, parts_skip, parts_more}
+use Rattle.dice_steps.proofs.OrderLemmas.{order_skip, order_more}
+use Rattle.dice_steps.proofs.PartLemmas.{map_last, keys_next, parts_skip, parts_more}
 use Rattle.dice_key.proofs.KeySets.{any_has, has_any}
-use Rattle.lists.proofs.Members.{has_map}
+use Rattle.lists.proofs.Members.{has_map, has_mapped}
 use Rattle.lists.specs.Lists.{Has}
 
 -- what stands at an index is in the list
@@ -91,3 +93,20 @@ module _ {U K V R A : Type 0} (eq : K → K → Bool) (equality : IsEquality eq)
       subst (λ z. AreParts eq m v born ps es k z (xs ++ p ∷ [])) (sym (keys_next items i x l e))
       (subst (λ z. AreParts eq m v born ps es k (map arc_value (take i items) ++ z ∷ []) (xs ++ p ∷ [])) is
       (parts_more eq m v born ps es k (map arc_value (take i items)) xs p so_far part (subst (λ z. Leads (asked_of eq ps) z k → ⊥) (sym is) apart) (subst (λ z. Has (map key_in xs) z → ⊥) (sym is) new)))
+
+  -- and the parts stay in the order of their keys
+  pub skips_on : AreInOrder (map arc_value (take i items)) (map key_in xs) → AreInOrder (map arc_value (take (i + 1) items)) (map key_in xs)
+  skips_on h = subst (λ z. AreInOrder z (map key_in xs)) (sym (keys_next items i x l e)) (order_skip (map arc_value (take i items)) (map key_in xs) (arc_value x) h)
+
+  pub adds_on : (p : Part U K V R) → key_in p ≡ arc_value x → (m.kind (arc_value x) ≡ Injected → ⊥) → (Has (map key_in xs) (arc_value x) → ⊥) → AreInOrder (map arc_value (take i items)) (map key_in xs) → AreInOrder (map arc_value (take (i + 1) items)) (map key_in (xs ++ p ∷ []))
+  adds_on p is computed new h =
+      subst (λ z. AreInOrder z (map key_in (xs ++ p ∷ []))) (sym (keys_next items i x l e))
+      (subst (AreInOrder (map arc_value (take i items) ++ arc_value x ∷ [])) (sym (map_last key_in xs p))
+      (subst (λ z. AreInOrder (map arc_value (take i items) ++ arc_value x ∷ []) (map key_in xs ++ z ∷ [])) (sym is)
+      (order_more (map arc_value (take i items)) (map key_in xs) (arc_value x) h among unlisted)))
+    where
+      among : (q : K) → Has (map key_in xs) q → Has (map arc_value (take i items)) q
+      among q j = let r = has_mapped key_in xs q j in subst (Has (map arc_value (take i items))) r.2 (so_far.among r.0 r.1)
+
+      unlisted : Has (map arc_value (take i items)) (arc_value x) → ⊥
+      unlisted j = elim (so_far.all (arc_value x) j) as (λ _. ⊥) [ inl n ↦ computed n | inr r ↦ new (subst (Has (map key_in xs)) r.2 (has_map key_in xs r.0 r.1)) ]

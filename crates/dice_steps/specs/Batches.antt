@@ -16,6 +16,7 @@ use Rattle.dice_tasks.specs.Hands.{DeskSeen, Working, tasks_of}
 use Rattle.dice_tasks.specs.Entries.{EntriesStand}
 use Rattle.dice_tasks.specs.Endings.{ComesOf, told_end}
 use Rattle.dice_tasks.specs.Makings.{IsFree, MayMake}
+use Rattle.dice_steps.specs.Orders.{IsBefore}
 use Rattle.dice_steps.specs.Plans.{key_in, IsPart}
 use Rattle.dice_steps.specs.Taken.{MakesThese}
 use Rattle.dice_steps.specs.declared.plan.Part.{Part}
@@ -84,13 +85,14 @@ module _ {U K V R : Type 0} (eq : K → K → Bool) (m : Meaning K V) (v born : 
     pub each : (p : Part U K V R) → Has xs p → IsPart eq m v born ps es p
     pub distinct : AreDistinct (map key_in xs)
 
-  -- tasks were made of just those keys of these parts that had none, or one that was given up; all other tasks stay
+  -- tasks were made of just those keys of these parts that had none, or one that was given up, the last part first; all other tasks stay
   pub record MakesParted (ps : List (K × Share K (Held K V))) (d : DeskSeen K V) (es : List (K × Stored K V)) (qs : List (K × Share K (Held K V))) (e : DeskSeen K V) (fs : List (K × Stored K V)) : Type 0 where
     pub made : List K
     pub distinct : AreDistinct made
     pub of_part : (q : K) → Has made q → (p : Part U K V R) × Has xs p × (key_in p ≡ q)
     pub free : (q : K) → Has made q → IsFree (task_at eq ps q)
     pub all : (p : Part U K V R) → Has xs p → IsFree (task_at eq ps (key_in p)) → Has made (key_in p)
+    pub order : (j q : K) → IsBefore made j q → IsBefore (map key_in xs) q j
     pub these : MakesThese eq m v made ps d es born qs e fs
     pub others : (q : K) → (Has made q → ⊥) → task_at eq qs q ≡ task_at eq ps q
 

@@ -5,3 +5,4 @@ pub mod Finishings
 pub mod Plans
 pub mod Taken
 pub mod Wokens
+pub mod Orders

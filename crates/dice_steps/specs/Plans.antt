@@ -17,6 +17,7 @@ use Rattle.dice_tasks.specs.Hands.{DeskSeen, HasDeskRoom, tasks_of}
 use Rattle.dice_tasks.specs.Makings.{IsMaking, IsOfKey}
 use Rattle.dice_tasks.specs.declared.making.Making.{Making}
 use Rattle.dice_tasks.specs.declared.making.Making.TheVariants.{Join, Match, Run, Check}
+use Rattle.dice_steps.specs.Orders.{AreLastFirst}
 use Rattle.dice_steps.specs.Taken.{HasNoPath, IsPathOf, EndsByCycle, MakesTasks, WaitsFor, GoesOnWith}
 use Rattle.dice_steps.specs.declared.plan.Part.{Part}
 use Rattle.dice_steps.specs.declared.plan.Survey.{Survey}
@@ -74,10 +75,10 @@ module _ {U K V R : Type 0} (eq : K → K → Bool) (m : Meaning K V) (v born : 
     pub distinct : AreDistinct (map key_in xs)
     pub all : (q : K) → Has ks q → (m.kind q ≡ Injected) ⊎ ((p : Part U K V R) × Has xs p × (key_in p ≡ q))
 
-  -- what a batch comes to: a cycle, or its parts
+  -- what a batch comes to: a cycle, or its parts, the last first
   abbrev pub IsSurvey : K → List K → Survey U K V R → Type 0
   IsSurvey k ks (survey.Cycle path) = IsPathOf eq ps m k ks (arc_value path)
-  IsSurvey k ks (survey.Parts xs) = AreParts k ks xs.items
+  IsSurvey k ks (survey.Parts xs) = AreParts k ks xs.items × AreLastFirst ks (map key_in xs.items)
 
 module _ {U K V R : Type 0} (eq : K → K → Bool) (xs : List (Part U K V R)) (ps : List (K × Share K (Held K V))) where
   -- there is room in the table to make these and to wait for those that are waited for
@@ -89,6 +90,7 @@ module _ {U K V R : Type 0} (eq : K → K → Bool) (m : Meaning K V) (v owed : 
   -- these can be made
   pub record IsRoomy (xs : List (Part U K V R)) : Type 0 where
     pub parts : AreParts {U = U} {R = R} eq m v (length d.events) ps es a.name.key ks xs
+    pub order : AreLastFirst ks (map key_in xs)
     pub placed : ArePlaced eq xs ps
     pub desk : HasDeskRoom owed (length xs) (length xs) d
 

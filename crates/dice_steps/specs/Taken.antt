@@ -19,6 +19,7 @@ use Rattle.dice_tasks.specs.Endings.{GivesUpAll}
 use Rattle.dice_tasks.specs.Helds.{Held, held_of}
 use Rattle.dice_tasks.specs.Hands.{DeskSeen, tasks_of}
 use Rattle.dice_tasks.specs.Makings.{IsFree, task_by, told_by, entry_by}
+use Rattle.dice_steps.specs.Orders.{AreInOrder}
 use Rattle.lists.specs.Lists.{AreDistinct, Has}
 
 module _ {K V : Type 0} (eq : K → K → Bool) (ps : List (K × Share K (Held K V))) where
@@ -79,13 +80,14 @@ module _ {K V : Type 0} (eq : K → K → Bool) (m : Meaning K V) (v : ℕ) (a :
     pub computed : m.kind q ≢ Injected
     pub free : IsFree (task_at eq ps q)
 
-  -- so each key of the batch that is not injected has its task: one was made of each that needs one, and of no other; and no task changes beside these
-  -- and that which asks
+  -- so each key of the batch that is not injected has its task: one was made of each that needs one, in the order in which these first stand in the
+  -- batch, and of no other; and no task changes beside these and that which asks
   pub record MakesTasks : Type 0 where
     pub made : List K
     pub distinct : AreDistinct made
     pub needed : (q : K) → Has made q → NeedsTask q
     pub all : (q : K) → NeedsTask q → Has made q
+    pub order : AreInOrder ks made
     pub these : MakesThese eq m v made ps d es (length d.events) qs e fs
     pub others : (q : K) → eq a.name.key q ≡ false → (Has made q → ⊥) → task_at eq qs q ≡ task_at eq ps q
 

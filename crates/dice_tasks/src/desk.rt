@@ -97,6 +97,7 @@ impl<U: Universe> Desk<U> {
         ensures { IfOk result (λ n. (n ≡ length self.now.events) × (n < u64.MAX)) }
     {
         let len = self.journal.len();
+        // No memory holds so many events that there is no next number; a length does not tell that, so it is refused here.
         let _next = len.checked_add(1).ok_or(NoMemory)?;
         Ok(len as u64)
     }
@@ -296,6 +297,7 @@ impl<U: Universe> Desk<U> {
 fn events_wanted(live: usize, tasks: usize, owed: usize, more: usize) -> Result<usize, NoMemory>
     ensures { IfOk result (λ n. n ≡ 2 * (live + tasks) + (owed + more)) }
 {
+    // Room for more events than a number counts is more than any memory has, and is refused as such.
     let works = live.checked_add(tasks).ok_or(NoMemory)?;
     let ends = works.checked_mul(2).ok_or(NoMemory)?;
     let others = owed.checked_add(more).ok_or(NoMemory)?;

@@ -16,6 +16,11 @@ open-requires-clause-count g c κs within =
     let r = c.requires.stands in
     (open_fits (reverse c.args.desk.now.events) c.args.sessions.now _ c.args.newest r.2.sessions (subst (λ n. n < _) (c.in_ok-index.ensures.0 ∙ sym (length-reverse c.args.desk.now.events)) c.in_ok-index.ensures.1)).0
 
+pub open-requires-clause-epoch : goal.open-requires-clause-epoch
+open-requires-clause-epoch g c κs within =
+    let r = c.requires.stands in
+    (open_fits (reverse c.args.desk.now.events) c.args.sessions.now _ c.args.newest r.2.sessions (subst (λ n. n < _) (c.in_ok-index.ensures.0 ∙ sym (length-reverse c.args.desk.now.events)) c.in_ok-index.ensures.1)).1
+
 pub returns-clause-kept : goal.returns-clause-kept
 returns-clause-kept g c = λ es s st newest.
     let eq = g.U.Key.PartialEq.eq in

@@ -1,9 +1,11 @@
-use Rattle.std.proofs.Common.{◌≡◌, inl, [], ◌∷◌, ◌++◌, refl, sym, ◌∙◌, subst}
+use Rattle.std.proofs.Common.{◌≡◌, inl, map, [], ◌∷◌, ◌++◌, refl, sym, ◌∙◌, subst}
 use Rattle.std.specs.Arc.{arc_value}
 use Rattle.dice_key.specs.declared.universe.Kind.TheVariants.{Injected}
 use Rattle.task_share.specs.Asked.{Leads}
 use Rattle.task_share.specs.Seen.{asked_of}
-use Rattle.dice_steps.specs.Plans.{AreParts}
+use Rattle.dice_steps.specs.Orders.{AreLastFirst}
+use Rattle.dice_steps.specs.Plans.{key_in, AreParts}
+use Rattle.dice_steps.proofs.OrderLemmas.{order_one}
 use Rattle.dice_steps.proofs.PartLemmas.{parts_none, parts_skip, parts_more}
 use Rattle.dice_steps.proofs.plan.look_at.Goals as goal
 
@@ -14,8 +16,8 @@ returns-in-Injected g c =
     let own = arc_value c.args.own.now in
     let k = arc_value c.args.key.now in
     let injected : m.kind k ≡ Injected = subst (λ z. m.kind z ≡ Injected) c.deref.ensures (sym c.kind.ensures ∙ c.in-Injected.is) in
-    subst (λ zs. AreParts eq m c.args.version c.args.born c.args.tasks.now c.args.graph.now own (k ∷ []) zs) (sym c.new-parts.ensures.items)
-    (parts_skip eq m c.args.version c.args.born c.args.tasks.now c.args.graph.now own [] k [] (parts_none eq m c.args.version c.args.born c.args.tasks.now c.args.graph.now own) (inl injected))
+    subst (λ zs. AreParts eq m c.args.version c.args.born c.args.tasks.now c.args.graph.now own (k ∷ []) zs × AreLastFirst (k ∷ []) (map key_in zs)) (sym c.new-parts.ensures.items)
+    (parts_skip eq m c.args.version c.args.born c.args.tasks.now c.args.graph.now own [] k [] (parts_none eq m c.args.version c.args.born c.args.tasks.now c.args.graph.now own) (inl injected), λ x y h. absurd h)
 
 pub returns-in-Some : goal.returns-in-Some
 returns-in-Some g c = record {
@@ -36,7 +38,9 @@ returns g c =
     let p = c.in_ok-part.part in
     let is = c.in_ok-part.ensures.key in
     let apart = rw c.in_default-2.is at c.in_ok-path.ensures.apart in
-    subst (λ zs. AreParts eq m c.args.version c.args.born c.args.tasks.now c.args.graph.now own (k ∷ []) zs) (sym c.in_ok-push.ensures.items)
-    (subst (λ zs. AreParts eq m c.args.version c.args.born c.args.tasks.now c.args.graph.now own (k ∷ []) (zs ++ p ∷ [])) (sym c.new-parts.ensures.items)
-    (subst (λ z. AreParts eq m c.args.version c.args.born c.args.tasks.now c.args.graph.now own (z ∷ []) (p ∷ [])) is
-    (parts_more eq m c.args.version c.args.born c.args.tasks.now c.args.graph.now own [] [] p (parts_none eq m c.args.version c.args.born c.args.tasks.now c.args.graph.now own) c.in_ok-part.ensures.part (subst (λ z. Leads (asked_of eq c.args.tasks.now) z own → ⊥) (sym is) apart) (λ h. h))))
+    subst (λ zs. AreParts eq m c.args.version c.args.born c.args.tasks.now c.args.graph.now own (k ∷ []) zs × AreLastFirst (k ∷ []) (map key_in zs)) (sym c.in_ok-push.ensures.items)
+    (subst (λ zs. AreParts eq m c.args.version c.args.born c.args.tasks.now c.args.graph.now own (k ∷ []) (zs ++ p ∷ []) × AreLastFirst (k ∷ []) (map key_in (zs ++ p ∷ []))) (sym c.new-parts.ensures.items) (
+      subst (λ z. AreParts eq m c.args.version c.args.born c.args.tasks.now c.args.graph.now own (z ∷ []) (p ∷ [])) is
+          (parts_more eq m c.args.version c.args.born c.args.tasks.now c.args.graph.now own [] [] p (parts_none eq m c.args.version c.args.born c.args.tasks.now c.args.graph.now own) c.in_ok-part.ensures.part (subst (λ z. Leads (asked_of eq c.args.tasks.now) z own → ⊥) (sym is) apart) (λ h. h)),
+      order_one (k ∷ []) (key_in p),
+    ))

@@ -3,10 +3,12 @@ use Rattle.std.specs.Arc.{arc_value}
 use Rattle.std.specs.List.{list_any}
 use Rattle.std.proofs.lemmas.List.{take_all}
 use Rattle.dice_key.specs.declared.universe.Kind.TheVariants.{Injected}
+use Rattle.dice_steps.specs.Orders.{AreInOrder, AreLastFirst}
 use Rattle.dice_steps.specs.Plans.{key_in, AreParts}
+use Rattle.dice_steps.proofs.OrderLemmas.{order_turned}
 use Rattle.dice_steps.proofs.NotedLemmas.{AreSeen}
 use Rattle.dice_steps.proofs.PartLemmas.{map_last, parts_none, parts_turned}
-use Rattle.dice_steps.proofs.SurveyLemmas.{batch_at, comes_to_none, seen_same, seen_new, seen_has, unseen, skips, adds}
+use Rattle.dice_steps.proofs.SurveyLemmas.{batch_at, comes_to_none, seen_same, seen_new, seen_has, unseen, skips, skips_on, adds, adds_on}
 use Rattle.dice_steps.proofs.plan.look_over_all.Goals as goal
 use Rattle.lists.specs.Lists.{Has}
 
@@ -25,6 +27,7 @@ loop-key-init g c =
     let eq = g.U.Key.PartialEq.eq in
     record {
       parts = subst (λ zs. AreParts eq g.U.Universe.meaning c.args.version c.args.born c.args.tasks.now c.args.graph.now (arc_value c.args.own.now) [] zs) (sym c.new-parts.ensures.items) (parts_none eq g.U.Universe.meaning c.args.version c.args.born c.args.tasks.now c.args.graph.now (arc_value c.args.own.now));
+      order = subst (λ zs. AreInOrder [] (map key_in zs)) (sym c.new-parts.ensures.items) (λ x y h. absurd h);
       seen = λ q. ap (λ z. list_any (λ a. eq q (arc_value a)) z) c.new-seen.ensures.empty ∙ sym (ap (λ zs. list_any (eq q) (map key_in zs)) c.new-parts.ensures.items);
     }
 
@@ -38,6 +41,7 @@ loop-key-preserved-then-not-branch g c =
     record {
       parts = skips eq law g.U.Universe.meaning c.args.version c.args.born c.args.tasks.now c.args.graph.now (arc_value c.args.own.now) c.args.keys.now c.loop-key.key-index x c.loop-key-test.true c.key-item.is xs c.loop-key.invariant.parts
           (elim old as (λ _. (g.U.Universe.meaning.kind (arc_value x) ≡ Injected) ⊎ Has (map key_in xs) (arc_value x)) [ inl i ↦ inl i | inr e ↦ inr (seen_has eq law c.loop-key.seen.keys c.is_new.new.seen.keys (map key_in xs) (arc_value x) c.loop-key.invariant.seen e) ]);
+      order = skips_on eq law g.U.Universe.meaning c.args.version c.args.born c.args.tasks.now c.args.graph.now (arc_value c.args.own.now) c.args.keys.now c.loop-key.key-index x c.loop-key-test.true c.key-item.is xs c.loop-key.invariant.parts c.loop-key.invariant.order;
       seen = seen_same eq law c.loop-key.seen.keys c.is_new.new.seen.keys (map key_in xs) (arc_value x) c.loop-key.invariant.seen _ c.if-not-branch.true c.in_ok-is_new.ensures.seen;
     }
 
@@ -56,6 +60,9 @@ loop-key-preserved g c =
       parts = subst (λ zs. AreParts eq m c.args.version c.args.born c.args.tasks.now c.args.graph.now (arc_value c.args.own.now) (map arc_value (take (c.loop-key.key-index + 1) c.args.keys.now)) zs) (sym c.in_ok-push.ensures.items)
           (adds eq law m c.args.version c.args.born c.args.tasks.now c.args.graph.now (arc_value c.args.own.now) c.args.keys.now c.loop-key.key-index x c.loop-key-test.true c.key-item.is xs c.loop-key.invariant.parts p k c.in_ok-part.ensures.part apart
           (unseen eq law c.loop-key.seen.keys c.is_new.new.seen.keys (map key_in xs) (arc_value x) c.loop-key.invariant.seen new.1));
+      order = subst (λ zs. AreInOrder (map arc_value (take (c.loop-key.key-index + 1) c.args.keys.now)) (map key_in zs)) (sym c.in_ok-push.ensures.items)
+          (adds_on eq law m c.args.version c.args.born c.args.tasks.now c.args.graph.now (arc_value c.args.own.now) c.args.keys.now c.loop-key.key-index x c.loop-key-test.true c.key-item.is xs c.loop-key.invariant.parts p k new.0
+          (unseen eq law c.loop-key.seen.keys c.is_new.new.seen.keys (map key_in xs) (arc_value x) c.loop-key.invariant.seen new.1) c.loop-key.invariant.order);
       seen = subst (λ zs. AreSeen eq c.is_new.new.seen.keys (map key_in zs)) (sym c.in_ok-push.ensures.items) (subst (AreSeen eq c.is_new.new.seen.keys) (sym (map_last key_in xs p))
           (subst (λ z. AreSeen eq c.is_new.new.seen.keys (map key_in xs ++ z ∷ [])) (sym k)
           (seen_new eq law c.loop-key.seen.keys c.is_new.new.seen.keys (map key_in xs) (arc_value x) c.loop-key.invariant.seen _ c.if-not-branch.false c.in_ok-is_new.ensures.seen)));
@@ -68,6 +75,9 @@ returns g c =
     let keys = c.args.keys.now in
     let xs = c.loop-key.parts.items in
     let own = arc_value c.args.own.now in
-    subst (λ zs. AreParts eq m c.args.version c.args.born c.args.tasks.now c.args.graph.now own (map arc_value c.args.keys.now) zs) (sym c.reverse.ensures.items)
-    (parts_turned eq m c.args.version c.args.born c.args.tasks.now c.args.graph.now own (map arc_value c.args.keys.now) xs
-    (subst (λ ks. AreParts eq m c.args.version c.args.born c.args.tasks.now c.args.graph.now own ks xs) (ap (map arc_value) (take_all c.loop-key.key-index keys c.loop-key-test.false)) c.loop-key.invariant.parts))
+    let all = ap (map arc_value) (take_all c.loop-key.key-index keys c.loop-key-test.false) in
+    subst (λ zs. AreParts eq m c.args.version c.args.born c.args.tasks.now c.args.graph.now own (map arc_value c.args.keys.now) zs × AreLastFirst (map arc_value c.args.keys.now) (map key_in zs)) (sym c.reverse.ensures.items) (
+      parts_turned eq m c.args.version c.args.born c.args.tasks.now c.args.graph.now own (map arc_value c.args.keys.now) xs
+          (subst (λ ks. AreParts eq m c.args.version c.args.born c.args.tasks.now c.args.graph.now own ks xs) all c.loop-key.invariant.parts),
+      order_turned key_in (map arc_value c.args.keys.now) xs (subst (λ ks. AreInOrder ks (map key_in xs)) all c.loop-key.invariant.order),
+    )

@@ -2,9 +2,11 @@ use Rattle.std.proofs.Common.{◌≡◌, ◌≢◌, ◌⊎◌, [], ◌+◌, sym,
 use Rattle.std.specs.Arc.{arc_value}
 use Rattle.std.proofs.lemmas.List.{take_all}
 use Rattle.dice_key.specs.declared.universe.Kind.TheVariants.{Injected}
+use Rattle.dice_steps.specs.Orders.{AreInOrder, AreLastFirst}
 use Rattle.dice_steps.specs.Plans.{key_in, AreParts}
+use Rattle.dice_steps.proofs.OrderLemmas.{order_turned}
 use Rattle.dice_steps.proofs.PartLemmas.{parts_none, parts_turned}
-use Rattle.dice_steps.proofs.SurveyLemmas.{batch_at, comes_to_none, skips, adds}
+use Rattle.dice_steps.proofs.SurveyLemmas.{batch_at, comes_to_none, skips, skips_on, adds, adds_on}
 use Rattle.dice_steps.proofs.plan.look_over_few.Goals as goal
 use Rattle.lists.specs.Lists.{Has}
 
@@ -16,20 +18,26 @@ returns-in-Some g c =
       key = arc_value c.key-item.result;
       later = at.0;
       all = at.1;
-      earlier = comes_to_none g.U.Key.PartialEq.eq c.laws_of.ensures.keys g.U.Universe.meaning c.args.version c.args.born c.args.tasks.now c.args.graph.now (arc_value c.args.own.now) c.args.keys.now c.loop-key.key-index c.key-item.result c.loop-key-test.true c.key-item.is c.loop-key.parts.items c.loop-key.invariant;
+      earlier = comes_to_none g.U.Key.PartialEq.eq c.laws_of.ensures.keys g.U.Universe.meaning c.args.version c.args.born c.args.tasks.now c.args.graph.now (arc_value c.args.own.now) c.args.keys.now c.loop-key.key-index c.key-item.result c.loop-key-test.true c.key-item.is c.loop-key.parts.items c.loop-key.invariant.parts;
       found = rw c.in-Some.is at c.in_ok-path.ensures.some;
     }
 
 pub loop-key-init : goal.loop-key-init
 loop-key-init g c =
     let eq = g.U.Key.PartialEq.eq in
-    subst (λ zs. AreParts eq g.U.Universe.meaning c.args.version c.args.born c.args.tasks.now c.args.graph.now (arc_value c.args.own.now) [] zs) (sym c.new-parts.ensures.items) (parts_none eq g.U.Universe.meaning c.args.version c.args.born c.args.tasks.now c.args.graph.now (arc_value c.args.own.now))
+    record {
+      parts = subst (λ zs. AreParts eq g.U.Universe.meaning c.args.version c.args.born c.args.tasks.now c.args.graph.now (arc_value c.args.own.now) [] zs) (sym c.new-parts.ensures.items) (parts_none eq g.U.Universe.meaning c.args.version c.args.born c.args.tasks.now c.args.graph.now (arc_value c.args.own.now));
+      order = subst (λ zs. AreInOrder [] (map key_in zs)) (sym c.new-parts.ensures.items) (λ x y h. absurd h);
+    }
 
 pub loop-key-preserved-then-is_passed : goal.loop-key-preserved-then-is_passed
 loop-key-preserved-then-is_passed g c =
     let x = arc_value c.key-item.result in
     let passed = subst (λ zs. (g.U.Universe.meaning.kind x ≡ Injected) ⊎ Has (map key_in zs) x) c.deref.ensures.value (rw c.if-is_passed.true at c.is_passed.ensures) in
-    skips g.U.Key.PartialEq.eq c.laws_of.ensures.keys g.U.Universe.meaning c.args.version c.args.born c.args.tasks.now c.args.graph.now (arc_value c.args.own.now) c.args.keys.now c.loop-key.key-index c.key-item.result c.loop-key-test.true c.key-item.is c.loop-key.parts.items c.loop-key.invariant passed
+    record {
+      parts = skips g.U.Key.PartialEq.eq c.laws_of.ensures.keys g.U.Universe.meaning c.args.version c.args.born c.args.tasks.now c.args.graph.now (arc_value c.args.own.now) c.args.keys.now c.loop-key.key-index c.key-item.result c.loop-key-test.true c.key-item.is c.loop-key.parts.items c.loop-key.invariant.parts passed;
+      order = skips_on g.U.Key.PartialEq.eq c.laws_of.ensures.keys g.U.Universe.meaning c.args.version c.args.born c.args.tasks.now c.args.graph.now (arc_value c.args.own.now) c.args.keys.now c.loop-key.key-index c.key-item.result c.loop-key-test.true c.key-item.is c.loop-key.parts.items c.loop-key.invariant.parts c.loop-key.invariant.order;
+    }
 
 pub loop-key-preserved : goal.loop-key-preserved
 loop-key-preserved g c =
@@ -38,8 +46,14 @@ loop-key-preserved g c =
     let x = arc_value c.key-item.result in
     let new = subst (λ zs. (m.kind x ≢ Injected) × (Has (map key_in zs) x → ⊥)) c.deref.ensures.value (rw c.if-is_passed.false at c.is_passed.ensures) in
     let apart = rw c.in_default.is at c.in_ok-path.ensures.apart in
-    subst (λ zs. AreParts eq m c.args.version c.args.born c.args.tasks.now c.args.graph.now (arc_value c.args.own.now) (map arc_value (take (c.loop-key.key-index + 1) c.args.keys.now)) zs) (sym c.in_ok-push.ensures.items)
-    (adds eq c.laws_of.ensures.keys m c.args.version c.args.born c.args.tasks.now c.args.graph.now (arc_value c.args.own.now) c.args.keys.now c.loop-key.key-index c.key-item.result c.loop-key-test.true c.key-item.is c.loop-key.parts.items c.loop-key.invariant c.in_ok-part.part c.in_ok-part.ensures.key c.in_ok-part.ensures.part apart new.1)
+    let so_far = c.loop-key.invariant in
+    let xs = c.loop-key.parts.items in
+    record {
+      parts = subst (λ zs. AreParts eq m c.args.version c.args.born c.args.tasks.now c.args.graph.now (arc_value c.args.own.now) (map arc_value (take (c.loop-key.key-index + 1) c.args.keys.now)) zs) (sym c.in_ok-push.ensures.items)
+          (adds eq c.laws_of.ensures.keys m c.args.version c.args.born c.args.tasks.now c.args.graph.now (arc_value c.args.own.now) c.args.keys.now c.loop-key.key-index c.key-item.result c.loop-key-test.true c.key-item.is xs so_far.parts c.in_ok-part.part c.in_ok-part.ensures.key c.in_ok-part.ensures.part apart new.1);
+      order = subst (λ zs. AreInOrder (map arc_value (take (c.loop-key.key-index + 1) c.args.keys.now)) (map key_in zs)) (sym c.in_ok-push.ensures.items)
+          (adds_on eq c.laws_of.ensures.keys m c.args.version c.args.born c.args.tasks.now c.args.graph.now (arc_value c.args.own.now) c.args.keys.now c.loop-key.key-index c.key-item.result c.loop-key-test.true c.key-item.is xs so_far.parts c.in_ok-part.part c.in_ok-part.ensures.key new.0 new.1 so_far.order);
+    }
 
 pub returns : goal.returns
 returns g c =
@@ -48,6 +62,9 @@ returns g c =
     let keys = c.args.keys.now in
     let xs = c.loop-key.parts.items in
     let own = arc_value c.args.own.now in
-    subst (λ zs. AreParts eq m c.args.version c.args.born c.args.tasks.now c.args.graph.now own (map arc_value c.args.keys.now) zs) (sym c.reverse.ensures.items)
-    (parts_turned eq m c.args.version c.args.born c.args.tasks.now c.args.graph.now own (map arc_value c.args.keys.now) xs
-    (subst (λ ks. AreParts eq m c.args.version c.args.born c.args.tasks.now c.args.graph.now own ks xs) (ap (map arc_value) (take_all c.loop-key.key-index keys c.loop-key-test.false)) c.loop-key.invariant))
+    let all = ap (map arc_value) (take_all c.loop-key.key-index keys c.loop-key-test.false) in
+    subst (λ zs. AreParts eq m c.args.version c.args.born c.args.tasks.now c.args.graph.now own (map arc_value c.args.keys.now) zs × AreLastFirst (map arc_value c.args.keys.now) (map key_in zs)) (sym c.reverse.ensures.items) (
+      parts_turned eq m c.args.version c.args.born c.args.tasks.now c.args.graph.now own (map arc_value c.args.keys.now) xs
+          (subst (λ ks. AreParts eq m c.args.version c.args.born c.args.tasks.now c.args.graph.now own ks xs) all c.loop-key.invariant.parts),
+      order_turned key_in (map arc_value c.args.keys.now) xs (subst (λ ks. AreInOrder ks (map key_in xs)) all c.loop-key.invariant.order),
+    )

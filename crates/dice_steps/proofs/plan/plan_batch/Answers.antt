@@ -22,11 +22,11 @@ returns-then-not-is_empty-clause-plan g c =
     let version = c.version-version.ensures ∙ ap (λ (n : Name g.row.U-Key.Denot). n.version) c.name-name.ensures in
     let own = c.key-own.ensures ∙ ap (λ (n : Name g.row.U-Key.Denot). n.key) c.name-name.ensures in
     let found = rw c.in-Parts.is at c.in_ok-path.ensures in
-    let parts = parts_as eq m c.version-version.result a.name.version version c.told_so_far-born.result _ (arc_value c.key-own.result.now) a.name.key c.args.batch.now xs _ _ c.told_so_far-born.ensures own found in
+    let parts = parts_as eq m c.version-version.result a.name.version version c.told_so_far-born.result _ (arc_value c.key-own.result.now) a.name.key c.args.batch.now xs _ _ c.told_so_far-born.ensures own found.0 in
     let made = c.in_ok-waits.ensures in
     let ws = c.in_ok-waits.waits.items in
     let count : c.len-count.result ≡ length xs = omega arith in
-    waits_some eq c.laws_of.ensures.keys m a.name.version a c.args.batch.now xs _ _ _ _ _ c.args.cells.now c.reserve_parts.ensures.tasks c.reserve_parts.ensures.asks c.reserve.ensures.same parts c.args.owed c.len-count.result c.len-count.result count count (subst (λ z. ArePlaced eq z c.reserve_parts.new.tasks) c.deref.ensures.value made.placed) c.in_ok-reserve.ensures.ok ws
+    waits_some eq c.laws_of.ensures.keys m a.name.version a c.args.batch.now xs _ _ _ _ _ c.args.cells.now c.reserve_parts.ensures.tasks c.reserve_parts.ensures.asks c.reserve.ensures.same parts found.1 c.args.owed c.len-count.result c.len-count.result count count (subst (λ z. ArePlaced eq z c.reserve_parts.new.tasks) c.deref.ensures.value made.placed) c.in_ok-reserve.ensures.ok ws
     (made.waits ∙ (ap (waits_of (arc_value c.key-own.result.now)) c.deref.ensures.value ∙ ap (λ k. waits_of k xs) own)) (subst (λ k. length ws ≤ wait_room eq c.reserve_parts.new.tasks k) own made.fits)
     (let n : 0 < c.in_ok-waits.waits.len = not_empty c.is_empty.result c.in_ok-waits.waits.len c.is_empty.ensures c.if-not-is_empty.true in omega arith)
 
@@ -39,12 +39,12 @@ returns-in_default-clause-plan g c =
     let version = c.version-version.ensures ∙ ap (λ (n : Name g.row.U-Key.Denot). n.version) c.name-name.ensures in
     let own = c.key-own.ensures ∙ ap (λ (n : Name g.row.U-Key.Denot). n.key) c.name-name.ensures in
     let found = rw c.in-Parts.is at c.in_ok-path.ensures in
-    let parts = parts_as eq m c.version-version.result a.name.version version c.told_so_far-born.result _ (arc_value c.key-own.result.now) a.name.key c.args.batch.now xs _ _ c.told_so_far-born.ensures own found in
+    let parts = parts_as eq m c.version-version.result a.name.version version c.told_so_far-born.result _ (arc_value c.key-own.result.now) a.name.key c.args.batch.now xs _ _ c.told_so_far-born.ensures own found.0 in
     let made = c.in_ok-waits.ensures in
     let ws = c.in_ok-waits.waits.items in
     let count : c.len-count.result ≡ length xs = omega arith in
     let none = rw c.in_default.is at c.in_ok-answers.ensures.none in
-    waits_none eq c.laws_of.ensures.keys m a.name.version a c.args.batch.now xs _ _ _ _ _ c.args.cells.now c.reserve_parts.ensures.tasks c.reserve_parts.ensures.asks c.reserve.ensures.same parts c.args.owed c.len-count.result c.len-count.result count count (subst (λ z. ArePlaced eq z c.reserve_parts.new.tasks) c.deref.ensures.value made.placed) c.in_ok-reserve.ensures.ok ws
+    waits_none eq c.laws_of.ensures.keys m a.name.version a c.args.batch.now xs _ _ _ _ _ c.args.cells.now c.reserve_parts.ensures.tasks c.reserve_parts.ensures.asks c.reserve.ensures.same parts found.1 c.args.owed c.len-count.result c.len-count.result count count (subst (λ z. ArePlaced eq z c.reserve_parts.new.tasks) c.deref.ensures.value made.placed) c.in_ok-reserve.ensures.ok ws
     (made.waits ∙ (ap (waits_of (arc_value c.key-own.result.now)) c.deref.ensures.value ∙ ap (λ k. waits_of k xs) own)) (subst (λ k. length ws ≤ wait_room eq c.reserve_parts.new.tasks k) own made.fits)
     c.requires.0 c.args.owed c.requires.1.working none.0 none.1 (subst (λ v. HasNone eq m v c.reserve_parts.new.tasks c.args.graph.now none.0) version none.2)
 
@@ -57,11 +57,11 @@ returns-clause-plan g c =
     let version = c.version-version.ensures ∙ ap (λ (n : Name g.row.U-Key.Denot). n.version) c.name-name.ensures in
     let own = c.key-own.ensures ∙ ap (λ (n : Name g.row.U-Key.Denot). n.key) c.name-name.ensures in
     let found = rw c.in-Parts.is at c.in_ok-path.ensures in
-    let parts = parts_as eq m c.version-version.result a.name.version version c.told_so_far-born.result _ (arc_value c.key-own.result.now) a.name.key c.args.batch.now xs _ _ c.told_so_far-born.ensures own found in
+    let parts = parts_as eq m c.version-version.result a.name.version version c.told_so_far-born.result _ (arc_value c.key-own.result.now) a.name.key c.args.batch.now xs _ _ c.told_so_far-born.ensures own found.0 in
     let made = c.in_ok-waits.ensures in
     let ws = c.in_ok-waits.waits.items in
     let count : c.len-count.result ≡ length xs = omega arith in
     let some = rw c.in-Some.is at c.in_ok-answers.ensures.some in
-    goes_so eq c.laws_of.ensures.keys m a.name.version a c.args.batch.now xs _ _ _ _ _ c.args.cells.now c.reserve_parts.ensures.tasks c.reserve_parts.ensures.asks c.reserve.ensures.same parts c.args.owed c.len-count.result c.len-count.result count count (subst (λ z. ArePlaced eq z c.reserve_parts.new.tasks) c.deref.ensures.value made.placed) c.in_ok-reserve.ensures.ok ws
+    goes_so eq c.laws_of.ensures.keys m a.name.version a c.args.batch.now xs _ _ _ _ _ c.args.cells.now c.reserve_parts.ensures.tasks c.reserve_parts.ensures.asks c.reserve.ensures.same parts found.1 c.args.owed c.len-count.result c.len-count.result count count (subst (λ z. ArePlaced eq z c.reserve_parts.new.tasks) c.deref.ensures.value made.placed) c.in_ok-reserve.ensures.ok ws
     (made.waits ∙ (ap (waits_of (arc_value c.key-own.result.now)) c.deref.ensures.value ∙ ap (λ k. waits_of k xs) own)) (subst (λ k. length ws ≤ wait_room eq c.reserve_parts.new.tasks k) own made.fits)
     c.in_ok-next.next c.in-Some.answers c.in_ok-next.ensures (let n : c.in_ok-waits.waits.len ≡ 0 = none_there c.is_empty.result c.in_ok-waits.waits.len c.is_empty.ensures c.if-not-is_empty.false in omega arith) (subst (λ v. AllZip (IsAtHand eq m v c.reserve_parts.new.tasks c.args.graph.now c.args.cells.now) c.args.batch.now c.in-Some.answers) version some)
