@@ -14,7 +14,7 @@ use Rattle.action_digest.specs.declared.value.Value.TheVariants as value
 use Rattle.action_digest.specs.Buck.{buck}
 use Rattle.action_digest.specs.Same.{key_equal, value_equal}
 use Rattle.script.specs.Plan.{Change, file_in, file_after, newest, differs}
-use Rattle.dice_run.specs.Output.{pair_of_change, pairs_of_changes, log_of}
+use Rattle.script_trace.specs.Output.{pair_of_change, pairs_of_changes, log_of}
 use Rattle.dice_run.specs.Commits.{AreDistinctSources, differs_from}
 use Rattle.dice_run.specs.Driving.{paths_of}
 use Rattle.lists.specs.Lists.{AreDistinct, Has}

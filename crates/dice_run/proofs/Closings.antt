@@ -13,9 +13,9 @@ use Rattle.script.specs.Past.{Past, Table, with_entry, nothing, after, after_all
 use Rattle.script.specs.Plan.{Planned, plan_of}
 use Rattle.action_digest.specs.declared.key.Key.{Key}
 use Rattle.action_digest.specs.declared.value.Value.{Value}
-use Rattle.dice_run.specs.Output.{key_of}
+use Rattle.script_trace.specs.Output.{key_of}
 use Rattle.dice_run.specs.Seats.{Place, IsOurs, Rests}
-use Rattle.dice_run.specs.Events.{Events, Indices, AddsEnd, AddsEnds, IsDecided, IsJournalOf}
+use Rattle.script_trace.specs.Events.{Events, Indices, AddsEnd, AddsEnds, IsDecided, IsJournalOf}
 use Rattle.dice_run.specs.Driving.{transaction_of, Steps, DidClose}
 use Rattle.dice_run.specs.Recording.{WasDecided, IsRecorded, OpenedIn}
 use Rattle.dice_run.specs.Driven.{Settled, Closing, ClosesOpen}

@@ -14,7 +14,7 @@ use Rattle.action_digest.specs.declared.key.Key.{Key}
 use Rattle.action_digest.specs.declared.value.Value.{Value}
 use Rattle.action_digest.specs.Buck.{buck}
 use Rattle.action_digest.specs.Same.{key_equal}
-use Rattle.dice_run.specs.Events.{Events, IsDecidedIn}
+use Rattle.script_trace.specs.Events.{Events, IsDecidedIn}
 use Rattle.dice_run.specs.Recording.{WasDecided}
 use Rattle.dice_run.proofs.Seating.{stands_below}
 use Rattle.lists.specs.Lists.{Has}

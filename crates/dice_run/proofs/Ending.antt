@@ -12,7 +12,7 @@ use Rattle.script.specs.declared.requests.Asked.{Asked}
 use Rattle.script.specs.Past.{Past, after, nothing, after_all, fate_of, come_to, left_by, given_up, is_given_up, is_cancelled}
 use Rattle.script.specs.Order.{InOrder}
 use Rattle.script.specs.Plan.{Ends, Plan, Planned, no_plan, planned, plan_from, plan_of}
-use Rattle.dice_run.specs.Output.{key_of}
+use Rattle.script_trace.specs.Output.{key_of}
 use Rattle.dice_run.specs.Answers.{IsToldOf}
 use Rattle.journal.specs.declared.event.Told.{Told}
 use Rattle.dice_engine.specs.Turns.{log_of as engine_log}

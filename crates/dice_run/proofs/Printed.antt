@@ -19,7 +19,7 @@ use Rattle.action_digest.specs.declared.value.Value.{Value}
 use Rattle.action_digest.specs.Buck.{buck}
 use Rattle.action_digest.specs.Same.{key_equal}
 use Rattle.action_digest.specs.Cycles.{keys_of, ReachesFirst}
-use Rattle.dice_run.specs.Output.{line, log_of, key_of, told_of, cancelled_line, IsAnswered, by_value, by_cycle, IsReplied, IsRepliedAs, IsOutputFrom, IsOutput}
+use Rattle.script_trace.specs.Output.{line, log_of, key_of, told_of, cancelled_line, IsAnswered, by_value, by_cycle, IsReplied, IsRepliedAs, IsOutputFrom, IsOutput}
 use Rattle.dice_run.specs.Answers.{IsToldOf, told_value, told_cycle}
 use Rattle.dice_run.specs.Driving.{newest_from, with_named}
 use Rattle.dice_run.specs.Printing.{IsDone, Stands, IsNext, Prints, Told, Opened, MayReply, IsReply, Replies}

@@ -30,10 +30,10 @@ use Rattle.action_digest.specs.declared.key.Key.TheVariants as key
 use Rattle.action_digest.specs.declared.value.Value.{Value}
 use Rattle.action_digest.specs.Buck.{buck}
 use Rattle.action_digest.specs.Same.{key_equal, value_equal}
-use Rattle.dice_run.specs.Output.{log_of, pairs_of_changes, key_of}
+use Rattle.script_trace.specs.Output.{log_of, pairs_of_changes, key_of}
 use Rattle.dice_run.specs.Commits.{differs_from}
 use Rattle.dice_run.specs.Seats.{Place, log_in, IsOurs, Goes}
-use Rattle.dice_run.specs.Events.{Events, Indices, no_indices, IsNext, AddsLine, AddsLines, AddsAsk, IsDecidedIn, commit_events}
+use Rattle.script_trace.specs.Events.{Events, Indices, no_indices, IsNext, AddsLine, AddsLines, AddsAsk, IsDecidedIn, commit_events}
 use Rattle.dice_run.specs.Driving.{Pledge, transaction_of, pledge_of, IsPending, IsAt, IsMade, Matches, KeepsNames, with_named, DidOpen, DidAsk, DidWait, was_told, is_told, DidCancel, DidClose, Starts}
 use Rattle.dice_run.specs.Recording.{WasDecided, IsRecorded, KnowsIndices, Records, RecordsStep}
 use Rattle.dice_run.specs.declared.driver.Driver.{Driver}

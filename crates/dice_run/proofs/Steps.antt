@@ -32,7 +32,7 @@ use Rattle.action_digest.specs.declared.value.Value.TheVariants as value
 use Rattle.action_digest.specs.Buck.{buck}
 use Rattle.action_digest.specs.Same.{key_equal, value_equal}
 use Rattle.action_digest.specs.Cycles.{keys_of, ReachesFirst}
-use Rattle.dice_run.specs.Output.{log_of, pair_of_change, pairs_of_changes, key_of}
+use Rattle.script_trace.specs.Output.{log_of, pair_of_change, pairs_of_changes, key_of}
 use Rattle.dice_run.specs.Answers.{IsToldOf, told_value, told_cycle}
 use Rattle.dice_run.specs.Commits.{differs_from, with_pairs}
 use Rattle.dice_run.specs.Seats.{Place, log_in, IsOurs, Goes}

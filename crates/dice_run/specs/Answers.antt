@@ -6,7 +6,7 @@ use Rattle.action_digest.specs.declared.value.Value.{Value}
 use Rattle.action_digest.specs.Buck.{buck}
 use Rattle.action_digest.specs.Same.{key_equal}
 use Rattle.action_digest.specs.Cycles.{keys_of, IsLabelCycle, ReachesFirst}
-use Rattle.dice_run.specs.Output.{value_lines, cycle_line}
+use Rattle.script_trace.specs.Output.{value_lines, cycle_line}
 
 -- what is told of a key at v, by the log C: how its value is told, or a cycle that it reaches
 pub data IsToldOf (C : List (List (Key × Value))) (v : ℕ) (k : Key) : List ℕ → Type 0 where

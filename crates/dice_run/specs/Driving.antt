@@ -27,9 +27,9 @@ use Rattle.action_digest.specs.declared.run.Run.{Run}
 use Rattle.action_digest.specs.declared.key.Key.{Key}
 use Rattle.action_digest.specs.declared.value.Value.{Value}
 use Rattle.action_digest.specs.Buck.{buck}
-use Rattle.dice_run.specs.Output.{log_of, pairs_of_changes, key_of}
+use Rattle.script_trace.specs.Output.{log_of, pairs_of_changes, key_of}
 use Rattle.dice_run.specs.Answers.{IsToldOf}
-use Rattle.dice_run.specs.Events.{IsDecidedIn}
+use Rattle.script_trace.specs.Events.{IsDecidedIn}
 use Rattle.dice_run.specs.Seats.{log_in, IsOurs, Goes, Opens, Asks}
 use Rattle.dice_run.specs.declared.driver.Driver.{Driver}
 use Rattle.lists.specs.Lists.{AreDistinct, Has}

@@ -1,7 +1,7 @@
 -- What a run leaves.
 use Rattle.std.specs.Prelude.{◌≡◌, ℕ, List, Option, Some}
 use Rattle.script.specs.declared.line.Line.{Line}
-use Rattle.dice_run.specs.Events.{IsJournalOf}
+use Rattle.script_trace.specs.Events.{IsJournalOf}
 use Rattle.dice_run.specs.Seats.{IsOurs}
 use Rattle.dice_run.specs.declared.kept.Kept.{Kept}
 

@@ -1,4 +1,3 @@
-pub mod Output
 pub mod Run
 pub mod Commits
 pub mod Answers
@@ -6,8 +5,6 @@ pub mod Seats
 pub mod Driving
 pub mod Driven
 pub mod Printing
-pub mod Events
 pub mod Recording
 pub mod Keeping
-pub mod Tracing
 pub mod Given

@@ -9,7 +9,7 @@ use Rattle.script.specs.declared.line.Request.{Request}
 use Rattle.script.specs.Past.{Past, after, is_cancelled}
 use Rattle.script.specs.Order.{Fits}
 use Rattle.script.specs.Plan.{Plan, Planned, planned, no_plan, plan_from, plan_of}
-use Rattle.dice_run.specs.Output.{line, log_of, key_of, cancelled_line, IsPrinted}
+use Rattle.script_trace.specs.Output.{line, log_of, key_of, cancelled_line, IsPrinted}
 use Rattle.dice_run.specs.Answers.{IsToldOf}
 use Rattle.dice_run.specs.Driving.{answer_of, newest_from, with_named}
 use Rattle.dice_run.specs.declared.driver.Driver.{Driver}

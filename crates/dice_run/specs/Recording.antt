@@ -10,8 +10,8 @@ use Rattle.script.specs.declared.fate.Fate.TheVariants as fate
 use Rattle.script.specs.Past.{Table, Past, nothing, after, after_all, fate_of, is_cancelled}
 use Rattle.script.specs.Plan.{Plan, Planned, no_plan, planned, plan_of}
 use Rattle.action_digest.specs.declared.key.Key.{Key}
-use Rattle.dice_run.specs.Output.{key_of}
-use Rattle.dice_run.specs.Events.{Events, Indices, no_indices, AddsLines, AddsEnds, IsDecidedIn}
+use Rattle.script_trace.specs.Output.{key_of}
+use Rattle.script_trace.specs.Events.{Events, Indices, no_indices, AddsLines, AddsEnds, IsDecidedIn}
 use Rattle.dice_run.specs.Driving.{Pledge, transaction_of, pledge_of}
 use Rattle.dice_run.specs.declared.driver.Driver.{Driver}
 use Rattle.lists.specs.Lists.{Has}

@@ -10,8 +10,8 @@ use Rattle.dice_words.specs.declared.words.Command.TheVariants.{Run, Bulk}
 use Rattle.bulk_script.specs.Bulk.{bulk, requests}
 use Rattle.hex.specs.Hex.{encode_lower}
 use Rattle.sha2.specs.Sha256.{sha256}
-use Rattle.dice_run.specs.Output.{line}
-use Rattle.dice_run.specs.Tracing.{IsPrintout}
+use Rattle.script_trace.specs.Output.{line}
+use Rattle.script_trace.specs.Tracing.{IsPrintout}
 use Rattle.dice_run.specs.Keeping.{IsKeptWith}
 use Rattle.dice_run.specs.declared.kept.Kept.{Kept}
 use Rattle.dice_run.specs.declared.status.Status.{Status}

@@ -1,7 +1,7 @@
 //! Texts that are appended to the output.
 ghost use Rattle.std.specs.Prelude.{◌≡◌, ◌++◌, OnOk, decimal, flat_map};
-ghost use Rattle.dice_run.specs.Output.{line};
-ghost use Rattle.dice_run.specs.Tracing.{trace_text};
+ghost use Rattle.script_trace.specs.Output.{line};
+ghost use Rattle.script_trace.specs.Tracing.{trace_text};
 
 use dice_key::{Line, NoMemory};
 use itoa::Buffer;

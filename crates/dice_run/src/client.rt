@@ -8,7 +8,7 @@ ghost use Rattle.dice_engine.specs.Lines.{AreLines};
 ghost use Rattle.dice_key.specs.declared.universe.Kind.TheVariants.{Injected};
 ghost use Rattle.action_digest.specs.Buck.{buck};
 ghost use Rattle.dice_run.specs.Commits.{AreDistinctSources};
-ghost use Rattle.dice_run.specs.Events.{IsDecidedIn};
+ghost use Rattle.script_trace.specs.Events.{IsDecidedIn};
 ghost use Rattle.dice_run.specs.Seats.{IsOurs, log_in, Commits, Opens, Asks, Goes, IsCome};
 
 use action_digest::{Buck, Key, Value};

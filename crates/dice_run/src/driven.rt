@@ -1,7 +1,7 @@
 //! Whole scripts, driven on an engine.
 ghost use Rattle.std.specs.Prelude.{◌≡◌, ◌∷◌, ◌++◌, ℕ, List, [], OnOk, IfOk};
-ghost use Rattle.dice_run.specs.Tracing.{IsTraceOf, IsPrintout};
-ghost use Rattle.dice_run.specs.Events.{IsJournalOf};
+ghost use Rattle.script_trace.specs.Tracing.{IsTraceOf, IsPrintout};
+ghost use Rattle.script_trace.specs.Events.{IsJournalOf};
 ghost use Rattle.dice_run.specs.Seats.{IsOurs, Rests};
 ghost use Rattle.dice_run.specs.Driving.{Starts, HasIfHeld};
 ghost use Rattle.script.specs.declared.line.Line.{Line};

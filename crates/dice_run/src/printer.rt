@@ -1,6 +1,6 @@
 //! The output of a script, from what was done.
 ghost use Rattle.std.specs.Prelude.{◌≡◌, ◌∷◌, ℕ, List, OnOk, IfOk, drop};
-ghost use Rattle.dice_run.specs.Output.{IsOutput};
+ghost use Rattle.script_trace.specs.Output.{IsOutput};
 ghost use Rattle.dice_run.specs.Printing.{IsDone, IsNext, Prints, Told, Opened, MayReply, Replies};
 
 use crate::append;

@@ -7,7 +7,7 @@ ghost use Rattle.action_digest.specs.Buck.{buck};
 ghost use Rattle.action_digest.specs.Cycles.{ReachesFirst};
 ghost use Rattle.dice_model.specs.Asks.{IsCycle};
 ghost use Rattle.dice_run.specs.Seats.{IsCome};
-ghost use Rattle.dice_run.specs.Output.{fault_line, digest_line, action_lines, value_lines, labels_text, cycle_line};
+ghost use Rattle.script_trace.specs.Output.{fault_line, digest_line, action_lines, value_lines, labels_text, cycle_line};
 
 use crate::append;
 use crate::client::Came;

@@ -1,5 +1,5 @@
 use Rattle.std.proofs.Common.{◌≡◌, ◌++◌, take, flat_map}
-use Rattle.dice_run.specs.Output.{line}
+use Rattle.script_trace.specs.Output.{line}
 use Rattle.dice_run.proofs.append.lines.Given as goal
 
 abbrev pub invariant-loop-line : goal.invariant-loop-line

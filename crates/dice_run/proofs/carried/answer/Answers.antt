@@ -2,7 +2,7 @@ use Rattle.std.proofs.Common.{◌≡◌, ◌∙◌, ◌++◌, ap, sym, subst, co
 use Rattle.script.specs.Words.{text_of}
 use Rattle.script.specs.Reading.{IsRead}
 use Rattle.script.specs.declared.fault.ScriptRefusal.{ScriptRefusal}
-use Rattle.dice_run.specs.Output.{line}
+use Rattle.script_trace.specs.Output.{line}
 use Rattle.dice_run.specs.Run.{Refuses, too_long, faulty}
 use Rattle.dice_run.proofs.carried.answer.Goals as goal
 

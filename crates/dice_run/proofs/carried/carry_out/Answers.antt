@@ -1,6 +1,6 @@
 use Rattle.std.proofs.Common.{IfOk, OnOk, refl, subst}
-use Rattle.dice_run.specs.Events.{IsJournalOf}
-use Rattle.dice_run.specs.Tracing.{IsPrintout}
+use Rattle.script_trace.specs.Events.{IsJournalOf}
+use Rattle.script_trace.specs.Tracing.{IsPrintout}
 use Rattle.dice_run.proofs.carried.carry_out.Goals as goal
 
 pub returns-clause-answers : goal.returns-clause-answers

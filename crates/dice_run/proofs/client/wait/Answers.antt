@@ -4,7 +4,7 @@ use Rattle.journal.specs.declared.event.Told.{Told}
 use Rattle.journal.specs.Events.{ByValue, ByCycle, decided}
 use Rattle.action_digest.specs.declared.key.Key.{Key}
 use Rattle.action_digest.specs.declared.value.Value.{Value}
-use Rattle.dice_run.specs.Events.{IsDecidedIn}
+use Rattle.script_trace.specs.Events.{IsDecidedIn}
 use Rattle.std.specs.Arc.{arc_value}
 use Rattle.dice_engine.specs.Replies.{IsReply, settled_of}
 use Rattle.action_digest.specs.Buck.{buck}

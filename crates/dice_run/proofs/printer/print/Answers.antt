@@ -1,6 +1,6 @@
 use Rattle.std.proofs.Common.{◌≡◌, ◌+◌, sym, ap, subst, List, [], ◌∷◌, drop, rules}
 use Rattle.script.specs.declared.line.Line.{Line}
-use Rattle.dice_run.specs.Output.{IsOutput}
+use Rattle.script_trace.specs.Output.{IsOutput}
 use Rattle.dice_run.proofs.Ending.{drop_whole}
 use Rattle.dice_run.proofs.Printed.{Printing, printing_more, printing_end}
 use Rattle.dice_run.proofs.printer.print.Goals as goal

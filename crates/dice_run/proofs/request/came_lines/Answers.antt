@@ -6,7 +6,7 @@ use Rattle.action_digest.specs.Same.{key_equal}
 use Rattle.action_digest.specs.Cycles.{ReachesFirst}
 use Rattle.dice_run.specs.declared.client.Came.{Came}
 use Rattle.dice_run.specs.Seats.{IsCome}
-use Rattle.dice_run.specs.Output.{value_lines}
+use Rattle.script_trace.specs.Output.{value_lines}
 use Rattle.dice_run.specs.Answers.{IsToldOf, told_value}
 use Rattle.dice_run.proofs.request.came_lines.Goals as goal
 

@@ -1,5 +1,5 @@
 use Rattle.std.proofs.Common.{◌≡◌, ◌++◌, drop}
-use Rattle.dice_run.specs.Output.{labels_text}
+use Rattle.script_trace.specs.Output.{labels_text}
 use Rattle.dice_run.proofs.request.labels.Given as goal
 
 -- with the labels that are left, all stand behind the output

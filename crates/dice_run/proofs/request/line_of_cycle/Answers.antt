@@ -1,5 +1,5 @@
 use Rattle.std.proofs.Common.{◌≡◌, sym, subst, rules}
-use Rattle.dice_run.specs.Output.{cycle_line}
+use Rattle.script_trace.specs.Output.{cycle_line}
 use Rattle.dice_run.specs.Answers.{IsToldOf, told_cycle}
 use Rattle.dice_run.proofs.request.line_of_cycle.Goals as goal
 

@@ -1,5 +1,5 @@
 use Rattle.std.proofs.Common.{◌≡◌, ◌++◌, rules}
-use Rattle.dice_run.specs.Tracing.{trace_text}
+use Rattle.script_trace.specs.Tracing.{trace_text}
 use Rattle.dice_run.proofs.Traced.{trace_of}
 use Rattle.dice_run.proofs.driver.Driver.with_trace.Goals as goal
 

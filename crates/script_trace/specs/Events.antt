@@ -15,7 +15,7 @@ use Rattle.action_digest.specs.declared.key.Key.{Key}
 use Rattle.action_digest.specs.declared.value.Value.{Value}
 use Rattle.action_digest.specs.Buck.{buck}
 use Rattle.action_digest.specs.Same.{key_equal}
-use Rattle.dice_run.specs.Output.{pairs_of_changes, key_of}
+use Rattle.script_trace.specs.Output.{pairs_of_changes, key_of}
 use Rattle.lists.specs.Lists.{Has}
 
 abbrev pub Events : Type 0

@@ -1,0 +1,12 @@
+pub mod Spelled
+pub mod Pieces
+pub mod Reading
+pub mod Numbers
+pub mod Commits
+pub mod Words
+pub mod Sources
+pub mod Chains
+pub mod Lines
+pub mod Owned
+pub mod Keys
+pub mod Traces
