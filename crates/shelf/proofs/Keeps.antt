@@ -1,5 +1,5 @@
 -- Each step keeps the rule of the shelf.
-use Rattle.std.proofs.Common.{◌≡◌, ◌≢◌, ◌⊎◌, Bool, ℕ, List, [], ◌∷◌, ◌++◌, map, fold, set, refl, sym, ap, ◌∙◌, subst, ⊎_elim, append_assoc, append-nil, Result, Ok, Err, MatchResult, IfOk}
+use Rattle.std.proofs.Common.{◌≡◌, ◌≢◌, Bool, ℕ, List, [], ◌∷◌, ◌++◌, map, fold, set, refl, sym, ap, ◌∙◌, subst, ⊎_elim, append_assoc, append-nil, Result, Ok, Err, MatchResult, IfOk}
 use Rattle.std.proofs.lemmas.List.Sums.{fold-append}
 use mathlib.Core.List.{IsPrefix}
 use mathlib.Core.Option.{some, some-ne-none}
