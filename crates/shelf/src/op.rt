@@ -1,0 +1,69 @@
+//! What is put on the shelf.
+ghost use Rattle.std.specs.Prelude.{◌≡◌, IfOk};
+ghost use Rattle.std.specs.Arc.{arc_value};
+ghost use Rattle.std.specs.Option.{option_map};
+ghost use Rattle.shelf.specs.Ops.{plain, is_row, value_of};
+
+use dice_key::NoMemory;
+use std::alloc::AllocError;
+use std::collections::LinkedList;
+use std::sync::Arc;
+
+/// An operation: a commit of changes, or a row, which is the value of a key at a version.
+pub enum ShelfOp<K: Drop, V: Drop> {
+    Commit(Arc<Vec<(Arc<K>, Arc<V>)>>),
+    Row(u64, Arc<K>, Arc<V>),
+}
+
+/// An operation as plain data. It serves contracts alone: no value of it is made.
+pub enum Plain<K, V> {
+    Commit(LinkedList<(K, V)>),
+    Row(u64, K, V),
+}
+
+impl<K: Drop, V: Drop> Drop for ShelfOp<K, V> {
+    fn drop(self) {
+        match self {
+            ShelfOp::Commit(_changes) => {}
+            ShelfOp::Row(_, _key, _value) => {}
+        }
+    }
+}
+
+impl<K: Drop, V: Drop> ShelfOp<K, V> {
+    // The same operation, which shares what it holds.
+    pub(crate) fn again(&self) -> Result<ShelfOp<K, V>, AllocError>
+        ensures { IfOk result (λ x. plain x ≡ plain self.now) }
+    {
+        match self {
+            ShelfOp::Commit(changes) => Ok(ShelfOp::Commit(Arc::try_clone(changes)?)),
+            ShelfOp::Row(version, key, value) => Ok(ShelfOp::Row(
+                *version,
+                Arc::try_clone(key)?,
+                Arc::try_clone(value)?,
+            )),
+        }
+    }
+
+    // The value, if it is a row.
+    pub(crate) fn value(&self) -> Option<&Arc<V>>
+        ensures { option_map (λ x. arc_value x.now) result ≡ value_of (plain self.now) }
+    {
+        match self {
+            ShelfOp::Commit(_) => None,
+            ShelfOp::Row(_, _, value) => Some(value),
+        }
+    }
+}
+
+impl<K: Eq + Drop, V: Drop> ShelfOp<K, V> {
+    // Whether it is the row of that version and key.
+    pub(crate) fn is_row(&self, version: u64, key: &K) -> bool
+        ensures { result ≡ is_row (K.eq key.now) version (plain self.now) }
+    {
+        match self {
+            ShelfOp::Commit(_) => false,
+            ShelfOp::Row(at, of, _) => *at == version && *key == **of,
+        }
+    }
+}
