@@ -11,6 +11,8 @@ pub mod GivingUp
 pub mod JobsLemmas
 pub mod JoinLemmas
 pub mod OpeningLemmas
+pub mod OrderLemmas
+pub mod OwnLemmas
 pub mod PollLemmas
 pub mod PublicLemmas
 pub mod ResultLemmas

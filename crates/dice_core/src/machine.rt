@@ -7,6 +7,7 @@ ghost use Rattle.std.specs.Arc.{arc_value};
 ghost use Rattle.dice_key.specs.declared.universe.Kind.TheVariants.{Injected};
 ghost use Rattle.dice_model.specs.Eval.{HasValue};
 ghost use Rattle.dice_model.specs.Asks.{AsksFor};
+ghost use Rattle.dice_jobs.specs.Alike.{AnsweredTruly, IsAnsweredIn};
 ghost use Rattle.task_share.specs.Asked.{Tasked};
 ghost use Rattle.task_share.specs.Seen.{task_at, asks, asked_of};
 ghost use Rattle.journal.specs.Events.{Opened, Asking, commits_of, decided, open_at, open_count, opened_at, live_at, lost_in_epoch, event_of};
@@ -29,12 +30,12 @@ ghost use Rattle.dice_core.specs.Staying.{AnswersStay, LosesWaitersOnly};
 ghost use Rattle.lists.specs.Lists.{Has};
 
 use crate::commit::{CommitRefusal, commit};
-use crate::giving::{Gave, give_in};
+use crate::giving::{Gave, give_in, is_like_out, take_up};
 use crate::jobs_out::{bring_back, fail_named, take_next};
 use crate::opening::{ask_in, close_in, leave_ask, open_at_newest};
 use crate::polled::Polled;
 use crate::sessions::Sessions;
-use dice_jobs::{Job, JobName, Step};
+use dice_jobs::{Job, JobName, Step, true_jobs_are_one};
 use dice_key::{KeyRef, Kind, NoMemory, Universe, ValueRef, Version, laws_of};
 use dice_tasks::{Desk, Tasks};
 use injected::{Cells, cells_are_the_inputs};
@@ -288,10 +289,14 @@ impl<U: Universe> Core<U> {
     pub fn take_job(&mut self) -> Option<Job<U>>
         ensures none { IfNone result ((self.old.desk.ready ≡ []) × (self.new ≡ self.old)) }
         ensures some { IfSome result (λ j. TakesOut U.Key.eq j self.old self.new) }
+
+        // If the job computes, its answers are the values at its version, which is no later than the newest one.
+        ensures answered { IfSome result (IsAnsweredIn U.Key.eq U.meaning (commits_of (past_of self.new))) }
         ensures events { events_of self.new ≡ events_of self.old }
         ensures rest { (self.new.entries ≡ self.old.entries) × (self.new.cells ≡ self.old.cells) × (self.new.sessions ≡ self.old.sessions) }
     {
         laws_of::<U>();
+        self.desk.turn();
         take_next(&mut self.desk, &mut self.versions)
     }
 
@@ -342,6 +347,35 @@ impl<U: Universe> Core<U> {
         laws_of::<U>();
         let owed = self.sessions.owed();
         give_in(
+            self.alloc,
+            &*self.universe,
+            &self.cells,
+            &mut self.graph,
+            &mut self.desk,
+            &mut self.versions,
+            owed,
+            step,
+        )
+    }
+
+    /// Takes up a step of which it is known that its answers are the values at its version, as of a job that this core gave out. All is
+    /// as by `give`; but the answers of a run are not compared, since no other answers could be as many.
+    pub fn give_own(&mut self, step: Step<U>) -> Result<Gave<U>, (NoMemory, Step<U>)>
+        requires { AnsweredTruly U.Key.eq U.meaning (commits_of (past_of self.old)) step.job }
+        ensures stale { IfOk result (λ g. IfSome (stale_of g) (λ s. (s ≡ step) × (IsJobOut U.Key.eq self.old step.job → ⊥) × (self.new ≡ self.old))) }
+        ensures taken { IfOk result (λ g. IfNone (stale_of g) (Turned U.Key.eq U.meaning step.job.name.version self.old.tables self.new.tables (λ ps qs. Gives U.Key.eq step.job.name.version step ps qs self.old.desk self.new.desk))) }
+        ensures does { IfOk result (λ g. IfNone (stale_of g) (Turned U.Key.eq U.meaning step.job.name.version self.old.tables self.new.tables (λ ps qs. IsTakenUp U.Key.eq U.meaning U.Value.eq step.job.name.version step self.old.cells ps qs self.old.entries self.new.entries self.old.desk self.new.desk step.outcome))) }
+        ensures rest { (self.new.cells ≡ self.old.cells) × (self.new.sessions ≡ self.old.sessions) }
+        ensures step { IfErr result (λ e. e.1 ≡ step) }
+        ensures err { OnErr result (IsJobOut U.Key.eq self.old step.job × IsAsBefore U.Key.eq self.old self.new) }
+    {
+        laws_of::<U>();
+        true_jobs_are_one::<U>();
+        if !is_like_out(&self.versions, &step) {
+            return Ok(Gave::Stale(step));
+        }
+        let owed = self.sessions.owed();
+        take_up(
             self.alloc,
             &*self.universe,
             &self.cells,

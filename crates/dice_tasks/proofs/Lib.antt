@@ -8,6 +8,7 @@ pub mod EndedLemmas
 pub mod EndsLemmas
 pub mod EntriesLemmas
 pub mod Laid
+pub mod LineLemmas
 pub mod Lists
 pub mod LooksLemmas
 pub mod MakeFrames

@@ -5,5 +5,6 @@ pub mod Hands
 pub mod Helds
 pub mod Loads
 pub mod Makings
+pub mod Orders
 pub mod Shelves
 pub mod Waitings

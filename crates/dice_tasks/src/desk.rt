@@ -3,9 +3,11 @@ ghost use Rattle.std.specs.Prelude.{◌≡◌, ◌<◌, ◌≤◌, ◌+◌, ◌*
 ghost use Rattle.std.specs.Arc.{arc_value};
 ghost use Rattle.journal.specs.Tell.{told};
 ghost use Rattle.dice_tasks.specs.Hands.{place_at, with_event, with_made, with_ended, with_told_next, KeepsHands, KeepsDeskRoom, HasDeskRoom, Takes, Returns, Leaves, Readies, Unreadies};
+ghost use Rattle.dice_tasks.specs.Orders.{Reorders};
 ghost use Rattle.dice_tasks.specs.Shelves.{place_of};
 ghost use Rattle.lists.specs.Lists.{Has};
 
+use crate::line::Line;
 use crate::shelf::{ReadyTask, Shelf, index_of, put_back, put_in, take_away, take_out};
 use dice_key::{KeyRef, NoMemory, Universe};
 use indexmap::IndexSet;
@@ -19,6 +21,7 @@ pub struct Desk<U: Universe> {
     /// The ready tasks, and then those that are out.
     at_hand: Shelf<U>,
     ready: usize,
+    line: Line,
     ready_room: usize,
     live: usize,
     live_room: usize,
@@ -32,6 +35,7 @@ impl<U: Universe> Drop for Desk<U> {
             journal: _journal,
             at_hand: _at_hand,
             ready: _,
+            line: _,
             ready_room: _,
             live: _,
             live_room: _,
@@ -65,6 +69,7 @@ impl<U: Universe> Desk<U> {
             journal: Journal::new(alloc),
             at_hand: IndexSet::new(alloc),
             ready: 0,
+            line: Line::new(),
             ready_room: 0,
             live: 0,
             live_room: 0,
@@ -120,7 +125,16 @@ impl<U: Universe> Desk<U> {
         self.journal.push_reserved(event);
     }
 
-    /// The ready task that is to be taken next.
+    /// Brings the ready task that is to be taken next to the end of the ready ones. It takes no memory.
+    pub fn turn(&mut self)
+        ensures { Reorders self.old self.new }
+    {
+        if self.ready > 0 && !self.line.goes_on::<U>(&self.at_hand, self.ready) {
+            self.line.call::<U>(&mut self.at_hand, self.ready);
+        }
+    }
+
+    /// The ready task that is to be taken next, after a turn.
     pub fn next_ready(&self) -> Option<&ReadyTask<U::Key>>
         ensures some { IfSome result (λ r. (ps : List (ℕ × U.Key)) × (self.now.ready ≡ ps ++ place_of r.now ∷ [])) }
         ensures none { IfNone result (self.now.ready ≡ []) }
@@ -193,6 +207,7 @@ impl<U: Universe> Desk<U> {
         ensures { Unreadies (version, arc_value key.now) self.old self.new }
     {
         self.ready -= 1;
+        self.line.shorten(self.ready);
         take_out::<U>(&mut self.at_hand, self.ready, version, key);
     }
 

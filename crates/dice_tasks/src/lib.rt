@@ -4,6 +4,7 @@
 mod anew;
 mod desk;
 mod end;
+mod line;
 mod making;
 mod shelf;
 mod task;
