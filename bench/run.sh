@@ -93,6 +93,16 @@ one_file() {
     }'
 }
 
+# a file of n targets, which are all asked
+file_asked() {
+    awk -v n="$1" 'BEGIN {
+        text = ""
+        for (i = 0; i < n; i++) text = text sprintf("write_file(name = \"t%d\", content = \"0\")\n", i)
+        printf "put a/BUCK %d\n%s\ncommit\nopen t\n", length(text), text
+        for (i = 0; i < n; i++) printf "ask t r%d //a:t%d\n", i, i
+    }'
+}
+
 # a chain of 2,000 targets in twenty packages, whose end changes; or under which the comment of a package changes
 chain() {
     awk -v comment="$1" 'BEGIN {
@@ -227,6 +237,7 @@ script '40 packages with target files of 100 KB, one target of each asked' large
 script 'one of 2,000 targets changed and asked, 2,000 times' own
 script 'the lowest of 2,000 targets changed, forty stand on it, 200 times' leaf
 script 'one of 1,000 targets in a file edited, an equal one asked' one_file 1000 0
+for n in 1000 5000 10000; do script "a file of $n targets, all asked" file_asked "$n"; done
 for n in 1000 5000; do script "one of $n targets in a file edited, all asked" one_file "$n" 1; done
 script 'a chain of 2,000 targets in 20 packages whose end changed' chain ''
 script 'such a chain, and a comment of its lowest package changed' chain 1

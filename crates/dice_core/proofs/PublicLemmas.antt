@@ -1,6 +1,6 @@
 -- What the public calls say, by what they do over the tables of all versions.
 use Rattle.std.proofs.Common.{◌≡◌, ◌↔◌, IsTrue, ◌⊎◌, inl, inr, ◌++◌, ℕ, Bool, true, false, cond, eqb, eq-eqb, List, [], ◌∷◌, map, Option, Some, None, refl, sym, ap, ◌∙◌, subst, append_assoc}
-use Rattle.std.specs.Prelude.{IfSome}
+use Rattle.std.specs.Prelude.{IfSome, reverse}
 use Rattle.std.specs.List.{list_any}
 use Rattle.std.proofs.lemmas.Bool.{eqb-true}
 use Rattle.std.proofs.lemmas.Option.{same_Some}
@@ -11,15 +11,18 @@ use Rattle.injected.specs.Seen.{Seen}
 use Rattle.journal.specs.declared.event.Told.TheVariants.{Lost, Drop}
 use Rattle.versioned_graph.specs.Entries.{Stored}
 use Rattle.dice_jobs.specs.Jobs.{Assigned}
-use Rattle.core_laws.specs.Tasks.{IsOut, Outcome, WithNothing}
+use Rattle.dice_jobs.specs.Alike.{IsAnsweredIn}
+use Rattle.journal.specs.Events.{commits_of}
+use Rattle.core_laws.specs.Tasks.{IsReady, IsOut, Outcome, WithNothing}
 use Rattle.core_laws.specs.Desk.{out_in}
 use Rattle.dice_tasks.specs.Endings.{told_end, GivesUpAll}
 use Rattle.dice_tasks.specs.Hands.{DeskSeen}
 use Rattle.dice_tasks.specs.Helds.{Held, held_of, held_ended}
 use Rattle.dice_core.specs.Sessions.{SessionsSeen}
 use Rattle.dice_tasks.specs.Waitings.{TakesJob}
-use Rattle.dice_core.specs.Cores.{table_at, core_of, PutsTable, Turned, TakesOut, GivesUpOnly}
+use Rattle.dice_core.specs.Cores.{table_at, core_of, PutsTable, Turned, CoreStands, TakesOut, GivesUpOnly}
 use Rattle.dice_core.proofs.CoreLemmas.{table_put}
+use Rattle.dice_core.proofs.OwnLemmas.{answered_in}
 use Rattle.dice_core.proofs.ResultLemmas.{takes_out}
 use Rattle.lists.specs.Lists.{Has}
 
@@ -28,6 +31,13 @@ module _ {K V : Type 0} (eq : K → K → Bool) (equality : IsEquality eq) (m : 
   pub some_out : (o : Option (Assigned K V)) → IfSome o (λ j. Turned eq m j.name.version ts us (λ a b. TakesJob eq j.name.version j.name.key j a b d e)) → IfSome o (λ j. TakesOut eq j (core_of d ts es s x) (core_of e us es s x))
   some_out None h = tt
   some_out (Some j) h = takes_out eq equality m law j d e ts us es s x h.tasks h.put h.turned
+
+  -- and its answers are the values at its version
+  pub some_answered : CoreStands eq m (core_of d ts es s x) → (o : Option (Assigned K V)) → IfSome o (λ j. Turned eq m j.name.version ts us (λ a b. TakesJob eq j.name.version j.name.key j a b d e)) → IfSome o (IsAnsweredIn eq m (commits_of (reverse e.events)))
+  some_answered st None h = tt
+  some_answered st (Some j) h =
+      let out = takes_out eq equality m law j d e ts us es s x h.tasks h.put h.turned in
+      subst (λ J. IsAnsweredIn eq m (commits_of (reverse J)) j) (sym h.turned.desk.rest.events) (answered_in eq m (core_of d ts es s x) st.rests.each j IsReady out.was)
 
   -- all that is told of tasks that are lost
   module _ (v : ℕ) (k : K) (qs : List (K × Share K (Held K V))) (put : PutsTable v qs ts us) (g : GivesUpAll eq v None k (table_at ts v) qs d e) where

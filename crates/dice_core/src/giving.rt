@@ -1,8 +1,10 @@
 //! Steps that are given, over the tasks of all versions.
 ghost use Rattle.std.specs.Prelude.{◌≡◌, ◌↔◌, ◌<◌, ℕ, List, Some, IsTrue, true, IfOk, IfErr, IfSome, IfNone, OnOk, OnErr};
 ghost use Rattle.std.specs.Arc.{arc_value};
+ghost use Rattle.std.specs.Option.{option_copied};
 ghost use Rattle.task_share.specs.Seen.{task_at};
-ghost use Rattle.dice_jobs.specs.Jobs.{Wanting};
+ghost use Rattle.dice_jobs.specs.Jobs.{Assigned, Wanting};
+ghost use Rattle.dice_jobs.specs.Alike.{AreAlike};
 ghost use Rattle.core_laws.specs.Tasks.{IsOut};
 ghost use Rattle.core_laws.specs.Desk.{World};
 ghost use Rattle.dice_steps.specs.AtHand.{AtHand};
@@ -12,10 +14,10 @@ ghost use Rattle.dice_tasks.specs.Helds.{held_of};
 ghost use Rattle.dice_core.specs.Joinings.{KeepsAtHand};
 ghost use Rattle.dice_core.specs.Sessions.{SessionsSeen, owed as owed_of};
 
-use dice_jobs::{Report, Step};
+use dice_jobs::{JobName, Report, Step};
 use dice_key::{NoMemory, Universe, laws_of};
 use dice_steps::{ask_batch, differs, done, same};
-use dice_tasks::{Desk, Tasks};
+use dice_tasks::{Desk, Task, Tasks};
 use injected::Cells;
 use std::alloc::Global;
 use std::collections::HashMap;
@@ -50,13 +52,36 @@ pub(crate) fn give_in<U: Universe>(
     ensures err { OnErr result ((task_at U.Key.eq (table_at versions.old.entries step.job.name.version) step.job.name.key ≡ Some (held_of step.job IsOut)) × ((x : SessionsSeen U.Key) → IsAsBefore U.Key.eq (core_of desk.old versions.old.entries graph.old cells.now x) (core_of desk.new versions.new.entries graph.new cells.now x))) }
     ensures kept { OnOk result ((x : SessionsSeen U.Key) → owed ≡ owed_of x → CoreStands U.Key.eq U.meaning (core_of desk.old versions.old.entries graph.old cells.now x) → CoreStands U.Key.eq U.meaning (core_of desk.new versions.new.entries graph.new cells.now x)) }
 {
-    laws_of::<U>();
     if !is_of_out::<U>(versions, &step) {
         return Ok(Gave::Stale(step));
     }
+    take_up::<U>(alloc, universe, cells, graph, desk, versions, owed, step)
+}
+
+/// Takes up a step of the job of a task that is out. Where memory is refused all is as before, and the step is handed back.
+pub(crate) fn take_up<U: Universe>(
+    alloc: Global,
+    universe: &U,
+    cells: &Cells<U>,
+    graph: &mut Graph<U>,
+    desk: &mut Desk<U>,
+    versions: &mut HashMap<u64, Tasks<U>>,
+    owed: usize,
+    step: Step<U>,
+) -> Result<Gave<U>, (NoMemory, Step<U>)>
+    requires stands { (x : SessionsSeen U.Key) × CoreStands U.Key.eq U.meaning (core_of desk.old versions.old.entries graph.old cells.now x) × (owed ≡ owed_of x) }
+    requires out { task_at U.Key.eq (table_at versions.old.entries step.job.name.version) step.job.name.key ≡ Some (held_of step.job IsOut) }
+    ensures fresh { IfOk result (λ g. IfSome (stale_of g) (λ s. ⊥)) }
+    ensures taken { IfOk result (λ g. IfNone (stale_of g) (Turned U.Key.eq U.meaning step.job.name.version versions.old.entries versions.new.entries (λ ps qs. Gives U.Key.eq step.job.name.version step ps qs desk.old desk.new))) }
+    ensures does { IfOk result (λ g. IfNone (stale_of g) (Turned U.Key.eq U.meaning step.job.name.version versions.old.entries versions.new.entries (λ ps qs. IsTakenUp U.Key.eq U.meaning U.Value.eq step.job.name.version step cells.now ps qs graph.old graph.new desk.old desk.new step.outcome))) }
+    ensures step { IfErr result (λ e. e.1 ≡ step) }
+    ensures err { OnErr result ((x : SessionsSeen U.Key) → IsAsBefore U.Key.eq (core_of desk.old versions.old.entries graph.old cells.now x) (core_of desk.new versions.new.entries graph.new cells.now x)) }
+    ensures kept { OnOk result ((x : SessionsSeen U.Key) → owed ≡ owed_of x → CoreStands U.Key.eq U.meaning (core_of desk.old versions.old.entries graph.old cells.now x) → CoreStands U.Key.eq U.meaning (core_of desk.new versions.new.entries graph.new cells.now x)) }
+{
+    laws_of::<U>();
     let version = step.assignment().name().version();
     let Some(tasks) = versions.get_mut(&version) else {
-        return Ok(Gave::Stale(step));
+        unreachable!();
     };
     take_step::<U>(alloc, universe, cells, graph, desk, tasks, owed, step)
 }
@@ -65,14 +90,31 @@ pub(crate) fn give_in<U: Universe>(
 fn is_of_out<U: Universe>(versions: &HashMap<u64, Tasks<U>>, step: &Step<U>) -> bool
     ensures { IsTrue result ↔ (task_at U.Key.eq (table_at versions.now.entries step.now.job.name.version) step.now.job.name.key ≡ Some (held_of step.now.job IsOut)) }
 {
-    let name = step.assignment().name();
-    let Some(tasks) = versions.get(&name.version()) else {
-        return false;
-    };
-    match tasks.task(name.key()) {
+    match task_named(versions, step.assignment().name()) {
         Some(task) => task.is_of(step),
         None => false,
     }
+}
+
+/// Whether the job of a task that is out is alike the step's.
+pub(crate) fn is_like_out<U: Universe>(versions: &HashMap<u64, Tasks<U>>, step: &Step<U>) -> bool
+    ensures { IsTrue result ↔ ((j : Assigned U.Key U.Value) × (task_at U.Key.eq (table_at versions.now.entries step.now.job.name.version) step.now.job.name.key ≡ Some (held_of j IsOut)) × AreAlike step.now.job j) }
+{
+    match task_named(versions, step.assignment().name()) {
+        Some(task) => task.is_like(step),
+        None => false,
+    }
+}
+
+/// The task of the key and the version of this name.
+fn task_named<'a, U: Universe>(
+    versions: &'a HashMap<u64, Tasks<U>>,
+    name: &JobName<U>,
+) -> Option<&'a Task<U>>
+    ensures { option_copied result ≡ task_at U.Key.eq (table_at versions.now.entries name.now.version) name.now.key }
+{
+    let tasks = versions.get(&name.version())?;
+    tasks.task(name.key())
 }
 
 /// Takes up a step of the job of a task that is out, among the tasks of its version.

@@ -3,6 +3,7 @@ ghost use Rattle.std.specs.Prelude.{◌≡◌, ◌≢◌, ℕ, List, [], ◌∷�
 ghost use Rattle.std.specs.Arc.{arc_value};
 ghost use Rattle.std.specs.Map.{keys_of};
 ghost use Rattle.journal.specs.Events.{Opened, Asking, open_at, live_at};
+ghost use Rattle.dice_jobs.specs.Alike.{AnsweredTruly, IsAnsweredIn};
 ghost use Rattle.dice_core.specs.Commits.{Fault, fault_of, AreSettable, IsFirstFault};
 ghost use Rattle.journal.specs.declared.event.Told.{Told};
 ghost use Rattle.journal.specs.declared.event.Told.TheVariants.{Ask};
@@ -239,6 +240,7 @@ impl<U: Universe> State<U> {
         ensures adds { Adds U.Key.eq U.meaning 0 (events_of self.old.core.value) (events_of self.new.core.value) AddsNothing }
         ensures goes { GoesOut U.Key.eq result self.old.core.value self.new.core.value }
         ensures none { IfNone result (self.new.core.value.desk.ready ≡ []) }
+        ensures answered { IfSome result (IsAnsweredIn U.Key.eq U.meaning (log_of (events_of self.new.core.value))) }
         ensures rests { RestsByJournal U.Key.eq U.meaning self.new.core.value }
     {
         let core = &mut *self.core;
@@ -249,8 +251,10 @@ impl<U: Universe> State<U> {
         job
     }
 
-    /// Takes up what came of a job: a step, or the name of the job, where there was no memory for it. The job is out no more then.
+    /// Takes up what came of a job that was taken here: a step, or the name of the job, where there was no memory for it. The job is
+    /// out no more then.
     pub(crate) fn take_up(&mut self, came: Result<Step<U>, JobName<U>>)
+        requires { IfOk came (λ s. AnsweredTruly U.Key.eq U.meaning (log_of (events_of self.old.core.value)) s.job) }
         ensures adds { Adds U.Key.eq U.meaning 0 (events_of self.old.core.value) (events_of self.new.core.value) (λ own work. own ≡ []) }
         ensures home { ComesHome U.Key.eq U.meaning U.Value.eq came self.old.core.value self.new.core.value }
         ensures rests { RestsByJournal U.Key.eq U.meaning self.new.core.value }
@@ -294,6 +298,7 @@ fn answer_of<U: Universe>(polled: Polled<'_, U>) -> Result<Answer<U>, NoMemory>
 
 /// Takes up what came of a job.
 fn take_in<U: Universe>(core: &mut Core<U>, came: Result<Step<U>, JobName<U>>)
+    requires { IfOk came (λ s. AnsweredTruly U.Key.eq U.meaning (log_of (events_of core.old)) s.job) }
     ensures works { WorksOn (events_of core.old) (events_of core.new) }
     ensures home { ComesHome U.Key.eq U.meaning U.Value.eq came core.old core.new }
 {
@@ -305,11 +310,12 @@ fn take_in<U: Universe>(core: &mut Core<U>, came: Result<Step<U>, JobName<U>>)
 
 /// Gives a step: it is taken; or its job is not out, and nothing changes; or there is no memory for it, and its job is given up.
 fn give<U: Universe>(core: &mut Core<U>, step: Step<U>)
+    requires { AnsweredTruly U.Key.eq U.meaning (log_of (events_of core.old)) step.job }
     ensures works { WorksOn (events_of core.old) (events_of core.new) }
     ensures takes { TakesUpStep U.Key.eq U.meaning U.Value.eq step core.old core.new }
     ensures home { IsJobOut U.Key.eq core.new step.job → ⊥ }
 {
-    match core.give(step) {
+    match core.give_own(step) {
         Ok(gave) => drop(gave),
         Err((NoMemory, step)) => fail(core, step.assignment().name()),
     }

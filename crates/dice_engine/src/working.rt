@@ -1,9 +1,10 @@
 //! The calls of an engine that do jobs.
-ghost use Rattle.std.specs.Prelude.{◌≡◌, ◌+◌, [], IfSome, IfNone};
+ghost use Rattle.std.specs.Prelude.{◌≡◌, ◌+◌, [], IfOk, IfSome, IfNone};
 ghost use Rattle.std.specs.Arc.{arc_value};
 ghost use Rattle.turnstile.specs.Seats.{IsSeatOf};
+ghost use Rattle.dice_jobs.specs.Alike.{IsAnsweredIn};
 ghost use Rattle.dice_engine.specs.declared.promise.Worked.TheVariants as worked;
-ghost use Rattle.dice_engine.specs.Turns.{Turn, Works, Later};
+ghost use Rattle.dice_engine.specs.Turns.{log_of, Turn, Works, Later};
 ghost use Rattle.dice_engine.specs.Conditions.{SawAsk};
 ghost use Rattle.dice_engine.specs.Calls.{AddsNothing};
 ghost use Rattle.dice_engine.specs.Replies.{reply_of, settled_of, IsReply};
@@ -15,6 +16,7 @@ use crate::gate::Gate;
 use crate::promise::{Answer, Promise, Settled, Worked};
 use crossbeam_utils::Backoff;
 use dice_core::{Job, JobName, Step};
+use dice_jobs::true_jobs_are_one;
 use dice_key::{NoMemory, Universe};
 use std::sync::Wait;
 
@@ -54,6 +56,7 @@ impl<U: Universe> Engine<U> {
         requires { IsSeatOf self.now seat.old }
         ensures turn { Turn U.Key.eq U.meaning seat.old seat.new (λ found. AddsNothing) }
         ensures none { IfNone result (seat.new.left.0 ≡ 0) }
+        ensures answered { IfSome result (IsAnsweredIn U.Key.eq U.meaning (log_of seat.new.seen)) }
         ensures goes { TurnOver U.Key.eq U.meaning seat.old seat.new (GoesOut U.Key.eq result) }
     {
         let mut turn = self.stile.enter(rt, seat);
@@ -62,12 +65,14 @@ impl<U: Universe> Engine<U> {
         job
     }
 
-    // Gives what came of a job, in one turn.
+    // Gives what came of a job that was taken, in one turn.
     fn take_up<R: Wait>(&self, rt: &R, seat: &mut Seat<U>, came: Result<Step<U>, JobName<U>>)
-        requires { IsSeatOf self.now seat.old }
+        requires seat { IsSeatOf self.now seat.old }
+        requires answered { IfOk came (λ s. IsAnsweredIn U.Key.eq U.meaning (log_of seat.old.seen) s.job) }
         ensures turn { Turn U.Key.eq U.meaning seat.old seat.new (λ found own work. own ≡ []) }
         ensures home { TakesIn U.Key.eq U.meaning U.Value.eq came seat.old seat.new }
     {
+        true_jobs_are_one::<U>();
         let mut turn = self.stile.enter(rt, seat);
         turn.state().take_up(came);
         self.stile.leave(turn);

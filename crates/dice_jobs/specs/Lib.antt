@@ -2,3 +2,4 @@ pub mod Jobs
 pub mod Shapes
 pub mod Courses
 pub mod Truths
+pub mod Alike

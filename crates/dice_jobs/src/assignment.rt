@@ -3,6 +3,7 @@ ghost use Rattle.std.specs.Prelude.{◌≡◌, [], length, IfOk, IsTrue, ◌↔�
 ghost use Rattle.std.specs.Option.{option_copied};
 ghost use Rattle.std.specs.Arc.{arc_value};
 ghost use Rattle.dice_jobs.specs.Jobs.{answered_more, computing, Computes};
+ghost use Rattle.dice_jobs.specs.Alike.{AreAlike};
 ghost use Rattle.dice_jobs.specs.Shapes.{answers_in, batches_in, work_in, work_of};
 
 use crate::name::JobName;
@@ -216,6 +217,17 @@ impl<U: Universe> Assignment<U> {
             && are_same_batches(&self.progress, &other.progress)
             && are_same_work(&self.progress, &other.progress)
     }
+
+    /// Whether the two have the same name and work, and are as far: of computations equally many batches are answered, of checks the
+    /// same ones. For computations it costs no more than a comparison of their keys.
+    pub fn is_alike(&self, other: &Assignment<U>) -> bool
+        ensures { IsTrue result ↔ AreAlike self.now other.now }
+    {
+        match (&self.progress, &other.progress) {
+            (Progress::Checks(_), _) | (_, Progress::Checks(_)) => self.is_same(other),
+            (one, two) => self.name.is_same(&other.name) && batch_count(one) == batch_count(two),
+        }
+    }
 }
 
 /// A check of this value, with these answered batches.
@@ -277,6 +289,16 @@ fn answers_of<U: Universe>(progress: &Progress<U>) -> Option<&Arc<Trace<U>>>
         Progress::Begins => None,
         Progress::Runs(trace) => Some(trace),
         Progress::Checks(checking) => checking.answered.as_ref(),
+    }
+}
+
+/// How many batches are answered.
+fn batch_count<U: Universe>(progress: &Progress<U>) -> usize
+    ensures { result ≡ length (answers_in progress.now) }
+{
+    match answers_of(progress) {
+        Some(trace) => trace.len(),
+        None => 0,
     }
 }
 

@@ -7,6 +7,7 @@ ghost use Rattle.dice_model.specs.Eval.{HasValue};
 ghost use Rattle.dice_model.specs.Asks.{AsksFor, IsTrace};
 ghost use Rattle.dice_jobs.specs.Jobs.{Name, Assigned, Stepped, Computes, Checks, Wanting, Valued, Unchanged, Changed, IsStepOf, AsksThese, answered_more, computing};
 ghost use Rattle.dice_jobs.specs.Truths.{IsEarlier, IsTrueJob, ChangesFirst};
+ghost use Rattle.dice_jobs.specs.Alike.{AreAlike, AnsweredTruly, IsAnsweredIn};
 ghost use Rattle.lists.specs.Lists.{Has};
 
 use dice_key::{Universe, laws_of};
@@ -33,6 +34,15 @@ pub fn steps_tell_the_truth<U: Universe>()
     ensures value { (C : List (List (U.Key × U.Value))) (a : Assigned U.Key U.Value) (s : Stepped U.Key U.Value) (x : U.Value) → IsTrueJob U.Key.eq U.meaning C a → IsStepOf U.meaning U.Value.eq s a → s.outcome ≡ Valued x → (a.work ≡ Computes) × IsTrace U.Key.eq U.meaning C a.name.version a.name.key a.answered x }
     ensures same { (C : List (List (U.Key × U.Value))) (a : Assigned U.Key U.Value) (s : Stepped U.Key U.Value) (x : U.Value) (T : List (Answered U.Key U.Value)) (b : ℕ) → IsTrueJob U.Key.eq U.meaning C a → IsStepOf U.meaning U.Value.eq s a → a.work ≡ Checks x T b → s.outcome ≡ Unchanged → IsTrace U.Key.eq U.meaning C a.name.version a.name.key T x }
     ensures changed { (C : List (List (U.Key × U.Value))) (a : Assigned U.Key U.Value) (s : Stepped U.Key U.Value) (x : U.Value) (T : List (Answered U.Key U.Value)) (b : ℕ) (d : U.Key) → IsTrueJob U.Key.eq U.meaning C a → IsStepOf U.meaning U.Value.eq s a → a.work ≡ Checks x T b → s.outcome ≡ Changed d → ChangesFirst U.Key.eq U.meaning C a.name.version T d }
+{
+    laws_of::<U>();
+}
+
+/// Jobs that are alike are the same, if the answers of those that compute are the values at their version: no other answers could be
+/// as many. Such answers stay the values over every log that goes on.
+pub fn true_jobs_are_one<U: Universe>()
+    ensures one { (C : List (List (U.Key × U.Value))) (a b : Assigned U.Key U.Value) → AreAlike a b → AnsweredTruly U.Key.eq U.meaning C a → AnsweredTruly U.Key.eq U.meaning C b → a ≡ b }
+    ensures longer { (C D : List (List (U.Key × U.Value))) (a : Assigned U.Key U.Value) → IsAnsweredIn U.Key.eq U.meaning C a → IsAnsweredIn U.Key.eq U.meaning (C ++ D) a }
 {
     laws_of::<U>();
 }

@@ -10,7 +10,7 @@ mod step;
 
 pub use assignment::{Assignment, Earlier};
 pub use job::Job;
-pub use laws::{jobs_stay_true, steps_tell_the_truth};
+pub use laws::{jobs_stay_true, steps_tell_the_truth, true_jobs_are_one};
 pub use name::JobName;
 pub use parked::Parked;
 pub use step::{Report, Step};

@@ -1,5 +1,6 @@
 //! What comes of a job.
 ghost use Rattle.std.specs.Prelude.{◌≡◌, IsTrue, ◌↔◌};
+ghost use Rattle.dice_jobs.specs.Alike.{AreAlike};
 ghost use Rattle.dice_jobs.specs.Jobs.{outcome_of, IsExplained, waiting_after};
 
 use crate::assignment::Assignment;
@@ -74,6 +75,14 @@ impl<U: Universe> Step<U> {
         ensures { IsTrue result ↔ (self.now.job ≡ assignment.now) }
     {
         self.assignment.is_same(assignment)
+    }
+
+    /// Whether its job is alike this assignment: of its name and work, and as far. For a computation it costs no more than a
+    /// comparison of their keys.
+    pub fn is_like(&self, assignment: &Assignment<U>) -> bool
+        ensures { IsTrue result ↔ AreAlike self.now.job assignment.now }
+    {
+        self.assignment.is_alike(assignment)
     }
 
     /// What came of the job. It takes no memory.

@@ -4,7 +4,8 @@ ghost use Rattle.std.specs.Arc.{arc_value};
 ghost use Rattle.std.specs.Option.{option_map};
 ghost use Rattle.dice_key.specs.declared.universe.Kind.TheVariants.{Injected};
 ghost use Rattle.dice_key.specs.Meaning.{Answered};
-ghost use Rattle.dice_jobs.specs.Jobs.{Waits, Computes, answered_more, checking};
+ghost use Rattle.dice_jobs.specs.Jobs.{Assigned, Waits, Computes, answered_more, checking};
+ghost use Rattle.dice_jobs.specs.Alike.{AreAlike};
 ghost use Rattle.dice_jobs.specs.Shapes.{work_of};
 ghost use Rattle.core_laws.specs.Tasks.{Phase, IsReady, IsOut, IsWaiting, Ended, WithValue, WithNothing, goes_on, waits_for, value_in};
 ghost use Rattle.core_laws.specs.Desk.{ready_in, out_in};
@@ -276,6 +277,16 @@ impl<U: Universe> Task<U> {
         ensures { IsTrue result ↔ (self.now ≡ held_of step.now.job IsOut) }
     {
         self.is_away(step.assignment())
+    }
+
+    /// Whether the job that is out is alike the step's: of its name and work, and as far.
+    pub fn is_like(&self, step: &Step<U>) -> bool
+        ensures { IsTrue result ↔ ((j : Assigned U.Key U.Value) × (self.now ≡ held_of j IsOut) × AreAlike step.now.job j) }
+    {
+        match &self.parts.load {
+            Load::Away(own) => step.is_like(own),
+            _ => false,
+        }
     }
 
     /// The job that was out waits for answers. It takes no memory.

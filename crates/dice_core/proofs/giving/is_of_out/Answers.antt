@@ -1,25 +1,17 @@
-use Rattle.std.proofs.Common.{◌≡◌, sym, ap, ◌∙◌}
+use Rattle.std.proofs.Common.{◌≡◌, Some, sym, ap, ◌∙◌, subst}
 use Rattle.std.specs.Option.{option_copied}
+use Rattle.task_share.specs.Seen.{task_at}
 use Rattle.core_laws.specs.Tasks.{IsOut}
+use Rattle.dice_jobs.specs.Jobs.{Name}
 use Rattle.dice_tasks.specs.Helds.{held_of}
-use Rattle.dice_core.proofs.JobsLemmas.{held_found, held_missing, found_iff, none_iff}
+use Rattle.dice_core.specs.Cores.{table_at}
+use Rattle.dice_core.proofs.JobsLemmas.{found_iff}
 use Rattle.dice_core.proofs.giving.is_of_out.Goals as goal
 
-pub returns-in_default : goal.returns-in_default
-returns-in_default g c =
-    let at : c.version.result ≡ c.args.step.now.job.name.version = c.version.ensures ∙ ap (λ n. n.version) (c.name-name.ensures ∙ ap (λ j. j.name) c.assignment.ensures) in
-    none_iff _ (held_of c.args.step.now.job IsOut) (held_missing g.U.Key.PartialEq.eq c.args.versions.now.entries c.version.result c.args.step.now.job.name.version c.args.step.now.job.name.key at (sym c.get.ensures.value ∙ ap option_copied c.in_default.is))
-
-pub returns-in-Some-task : goal.returns-in-Some-task
-returns-in-Some-task g c =
-    let at : c.version.result ≡ c.args.step.now.job.name.version = c.version.ensures ∙ ap (λ n. n.version) (c.name-name.ensures ∙ ap (λ j. j.name) c.assignment.ensures) in
-    let key = c.key.ensures ∙ ap (λ n. n.key) (c.name-name.ensures ∙ ap (λ j. j.name) c.assignment.ensures) in
-    found_iff c.is_of.result _ c.in-Some-task.task.now (held_of c.args.step.now.job IsOut)
-    (held_found g.U.Key.PartialEq.eq c.args.versions.now.entries c.version.result c.args.step.now.job.name.version _ c.args.step.now.job.name.key c.in-Some.tasks.now _ at key (sym c.get.ensures.value ∙ ap option_copied c.in-Some.is) (sym c.task.ensures ∙ ap option_copied c.in-Some-task.is)) c.is_of.ensures
-
-pub returns-in-None : goal.returns-in-None
-returns-in-None g c =
-    let at : c.version.result ≡ c.args.step.now.job.name.version = c.version.ensures ∙ ap (λ n. n.version) (c.name-name.ensures ∙ ap (λ j. j.name) c.assignment.ensures) in
-    let key = c.key.ensures ∙ ap (λ n. n.key) (c.name-name.ensures ∙ ap (λ j. j.name) c.assignment.ensures) in
-    none_iff _ (held_of c.args.step.now.job IsOut)
-    (held_found g.U.Key.PartialEq.eq c.args.versions.now.entries c.version.result c.args.step.now.job.name.version _ c.args.step.now.job.name.key c.in-Some.tasks.now _ at key (sym c.get.ensures.value ∙ ap option_copied c.in-Some.is) (sym c.task.ensures ∙ ap option_copied c.in-None.is))
+pub returns-in-Some : goal.returns-in-Some
+returns-in-Some g c =
+    let ts = c.args.versions.now.entries in
+    let task = c.in-Some.task.now in
+    let named = c.name.ensures ∙ ap (λ a. a.name) c.assignment.ensures in
+    let there = subst (λ (n : Name g.row.U-Key.Denot). task_at g.U.Key.PartialEq.eq (table_at ts n.version) n.key ≡ Some task) named (sym c.task_named.ensures ∙ ap option_copied c.in-Some.is) in
+    found_iff c.is_of.result _ task (held_of c.args.step.now.job IsOut) there c.is_of.ensures

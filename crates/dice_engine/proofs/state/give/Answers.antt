@@ -14,16 +14,16 @@ returns-in-Ok-clause-works g c =
 
 pub returns-in-Ok-clause-takes : goal.returns-in-Ok-clause-takes
 returns-in-Ok-clause-takes g c =
-    given_step g.U.Key.PartialEq.eq g.U.Universe.meaning g.U.Value.PartialEq.eq (stale_of c.in-Ok.gave) c.args.step c.args.core.now c.give.new.self c.in-Ok.ensures.stale c.in-Ok.ensures.taken c.in-Ok.ensures.does c.give.ensures.rest
+    given_step g.U.Key.PartialEq.eq g.U.Universe.meaning g.U.Value.PartialEq.eq (stale_of c.in-Ok.gave) c.args.step c.args.core.now c.give_own.new.self c.in-Ok.ensures.stale c.in-Ok.ensures.taken c.in-Ok.ensures.does c.give_own.ensures.rest
 
 pub returns-in-Err-clause-takes : goal.returns-in-Err-clause-takes
 returns-in-Err-clause-takes g c =
-    refused_step g.U.Key.PartialEq.eq g.U.Universe.meaning g.U.Value.PartialEq.eq c.args.step c.name.result.now c.args.core.now c.give.new.self c.fail.new.core
+    refused_step g.U.Key.PartialEq.eq g.U.Universe.meaning g.U.Value.PartialEq.eq c.args.step c.name.result.now c.args.core.now c.give_own.new.self c.fail.new.core
     (c.name.ensures ∙ (ap (λ (a : Assigned g.row.U-Key.Denot g.row.U-Value.Denot). a.name) c.assignment.ensures ∙ ap (λ (s : Stepped g.row.U-Key.Denot g.row.U-Value.Denot). s.job.name) c.in-Err.ensures.step))
     c.in-Err.ensures.err.0 c.in-Err.ensures.err.1 c.fail.ensures.gives_up
 
 pub returns-in-Ok-clause-home : goal.returns-in-Ok-clause-home
-returns-in-Ok-clause-home g c = step_home g.U.Key.PartialEq.eq g.U.Universe.meaning g.U.Value.PartialEq.eq c.args.step c.args.core.now c.give.new.self (returns-in-Ok-clause-takes g c)
+returns-in-Ok-clause-home g c = step_home g.U.Key.PartialEq.eq g.U.Universe.meaning g.U.Value.PartialEq.eq c.args.step c.args.core.now c.give_own.new.self (returns-in-Ok-clause-takes g c)
 
 pub returns-in-Err-clause-home : goal.returns-in-Err-clause-home
 returns-in-Err-clause-home g c = step_home g.U.Key.PartialEq.eq g.U.Universe.meaning g.U.Value.PartialEq.eq c.args.step c.args.core.now c.fail.new.core (returns-in-Err-clause-takes g c)

@@ -2,6 +2,7 @@ use Rattle.std.proofs.Common.{rules, ◌≡◌, [], ap, subst}
 use Rattle.dice_core.specs.Cores.{events_of}
 use Rattle.turnstile.specs.InTurn.{seat_in}
 use Rattle.dice_engine.proofs.Turned.{entered, did_so, turned_any}
+use Rattle.dice_engine.proofs.Callers.{answered_seen}
 use Rattle.dice_engine.proofs.Jobs.{turned_over}
 use Rattle.dice_engine.specs.Turns.{Turn}
 use Rattle.dice_engine.specs.Calls.{AddsNothing}
@@ -34,3 +35,7 @@ returns-clause-goes g c =
     let a = did_so eq m 0 (events_of found) (events_of left) AddsNothing (λ own work. own ≡ []) c.take_job-job.ensures.adds (λ own work d. d.0) in
     subst (λ s. TurnOver eq m old s (GoesOut eq c.take_job-job.result)) (search rules)
     (turned_over eq m old mid c.leave.new.turn.0 found left (GoesOut eq c.take_job-job.result) 0 e (record { seen = c.leave.ensures.seen; mine = c.leave.ensures.mine; turns = c.leave.ensures.turns; floor = c.leave.ensures.floor; below = c.leave.ensures.below; noted = c.leave.ensures.noted; same = c.leave.ensures.same }) a c.leave.ensures.left c.take_job-job.ensures.rests c.take_job-job.ensures.goes)
+
+pub returns-clause-answered : goal.returns-clause-answered
+returns-clause-answered g c =
+    answered_seen g.U.Key.PartialEq.eq g.U.Universe.meaning c.take_job-job.result c.args.seat.now _ _ (returns-clause-turn g c) c.leave.new.turn.0 (search rules) (events_of c.take_job-job.new.self.core.value) c.leave.ensures.seen c.take_job-job.ensures.answered

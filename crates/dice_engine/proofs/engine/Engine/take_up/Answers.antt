@@ -5,8 +5,20 @@ use Rattle.dice_engine.specs.Turns.{Turn}
 use Rattle.dice_engine.specs.Jobs.{ComesHome}
 use Rattle.dice_engine.specs.Doings.{TakesIn}
 use Rattle.dice_engine.proofs.Turned.{entered, may_leave_tasks, turned_any}
+use Rattle.dice_engine.proofs.Adding.{map_if_ok}
+use Rattle.dice_engine.proofs.Callers.{answered_later}
 use Rattle.dice_engine.proofs.Jobs.{turned_over}
 use Rattle.dice_engine.proofs.engine.Engine.take_up.Goals as goal
+
+pub take_up-requires-after_bounds : goal.take_up-requires-after_bounds
+take_up-requires-after_bounds g c κs within =
+    let eq = g.U.Key.PartialEq.eq in
+    let m = g.U.Universe.meaning in
+    let old = c.args.seat.now in
+    let mid = seat_in c.enter-turn.result in
+    let J = events_of c.state.result.now.core.value in
+    let e = entered eq m old mid (events_of c.enter-turn.result.state.core.value) J (ap (λ s. events_of s.core.value) c.state.ensures.value) c.enter-turn.ensures.turn c.enter-turn.ensures.seen c.enter-turn.ensures.mine c.enter-turn.ensures.floor in
+    map_if_ok c.args.came _ _ c.requires.answered (λ s h. (answered_later eq m c.true_jobs_are_one.ensures.longer old.seen J s.job e.begins h).truly)
 
 pub leave-requires-clause-grows : goal.leave-requires-clause-grows
 leave-requires-clause-grows g c =

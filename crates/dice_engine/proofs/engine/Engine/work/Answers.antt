@@ -1,7 +1,9 @@
-use Rattle.std.proofs.Common.{arith}
-use Rattle.dice_engine.specs.Turns.{rests, works}
+use Rattle.std.proofs.Common.{sym, subst, arith}
+use Rattle.dice_jobs.specs.Alike.{IsAnsweredIn}
+use Rattle.dice_engine.specs.Turns.{log_of, rests, works}
 use Rattle.dice_core.specs.Cores.{IsJobOut}
 use Rattle.dice_engine.specs.Jobs.{ComesHome, CameOf}
+use Rattle.dice_engine.proofs.Adding.{map_if_ok}
 use Rattle.dice_engine.proofs.Turned.{turn_so}
 use Rattle.dice_engine.proofs.Jobs.{came_of_job, job_home, over_so}
 use Rattle.dice_engine.proofs.engine.Engine.work.Goals as goal
@@ -14,6 +16,10 @@ returns-in_default-clause-did g c = λ e. cc
 
 pub returns-in_default-clause-job : goal.returns-in_default-clause-job
 returns-in_default-clause-job g c = λ e. cc
+
+pub take_up-requires-clause-answered : goal.take_up-requires-clause-answered
+take_up-requires-clause-answered g c κs within =
+    map_if_ok c.advance-came.result _ _ c.advance-came.ensures.step (λ s i. subst (IsAnsweredIn g.U.Key.PartialEq.eq g.U.Universe.meaning (log_of c.take_job.new.seat.seen)) (sym i.job) c.in-Some.ensures.answered)
 
 pub returns-clause-works : goal.returns-clause-works
 returns-clause-works g c = works (works rests (turn_so g.U.Key.PartialEq.eq g.U.Universe.meaning _ _ _ _ c.take_job.ensures.turn (λ found own work d. d.0))) c.take_up.ensures.turn

@@ -1,7 +1,14 @@
-use Rattle.std.proofs.Common.{subst}
-use Rattle.dice_core.specs.Cores.{CoreSeen}
+use Rattle.std.proofs.Common.{sym, subst}
+use Rattle.std.specs.Prelude.{IfOk}
+use Rattle.dice_jobs.specs.Alike.{AnsweredTruly}
+use Rattle.dice_core.specs.Cores.{CoreSeen, events_of}
+use Rattle.dice_engine.specs.Turns.{log_of}
 use Rattle.dice_engine.specs.Jobs.{ComesHome}
 use Rattle.dice_engine.proofs.state.State.take_up.Goals as goal
+
+pub take_in-requires-after_bounds : goal.take_in-requires-after_bounds
+take_in-requires-after_bounds g c κs within =
+    subst (λ (s : CoreSeen g.row.U-Key.Denot g.row.U-Value.Denot). IfOk c.args.came (λ x. AnsweredTruly g.U.Key.PartialEq.eq g.U.Universe.meaning (log_of (events_of s)) x.job)) (sym c.deref_mut-core.ensures.value) c.requires
 
 pub returns-clause-home : goal.returns-clause-home
 returns-clause-home g c = subst (λ (s : CoreSeen g.row.U-Key.Denot g.row.U-Value.Denot). ComesHome g.U.Key.PartialEq.eq g.U.Universe.meaning g.U.Value.PartialEq.eq c.args.came s c.take_in.new.core) c.deref_mut-core.ensures.value

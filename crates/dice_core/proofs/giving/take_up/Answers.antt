@@ -11,16 +11,16 @@ use Rattle.dice_core.proofs.ClosedLemmas.{given_taken, given_ok, gives_works}
 use Rattle.dice_core.proofs.JobsLemmas.{table_found, none_held, hand_there}
 use Rattle.dice_core.proofs.ResultLemmas.{both_ok, on_ok}
 use Rattle.dice_core.proofs.TurnLemmas.{worked_stands}
-use Rattle.dice_core.proofs.giving.give_in.Goals as goal
+use Rattle.dice_core.proofs.giving.take_up.Goals as goal
 
-pub returns-in_default-clause-stale : goal.returns-in_default-clause-stale
-returns-in_default-clause-stale g c =
+pub unreachable-requires : goal.unreachable-requires
+unreachable-requires g c =
     let ts = c.args.versions.now.entries in
     let j = c.args.step.job in
     let v = j.name.version in
     let at : c.version-version.result ≡ v = c.version-version.ensures ∙ ap (λ n. n.version) (c.name.ensures ∙ ap (λ a. a.name) c.assignment.ensures) in
     let none : lookup (nat_eq v) ts ≡ None = subst (λ n. lookup (nat_eq n) ts ≡ None) at (sym c.get_mut.ensures.value ∙ ap option_copied_mut c.in_default.is) in
-    absurd (none_held g.U.Key.PartialEq.eq ts v j.name.key (held_of j IsOut) none (c.if-not-is_of_out.ensures.0 refl))
+    none_held g.U.Key.PartialEq.eq ts v j.name.key (held_of j IsOut) none c.requires.out
 
 pub take_step-requires-clause-hand : goal.take_step-requires-clause-hand
 take_step-requires-clause-hand g c κs within =
@@ -35,7 +35,7 @@ take_step-requires-clause-hand g c κs within =
     let found : table_at ts v ≡ ps = table_found ts v ps (subst (λ n. lookup (nat_eq n) ts ≡ Some ps) at (sym c.get_mut.ensures.value ∙ ap option_copied_mut c.in-Some.is)) in (
       world_of eq ts,
       subst (λ (n : ℕ). AtHand eq m v (world_of eq ts) n ps c.args.desk.now c.args.graph.now c.args.cells.now) (sym r.2)
-          (hand_there eq c.laws_of.ensures.keys m c.laws_of.ensures.lawful c.args.desk.now ts c.args.graph.now c.args.cells.now r.0 r.1 v j.name.key (held_of j IsOut) ps found (c.if-not-is_of_out.ensures.0 refl)),
+          (hand_there eq c.laws_of.ensures.keys m c.laws_of.ensures.lawful c.args.desk.now ts c.args.graph.now c.args.cells.now r.0 r.1 v j.name.key (held_of j IsOut) ps found c.requires.out),
     )
 
 pub returns-clause-kept : goal.returns-clause-kept
@@ -54,7 +54,7 @@ returns-clause-kept g c =
     let put = subst (λ n. PutsTable n qs ts (c.get_mut.follows.lender qs).entries) at ((c.get_mut.follows.holds qs).3 (subst IsSome (sym mine) refl)).0 in
     on_ok c.take_step.result _ _ (both_ok c.take_step.result _ _ (given_ok c.take_step.result (λ x. stale_of x) _ c.take_step.ensures.taken c.take_step.ensures.fresh) c.take_step.ensures.kept)
     (λ h x owes st.
-    let hand = hand_there eq c.laws_of.ensures.keys m c.laws_of.ensures.lawful d ts c.args.graph.now c.args.cells.now x st v j.name.key (held_of j IsOut) ps found (c.if-not-is_of_out.ensures.0 refl) in
+    let hand = hand_there eq c.laws_of.ensures.keys m c.laws_of.ensures.lawful d ts c.args.graph.now c.args.cells.now x st v j.name.key (held_of j IsOut) ps found c.requires.out in
     worked_stands eq c.laws_of.ensures.keys m c.laws_of.ensures.lawful d ts c.args.graph.now c.args.cells.now x st v _ qs c.take_step.new.desk c.take_step.new.graph put (gives_works eq v c.args.step ps qs d c.take_step.new.desk h.0)
     (subst (λ (n : ℕ). AtHand eq m v (world_of eq ts) n qs c.take_step.new.desk c.take_step.new.graph c.args.cells.now) owes
     (h.1 (world_of eq ts) (subst (λ (n : ℕ). AtHand eq m v (world_of eq ts) n ps d c.args.graph.now c.args.cells.now) (sym owes) hand))))
