@@ -39,7 +39,8 @@ impl Model for Label {
 
     ghost view = { λ l. l.text };
 
-    ghost invariant = { λ l. (n : Name) × IsName n × (l.text ≡ printed n) × (l.colon ≡ length n.home + 2) };
+    ghost invariant = { λ l. (n : Name) × IsName n × (l.text ≡ printed n)
+        × (l.colon ≡ length n.home + 2) };
 }
 
 /// Where the first colon stands; where there is none, the length.
@@ -157,7 +158,8 @@ fn absolute_of(alloc: Global, text: &Text, home: &[u8]) -> Result<Label, AllocEr
 fn local_of(alloc: Global, home: &[u8], target: &[u8]) -> Result<Label, AllocError>
     requires home { IsPackage home.now }
     requires target { IsPath target.now }
-    ensures { IfOk result (λ l. (n : Name) × IsLabelIn home.now (58 ∷ target.now) n × (l ≡ printed n)) }
+    ensures { IfOk result
+        (λ l. (n : Name) × IsLabelIn home.now (58 ∷ target.now) n × (l ≡ printed n)) }
 {
     Ok(label_of(alloc, home, target)?)
 }
@@ -184,8 +186,8 @@ impl Label {
         }
     }
 
-    /// The label that a text names in the target file of this package. One that is written in full shares the text, so
-    /// that no byte is copied or hashed.
+    /// The label that a text names in the target file of this package. One that is written in full
+    /// shares the text, so that no byte is copied or hashed.
     pub fn of_text(alloc: Global, text: &Text, home: &[u8]) -> Result<Label, AllocError>
         requires text { IsSomeLabel text.now }
         requires home { IsPackage home.now }
@@ -256,7 +258,8 @@ impl Label {
 pub fn printed_is_read()
     ensures long { (n : Name) → IsName n → IsLabel (printed n) n }
     ensures only { (text : List ℕ) (m n : Name) → IsLabel text m → IsLabel text n → m ≡ n }
-    ensures parts { (n : Name) → IsName n → (package_of (printed n) ≡ n.home) × (target_of (printed n) ≡ n.target) }
+    ensures parts { (n : Name) → IsName n
+        → (package_of (printed n) ≡ n.home) × (target_of (printed n) ≡ n.target) }
 {}
 
 /// Whether this is an absolute label or :NAME, as written.

@@ -122,7 +122,8 @@ fn base_prints(universe: &Buck, key: &Key, text: &[u8]) -> Result<bool, NoMemory
     prints(universe, &base, false, text)
 }
 
-/// Whether the rule `//a:w` has its package as its base, prints as its label if short, and asks one batch.
+/// Whether the rule `//a:w` has its package as its base, prints as its label if short, and asks one
+/// batch.
 fn stands_on_its_package(alloc: Global) -> Result<bool, NoMemory> {
     let universe = Buck::new(alloc)?;
     let rule = rule_key(alloc)?;
@@ -174,7 +175,8 @@ fn log_of(alloc: Global, files: Files<'_>) -> Result<Commits<Buck>, NoMemory> {
 /// How deep the evaluation goes: more than the keys of any row.
 const DEPTH: u32 = 12;
 
-/// The value of a key from nothing, at the version of the whole log, by an evaluation that goes this deep.
+/// The value of a key from nothing, at the version of the whole log, by an evaluation that goes
+/// this deep.
 fn value_within(
     alloc: Global,
     files: Files<'_>,
@@ -469,7 +471,8 @@ fn push_key(keys: &mut Vec<Arc<Key>>, key: Key) -> Result<(), NoMemory> {
     Ok(())
 }
 
-/// The labels of the actions of a cycle: each asks the next one's digest, and the last the first one's.
+/// The labels of the actions of a cycle: each asks the next one's digest, and the last the first
+/// one's.
 const CYCLE: [(&[u8], &[u8]); 3] = [
     (b"//a:y", b"//b:x"),
     (b"//b:x", b"//a:x"),

@@ -50,7 +50,8 @@ pub(crate) fn put(out: &mut Vec<u8>, path: &[u8], file: &[u8]) -> Result<(), NoM
 
 /// Appends a `commit` line, and one that opens a transaction.
 pub(crate) fn commit_and_open(out: &mut Vec<u8>, transaction: &[u8]) -> Result<(), NoMemory>
-    ensures { OnOk result (out.new.items ≡ out.old.items ++ spelled Commit ++ spelled (Open transaction.now)) }
+    ensures { OnOk result
+        (out.new.items ≡ out.old.items ++ spelled Commit ++ spelled (Open transaction.now)) }
 {
     bytes(out, b"commit\nopen ")?;
     bytes(out, transaction)?;
@@ -59,7 +60,8 @@ pub(crate) fn commit_and_open(out: &mut Vec<u8>, transaction: &[u8]) -> Result<(
 
 /// Appends a line that asks for a target in a transaction.
 pub(crate) fn ask(out: &mut Vec<u8>, transaction: &[u8], target: u64) -> Result<(), NoMemory>
-    ensures { OnOk result (out.new.items ≡ out.old.items ++ spelled (ask_in transaction.now target)) }
+    ensures { OnOk result
+        (out.new.items ≡ out.old.items ++ spelled (ask_in transaction.now target)) }
 {
     bytes(out, b"ask ")?;
     bytes(out, transaction)?;

@@ -38,7 +38,8 @@ fn put_package(
     targets: u32,
     index: u32,
 ) -> Result<(), NoMemory>
-    ensures { OnOk result (script.new.items ≡ script.old.items ++ spelled (package_put targets index)) }
+    ensures { OnOk result
+        (script.new.items ≡ script.old.items ++ spelled (package_put targets index)) }
 {
     let mut path = Vec::from_slice(alloc, b"p")?;
     number(&mut path, index as u64)?;
@@ -59,7 +60,8 @@ fn put_packages(alloc: Global, script: &mut Vec<u8>, targets: u32) -> Result<(),
 
 /// Commits what was put, and asks for every tenth target in a new transaction.
 fn ask_round(script: &mut Vec<u8>, transaction: &[u8], targets: u32) -> Result<(), NoMemory>
-    ensures { OnOk result (script.new.items ≡ script.old.items ++ text_of (round_in transaction.now targets)) }
+    ensures { OnOk result
+        (script.new.items ≡ script.old.items ++ text_of (round_in transaction.now targets)) }
 {
     commit_and_open(script, transaction)?;
     for target in 0..targets {
@@ -70,8 +72,8 @@ fn ask_round(script: &mut Vec<u8>, transaction: &[u8], targets: u32) -> Result<(
     Ok(())
 }
 
-/// The script of so many targets: it puts sixteen sources and the targets in packages of a hundred, asks for every tenth target,
-/// changes the first source, and asks for them again.
+/// The script of so many targets: it puts sixteen sources and the targets in packages of a hundred,
+/// asks for every tenth target, changes the first source, and asks for them again.
 ///
 /// The time is that of writing it: about ninety bytes a target.
 pub fn bulk_script(alloc: Global, targets: u32) -> Result<Vec<u8>, NoMemory>

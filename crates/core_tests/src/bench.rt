@@ -5,7 +5,8 @@ use dice_key::{KeyRef, NoMemory, Universe, ValueRef};
 use std::alloc::Global;
 use std::sync::Arc;
 
-/// A call on the core, with the transaction, the ask, the job and the step that came last; and what it answers, yes or no.
+/// A call on the core, with the transaction, the ask, the job and the step that came last; and what
+/// it answers, yes or no.
 #[derive(Clone, Copy)]
 pub(crate) enum Call {
     /// Yes.

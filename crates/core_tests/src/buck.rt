@@ -1,4 +1,5 @@
-//! The core on the universe of Buck targets: commits, and calls one after another, with what they answer and what stands after each.
+//! The core on the universe of Buck targets: commits, and calls one after another, with what they
+//! answer and what stands after each.
 use crate::bench::{Bench, Call, Outcome};
 use crate::buck::Act::{Commit, Do};
 use action_digest::{Buck, Key, Value};
@@ -66,7 +67,8 @@ fn new_bench(alloc: Global) -> Result<Bench<Buck>, NoMemory> {
     Bench::new(alloc, universe)
 }
 
-/// A change and how often it stands in a commit, what the commit answers, and the number of events then.
+/// A change and how often it stands in a commit, what the commit answers, and the number of events
+/// then.
 type CommitRow = (Name, usize, Outcome, usize);
 
 const COMMITS: [CommitRow; 4] = [
@@ -143,8 +145,8 @@ enum Act {
     Do(Call),
 }
 
-/// What is done and what it answers, then a key, which an ask is for, and what it has come to at the newest version, and the tasks
-/// that are ready and out.
+/// What is done and what it answers, then a key, which an ask is for, and what it has come to at
+/// the newest version, and the tasks that are ready and out.
 type Row = (Act, bool, Name, Seen, u64, u64);
 
 fn commit_file(alloc: Global, bench: &mut Bench<Buck>) -> Result<bool, NoMemory> {
@@ -194,7 +196,8 @@ const STALE: [Row; 9] = [
     (Do(Call::Fail), false, DIGEST, Seen::Absent, 0, 0),
 ];
 
-/// A step of a transaction that was closed, after another one was opened and its key asked for again.
+/// A step of a transaction that was closed, after another one was opened and its key asked for
+/// again.
 const STALE_ANEW: [Row; 9] = [
     (Commit, true, DIGEST, Seen::Absent, 0, 0),
     (Do(Call::Open), true, DIGEST, Seen::Absent, 0, 0),
@@ -278,7 +281,8 @@ fn lost_events(core: &Core<Buck>) -> usize {
     lost
 }
 
-/// Asks for the digest, and gives up the job behind so many that were done; how many tasks ended as lost.
+/// Asks for the digest, and gives up the job behind so many that were done; how many tasks ended as
+/// lost.
 fn lost_behind(alloc: Global, bench: &mut Bench<Buck>, before: usize) -> Result<usize, NoMemory> {
     commit_file(alloc, bench)?;
     for call in [Call::Open, Call::Ask] {
@@ -290,14 +294,16 @@ fn lost_behind(alloc: Global, bench: &mut Bench<Buck>, before: usize) -> Result<
     Ok(lost_events(&bench.core))
 }
 
-/// Asks for the digest again and does all jobs; how many there were, and what the digest has come to.
+/// Asks for the digest again and does all jobs; how many there were, and what the digest has come
+/// to.
 fn asked_again(alloc: Global, bench: &mut Bench<Buck>) -> Result<(usize, Seen), NoMemory> {
     bench.ask(key(alloc, DIGEST)?)?;
     let done = bench.work(20)?;
     Ok((done, polled(alloc, &bench.core, DIGEST)?))
 }
 
-/// So many jobs are done and the next is given up: how many tasks end as lost, and how many jobs then bring the value after a second ask.
+/// So many jobs are done and the next is given up: how many tasks end as lost, and how many jobs
+/// then bring the value after a second ask.
 type LostRow = (usize, usize, usize);
 
 const LOSSES: [LostRow; 8] = [

@@ -1,4 +1,5 @@
-//! Tests of the core through its public calls. They stand in a crate of their own, so that the core is proved once and not twice.
+//! Tests of the core through its public calls. They stand in a crate of their own, so that the core
+//! is proved once and not twice.
 #![tactic(auto)]
 
 #[cfg(test)]

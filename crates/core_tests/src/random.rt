@@ -1,4 +1,5 @@
-//! A list of calls on the core that is drawn by lot, with a look at all that is asked for after each of them.
+//! A list of calls on the core that is drawn by lot, with a look at all that is asked for after
+//! each of them.
 use dice_core::{CommitRefusal, Core, Job, Polled, Step};
 use dice_key::{KeyRef, NoMemory, ValueRef};
 use std::alloc::Global;

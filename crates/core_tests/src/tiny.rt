@@ -26,7 +26,8 @@ enum Act {
     Do(Call),
 }
 
-/// What is done, then a version and a key, which an ask is for, what the key has come to there, and the tasks that are ready and out.
+/// What is done, then a version and a key, which an ask is for, what the key has come to there, and
+/// the tasks that are ready and out.
 type Row = (Act, u64, Place, Seen, u64, u64);
 
 const CELL: Place = Place::Cell(1);
@@ -135,7 +136,8 @@ fn new_bench(alloc: Global) -> Result<Bench<Tiny>, NoMemory> {
     Bench::new(alloc, universe)
 }
 
-/// Goes through these rows on a new core; the number of the first after which something stands otherwise than it says.
+/// Goes through these rows on a new core; the number of the first after which something stands
+/// otherwise than it says.
 fn first_other(alloc: Global, rows: &[Row]) -> Result<Option<usize>, NoMemory> {
     let mut bench = new_bench(alloc)?;
     for i in 0..rows.len() {

@@ -13,20 +13,24 @@ use std::hash::Hash;
 use std::sync::Arc;
 use task_share::{Table, table_in_order};
 
-/// The cycle that would be closed if the task of `from` waited for that of `to`: a path exactly where `to` leads to `from` by
-/// waits, or is `from`. It begins with `from`, then `to`; each key waits for the next, and the last for the first.
+/// The cycle that would be closed if the task of `from` waited for that of `to`: a path exactly
+/// where `to` leads to `from` by waits, or is `from`. It begins with `from`, then `to`; each key
+/// waits for the next, and the last for the first.
 ///
-/// Each key is looked up once, and each task that `to` leads to is passed at most once. Where `to` waits for nothing the answer takes
-/// no memory.
+/// Each key is looked up once, and each task that `to` leads to is passed at most once. Where `to`
+/// waits for nothing the answer takes no memory.
 pub fn would_close<K: Eq + Hash + Drop, T: Drop>(
     alloc: Global,
     table: &Table<K, T>,
     from: &Arc<K>,
     to: &Arc<K>,
 ) -> Result<Option<Path<K>>, NoMemory>
-    ensures path { IfOk result (λ o. IfSome o (λ p. IsWaitCycle (asked_of K.eq table.now) (arc_value from.now) (arc_value to.now) p)) }
-    ensures some { IfOk result (λ o. IfSome o (λ p. Leads (asked_of K.eq table.now) (arc_value to.now) (arc_value from.now))) }
-    ensures none { IfOk result (λ o. IfNone o (Leads (asked_of K.eq table.now) (arc_value to.now) (arc_value from.now) → ⊥)) }
+    ensures path { IfOk result (λ o. IfSome o
+        (λ p. IsWaitCycle (asked_of K.eq table.now) (arc_value from.now) (arc_value to.now) p)) }
+    ensures some { IfOk result (λ o. IfSome o
+        (λ p. Leads (asked_of K.eq table.now) (arc_value to.now) (arc_value from.now))) }
+    ensures none { IfOk result (λ o. IfNone o
+        (Leads (asked_of K.eq table.now) (arc_value to.now) (arc_value from.now) → ⊥)) }
 {
     table_in_order(table);
     if from == to {

@@ -13,7 +13,8 @@ use std::sync::Arc;
 /// What a check needs or finds.
 #[derive(Drop)]
 pub enum Next<'a, K, V> {
-    /// The answers to the keys of this batch, the next of the trace. Each key stands beside its answer in the trace.
+    /// The answers to the keys of this batch, the next of the trace. Each key stands beside its
+    /// answer in the trace.
     Want(&'a [(Arc<K>, Arc<V>)]),
     /// All answers are as they were.
     Same,
@@ -25,7 +26,8 @@ pub enum Next<'a, K, V> {
     },
 }
 
-/// A check of a trace: it is fed the answers to one batch after the other, as long as they are as they were.
+/// A check of a trace: it is fed the answers to one batch after the other, as long as they are as
+/// they were.
 pub struct Check<U: Universe> {
     trace: Arc<Trace<U>>,
     agreed: usize,
@@ -58,9 +60,14 @@ impl<U: Universe> Model for Check<U> {
 
     ghost Value = { Checked U.Key U.Value };
 
-    ghost view = { λ c. record { trace = arc_value c.trace; fed = fed_so_far (arc_value c.trace) c.agreed (option_map (λ d. d.answers) c.change) } };
+    ghost view = { λ c. record {
+      trace = arc_value c.trace;
+      fed = fed_so_far (arc_value c.trace) c.agreed (option_map (λ d. d.answers) c.change);
+    } };
 
-    ghost invariant = { λ c. (c.agreed ≤ length (arc_value c.trace)) × IfSome c.change (λ d. HasChange U.Value.eq (drop c.agreed (arc_value c.trace)) d.answers d.at) };
+    ghost invariant = { λ c. (c.agreed ≤ length (arc_value c.trace))
+        × IfSome c.change
+        (λ d. HasChange U.Value.eq (drop c.agreed (arc_value c.trace)) d.answers d.at) };
 }
 
 impl<U: Universe> Check<U> {
@@ -78,10 +85,12 @@ impl<U: Universe> Check<U> {
     /// What the check needs or finds. It takes no memory.
     pub fn next(&self) -> Next<'_, U::Key, U::Value>
         ensures finding { finding_of result ≡ finding U.Value.eq self.now.trace self.now.fed }
-        ensures wants { (ks : List U.Key) → finding_of result ≡ Wants ks → (0 < length ks) × IsNextBatch self.now.trace self.now.fed ks }
+        ensures wants { (ks : List U.Key) → finding_of result ≡ Wants ks
+            → (0 < length ks) × IsNextBatch self.now.trace self.now.fed ks }
         ensures pairs { LendsNext self.now.trace self.now.fed result }
         ensures same { finding_of result ≡ IsSame → self.now.fed ≡ values_of self.now.trace }
-        ensures differs { (d : U.Key) (x y : U.Value) → finding_of result ≡ HasChanged d x y → IsFirstChange self.now.trace self.now.fed d x y }
+        ensures differs { (d : U.Key) (x y : U.Value) → finding_of result ≡ HasChanged d x y
+            → IsFirstChange self.now.trace self.now.fed d x y }
     {
         laws_of::<U>();
         if let Some(change) = &self.change {
@@ -113,8 +122,11 @@ impl<U: Universe> Check<U> {
 /// The first place at which the answer to a key is another one now.
 fn first_change<K, V: Eq>(was: &[(Arc<K>, Arc<V>)], now: &[Arc<V>]) -> Option<usize>
     requires { length was.now ≡ length now.now }
-    ensures none { IfNone result (first_change V.eq (keys_in was.now) (values_in was.now) (map arc_value now.now) ≡ None) }
-    ensures some { IfSome result (λ i. (i < length was.now) × (first_change V.eq (keys_in was.now) (values_in was.now) (map arc_value now.now) ≡ changed_at i (keys_in was.now) (values_in was.now) (map arc_value now.now))) }
+    ensures none { IfNone result
+        (first_change V.eq (keys_in was.now) (values_in was.now) (map arc_value now.now) ≡ None) }
+    ensures some { IfSome result (λ i. (i < length was.now)
+        × (first_change V.eq (keys_in was.now) (values_in was.now) (map arc_value now.now)
+        ≡ changed_at i (keys_in was.now) (values_in was.now) (map arc_value now.now))) }
 {
     for i in 0..was.len() {
         if *was[i].1 != *now[i] {

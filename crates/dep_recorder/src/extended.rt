@@ -18,7 +18,8 @@ impl<U: Universe> Trace<U> {
         answers: &Answers<U::Value>,
     ) -> Result<Trace<U>, NoMemory>
         requires { length answers.now ≡ length batch.now }
-        ensures { IfOk result (λ t. t ≡ self.now ++ record { keys = batch.now; values = answers.now } ∷ []) }
+        ensures { IfOk result
+            (λ t. t ≡ self.now ++ record { keys = batch.now; values = answers.now } ∷ []) }
     {
         let mut next = self.try_clone(alloc, batch.len())?;
         next.push(batch, answers)?;
@@ -64,8 +65,10 @@ fn copy_pairs<K: Drop, V: Drop>(
     pairs: &mut Vec<(Arc<K>, Arc<V>)>,
     from: &[(Arc<K>, Arc<V>)],
 ) -> Result<(), NoMemory>
-    ensures keys { IfOk result (λ _. keys_in pairs.new.items ≡ keys_in pairs.old.items ++ keys_in from.now) }
-    ensures values { IfOk result (λ _. values_in pairs.new.items ≡ values_in pairs.old.items ++ values_in from.now) }
+    ensures keys { IfOk result
+        (λ _. keys_in pairs.new.items ≡ keys_in pairs.old.items ++ keys_in from.now) }
+    ensures values { IfOk result
+        (λ _. values_in pairs.new.items ≡ values_in pairs.old.items ++ values_in from.now) }
 {
     for (key, value) in from {
         push_pair(pairs, key, value)?;

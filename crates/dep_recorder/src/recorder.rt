@@ -45,17 +45,20 @@ impl<U: Universe> Recorder<U> {
         }
     }
 
-    /// The run asks a batch, when all before it are answered. At an error the recorder is as before.
+    /// The run asks a batch, when all before it are answered. At an error the recorder is as
+    /// before.
     pub fn ask(&mut self, batch: Batch<U::Key>) -> Result<(), NoMemory>
         requires { self.old.asked ≡ None }
-        ensures ok { OnOk result (self.new ≡ record { answered = self.old.answered; asked = Some batch }) }
+        ensures ok { OnOk result
+            (self.new ≡ record { answered = self.old.answered; asked = Some batch }) }
         ensures err { OnErr result (self.new ≡ self.old) }
     {
         self.asked = Some(batch);
         Ok(())
     }
 
-    /// The batch that was asked last is answered, with a value for each of its keys. At an error the recorder is as before.
+    /// The batch that was asked last is answered, with a value for each of its keys. At an error
+    /// the recorder is as before.
     pub fn answer(&mut self, answers: Answers<U::Value>) -> Result<(), NoMemory>
         requires { IsWaitingFor (length answers) self.old }
         ensures ok { OnOk result (self.new ≡ with_answers self.old answers) }
@@ -81,7 +84,10 @@ impl<U: Universe> Recorder<U> {
     pub fn finish(self) -> Trace<U>
         requires { self.asked ≡ None }
         ensures all { result ≡ self.answered }
-        ensures trace { (C : List (List (U.Key × U.Value))) (v : ℕ) (k : U.Key) (x : U.Value) → U.meaning.kind k ≢ Injected → Goes U.Key.eq U.meaning C v k [] self.answered → U.meaning.next k self.answered v ≡ Ends x → IsTrace U.Key.eq U.meaning C v k result x }
+        ensures trace { (C : List (List (U.Key × U.Value))) (v : ℕ) (k : U.Key) (x : U.Value)
+            → U.meaning.kind k ≢ Injected → Goes U.Key.eq U.meaning C v k [] self.answered
+            → U.meaning.next k self.answered v ≡ Ends x
+            → IsTrace U.Key.eq U.meaning C v k result x }
     {
         let Recorder {
             trace,

@@ -42,7 +42,9 @@ fn are_same<K: Eq, V: Eq>(a: &[(Arc<K>, Arc<V>)], b: &[(Arc<K>, Arc<V>)]) -> boo
 }
 
 fn is_same_pair<K: Eq, V: Eq>(a: &(Arc<K>, Arc<V>), b: &(Arc<K>, Arc<V>)) -> bool
-    ensures { result ≡ (K.eq (arc_value a.now.0) (arc_value b.now.0) && V.eq (arc_value a.now.1) (arc_value b.now.1)) }
+    ensures { result
+        ≡ (K.eq (arc_value a.now.0) (arc_value b.now.0)
+        && V.eq (arc_value a.now.1) (arc_value b.now.1)) }
 {
     *a.0 == *b.0 && *a.1 == *b.1
 }

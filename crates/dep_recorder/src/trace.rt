@@ -73,7 +73,8 @@ impl<U: Universe> Trace<U> {
         answers: &Answers<U::Value>,
     ) -> Result<(), NoMemory>
         requires { length answers.now ≡ length batch.now }
-        ensures ok { OnOk result (self.new ≡ self.old ++ record { keys = batch.now; values = answers.now } ∷ []) }
+        ensures ok { OnOk result
+            (self.new ≡ self.old ++ record { keys = batch.now; values = answers.now } ∷ []) }
         ensures err { OnErr result (self.new ≡ self.old) }
     {
         self.pairs.reserve(batch.len())?;
@@ -88,7 +89,9 @@ impl<U: Universe> Trace<U> {
 fn part<'a, T>(items: &'a [T], ends: &[usize], at: usize) -> &'a [T]
     requires rise { RiseTo 0 ends.now (length items.now) }
     requires within { at < length ends.now }
-    ensures part { result.now ≡ take (begins 0 ends.now (at + 1) - begins 0 ends.now at) (drop (begins 0 ends.now at) items.now) }
+    ensures part { result.now
+        ≡ take (begins 0 ends.now (at + 1) - begins 0 ends.now at)
+        (drop (begins 0 ends.now at) items.now) }
     ensures some { 0 < length result.now }
 {
     let (start, end) = bounds(ends, at, items.len());
@@ -122,8 +125,10 @@ fn extend<K: Drop, V: Drop>(
     values: &[Arc<V>],
 ) -> Result<(), NoMemory>
     requires { length keys.now ≡ length values.now }
-    ensures keys { OnOk result (keys_in pairs.new.items ≡ keys_in pairs.old.items ++ map arc_value keys.now) }
-    ensures values { OnOk result (values_in pairs.new.items ≡ values_in pairs.old.items ++ map arc_value values.now) }
+    ensures keys { OnOk result
+        (keys_in pairs.new.items ≡ keys_in pairs.old.items ++ map arc_value keys.now) }
+    ensures values { OnOk result
+        (values_in pairs.new.items ≡ values_in pairs.old.items ++ map arc_value values.now) }
     ensures err { OnErr result (pairs.new.items ≡ pairs.old.items) }
 {
     let before = pairs.len();
@@ -142,8 +147,10 @@ pub(crate) fn push_pair<K: Drop, V: Drop>(
     key: &Arc<K>,
     value: &Arc<V>,
 ) -> Result<(), NoMemory>
-    ensures keys { OnOk result (keys_in pairs.new.items ≡ keys_in pairs.old.items ++ arc_value key.now ∷ []) }
-    ensures values { OnOk result (values_in pairs.new.items ≡ values_in pairs.old.items ++ arc_value value.now ∷ []) }
+    ensures keys { OnOk result
+        (keys_in pairs.new.items ≡ keys_in pairs.old.items ++ arc_value key.now ∷ []) }
+    ensures values { OnOk result
+        (values_in pairs.new.items ≡ values_in pairs.old.items ++ arc_value value.now ∷ []) }
     ensures front { OnOk result (take (length pairs.old.items) pairs.new.items ≡ pairs.old.items) }
     ensures err { OnErr result (pairs.new.items ≡ pairs.old.items) }
 {

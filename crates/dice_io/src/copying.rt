@@ -10,17 +10,19 @@ const PIECE: usize = 65_536;
 
 /// Reads to the end of the input, or `limit` bytes where it is longer.
 ///
-/// Each call asks for the smaller of 65,536 bytes and what is left to the limit. At an error the bytes that were read are
-/// lost: of a source that tells its bytes they are a beginning of what was left, at most `limit` of them. The source counts
-/// no fault but where `Failed` is answered.
+/// Each call asks for the smaller of 65,536 bytes and what is left to the limit. At an error the
+/// bytes that were read are lost: of a source that tells its bytes they are a beginning of what was
+/// left, at most `limit` of them. The source counts no fault but where `Failed` is answered.
 pub fn read_all<S: Source>(alloc: Global, source: &mut S, limit: usize) -> Result<Vec<u8>, ReadFail>
-    ensures read { IfOk result (λ bytes. ReadTo (S.left source.old) (S.left source.new) bytes.items limit) }
+    ensures read { IfOk result
+        (λ bytes. ReadTo (S.left source.old) (S.left source.new) bytes.items limit) }
     ensures few { IfOk result (λ bytes. length bytes.items ≤ limit) }
     ensures part { OnErr result (ReadPart (S.left source.old) (S.left source.new) limit) }
     ensures counted { S.faults source.old ≤ S.faults source.new }
     ensures steady { OnOk result (S.faults source.new ≡ S.faults source.old) }
     ensures spared { IsErrOf result ReadFail.NoMemory → S.faults source.new ≡ S.faults source.old }
-    ensures failed { IsErrOf result ReadFail.Failed → Rose (S.faults source.old) (S.faults source.new) }
+    ensures failed { IsErrOf result ReadFail.Failed
+        → Rose (S.faults source.old) (S.faults source.new) }
 {
     let mut bytes = Vec::new(alloc);
     while bytes.len() < limit {
@@ -34,8 +36,8 @@ pub fn read_all<S: Source>(alloc: Global, source: &mut S, limit: usize) -> Resul
 
 /// Writes all of the bytes; it takes no memory.
 ///
-/// Each call hands the sink the whole rest. At an error the sink has gained a beginning of the bytes. It counts no fault but
-/// at an error.
+/// Each call hands the sink the whole rest. At an error the sink has gained a beginning of the
+/// bytes. It counts no fault but at an error.
 pub fn write_all<K: Sink>(sink: &mut K, bytes: &[u8]) -> Result<(), Failed>
     ensures whole { OnOk result (Gained (K.taken sink.old) (K.taken sink.new) bytes.now) }
     ensures part { OnErr result (GainedPart (K.taken sink.old) (K.taken sink.new) bytes.now) }

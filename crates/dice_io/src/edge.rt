@@ -76,8 +76,9 @@ impl Error for Failed {}
 
 /// Where bytes are read from.
 ///
-/// A source may tell which bytes are left; one that stands over a file or a pipe tells none. It counts its faults: a call that
-/// answers `Failed` counts one, up to the greatest number that the count can hold, and no other call counts any.
+/// A source may tell which bytes are left; one that stands over a file or a pipe tells none. It
+/// counts its faults: a call that answers `Failed` counts one, up to the greatest number that the
+/// count can hold, and no other call counts any.
 pub trait Source {
     /// The bytes that are left, where they are told.
     ghost left: { Self → Option (List ℕ) };
@@ -85,24 +86,27 @@ pub trait Source {
     /// How many faults there were.
     ghost faults: { Self → ℕ };
 
-    /// Reads at most `most` bytes to the end of `into`, and says how many. A source that tells its bytes before the call tells
-    /// them after it, and answers 0 only where none are left. At an error nothing is appended, and of bytes that are told none
-    /// is used up.
+    /// Reads at most `most` bytes to the end of `into`, and says how many. A source that tells its
+    /// bytes before the call tells them after it, and answers 0 only where none are left. At an
+    /// error nothing is appended, and of bytes that are told none is used up.
     fn read(&mut self, into: &mut Vec<u8>, most: usize) -> Result<usize, ReadFail>
         requires { 1 ≤ most }
-        ensures reads { IfOk result (λ n. Reads (left self.old) (left self.new) into.old.items into.new.items most n) }
+        ensures reads { IfOk result
+            (λ n. Reads (left self.old) (left self.new) into.old.items into.new.items most n) }
         ensures kept { OnErr result (into.new.items ≡ into.old.items) }
         ensures unread { OnErr result (Unread (left self.old) (left self.new)) }
         ensures counted { faults self.old ≤ faults self.new }
         ensures steady { OnOk result (faults self.new ≡ faults self.old) }
         ensures spared { IsErrOf result ReadFail.NoMemory → faults self.new ≡ faults self.old }
-        ensures failed { IsErrOf result ReadFail.Failed → faults self.new ≡ one_more (faults self.old) };
+        ensures failed { IsErrOf result ReadFail.Failed
+            → faults self.new ≡ one_more (faults self.old) };
 }
 
 /// Where bytes are written to.
 ///
-/// A sink may tell which bytes it took; one that stands over a file or a pipe tells none. It counts its faults: a call that
-/// fails counts one, up to the greatest number that the count can hold, and no other call counts any.
+/// A sink may tell which bytes it took; one that stands over a file or a pipe tells none. It counts
+/// its faults: a call that fails counts one, up to the greatest number that the count can hold, and
+/// no other call counts any.
 pub trait Sink {
     /// The bytes that were taken, where they are told.
     ghost taken: { Self → Option (List ℕ) };
@@ -110,8 +114,9 @@ pub trait Sink {
     /// How many faults there were.
     ghost faults: { Self → ℕ };
 
-    /// Takes some of the bytes from the front, and says how many; of a piece that is not empty at least one. A sink that tells
-    /// its bytes after the call told them before it. At an error a sink that tells its bytes took none.
+    /// Takes some of the bytes from the front, and says how many; of a piece that is not empty at
+    /// least one. A sink that tells its bytes after the call told them before it. At an error a
+    /// sink that tells its bytes took none.
     fn write(&mut self, bytes: &[u8]) -> Result<usize, Failed>
         ensures takes { IfOk result (λ n. Takes (taken self.old) (taken self.new) bytes.now n) }
         ensures some { IfOk result (λ n. 0 < length bytes.now → 0 < n) }

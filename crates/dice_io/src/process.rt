@@ -1,4 +1,5 @@
-//! Standard input and standard output. Those of the process tell no bytes: what it reads and writes is trusted.
+//! Standard input and standard output. Those of the process tell no bytes: what it reads and writes
+//! is trusted.
 ghost use Rattle.std.specs.Prelude.{◌≡◌, ◌≤◌, ◌<◌, ◌++◌, ◌+◌, take, drop, List, length, None, IfOk, OnOk, OnErr, IsErrOf, IsErr};
 ghost use Rattle.std.specs.Io.KnownBytes.{ReadConsumes, WriteAppends};
 ghost use Rattle.dice_io.specs.Streams.{Reads, Unread, Takes, Unchanged, one_more};
@@ -9,7 +10,8 @@ use std::io::{self, Input, Print, Printer, Read, Write};
 /// The most bytes of one read.
 const PIECE: usize = 65_536;
 
-/// Standard input. It tells the bytes that its reader knows to be left; the reader of the process knows none.
+/// Standard input. It tells the bytes that its reader knows to be left; the reader of the process
+/// knows none.
 #[derive(Drop)]
 pub struct RealSource<R: Input> {
     reader: R::Reader,
@@ -17,7 +19,8 @@ pub struct RealSource<R: Input> {
 }
 
 impl<R: Input> RealSource<R> {
-    /// The standard input of the process. Only one should stand at a time, since each may read ahead.
+    /// The standard input of the process. Only one should stand at a time, since each may read
+    /// ahead.
     pub fn new(rt: &R) -> RealSource<R>
         ensures { result.faults ≡ 0 }
     {
@@ -50,12 +53,14 @@ impl<R: Input> Source for RealSource<R> {
     }
 }
 
-// One read into what stands behind `start`. Where the bytes that the reader has left are known, it loses those that were read.
+// One read into what stands behind `start`. Where the bytes that the reader has left are known, it
+// loses those that were read.
 fn read_behind<R: Read>(reader: &mut R, bytes: &mut [u8], start: usize) -> io::Result<usize>
     requires { start < length bytes.old }
     ensures few { IfOk result (λ n. start + n ≤ length bytes.old) }
     ensures front { take start bytes.new ≡ take start bytes.old }
-    ensures moved { ReadConsumes (R.remaining reader.old) (R.remaining reader.new) result (drop start bytes.new) }
+    ensures moved { ReadConsumes (R.remaining reader.old) (R.remaining reader.new) result
+        (drop start bytes.new) }
 {
     reader.read(&mut bytes[start..])
 }
@@ -89,8 +94,8 @@ impl<P: Print> Sink for RealSink<'_, P> {
     }
 }
 
-// One write of bytes from the front, which counts its fault. Where the bytes that the writer holds are known, they gain those
-// that were written.
+// One write of bytes from the front, which counts its fault. Where the bytes that the writer holds
+// are known, they gain those that were written.
 fn write_once<W: Write>(out: &mut W, bytes: &[u8], faults: &mut u64) -> Result<usize, Failed>
     ensures few { IfOk result (λ n. n ≤ length bytes.now) }
     ensures some { IfOk result (λ n. 0 < length bytes.now → 0 < n) }

@@ -41,7 +41,8 @@ impl Source for SureSource {
 
     fn read(&mut self, into: &mut Vec<u8>, most: usize) -> Result<usize, ReadFail>
         requires { 1 ≤ most }
-        ensures reads { IfOk result (λ n. Reads (Some self.old) (Some self.new) into.old.items into.new.items most n) }
+        ensures reads { IfOk result
+            (λ n. Reads (Some self.old) (Some self.new) into.old.items into.new.items most n) }
         ensures kept { OnErr result (into.new.items ≡ into.old.items) }
         ensures unread { OnErr result (Unread (Some self.old) (Some self.new)) }
         ensures counted { 0 ≤ 0 }
@@ -57,8 +58,8 @@ impl Source for SureSource {
     }
 }
 
-/// Keeps what it takes, in room that is made ahead. What goes beyond the room is taken and not kept, and from then on it tells
-/// no bytes.
+/// Keeps what it takes, in room that is made ahead. What goes beyond the room is taken and not
+/// kept, and from then on it tells no bytes.
 #[derive(Drop)]
 pub struct SureSink {
     bytes: Vec<u8>,
@@ -115,8 +116,11 @@ impl Sink for SureSink {
         ensures steady { OnOk result (◌≡◌ {A = ℕ} 0 0) }
         ensures failed { IsErr result → 0 ≡ one_more 0 }
         ensures ok { IsOk result }
-        ensures fits { self.old.is_whole ≡ true → length self.old.bytes + length bytes.now ≤ self.old.room → self.new ≡ record self.old { bytes = self.old.bytes ++ bytes.now } }
-        ensures beyond { self.old.room < length self.old.bytes + length bytes.now → self.new.is_whole ≡ false }
+        ensures fits { self.old.is_whole ≡ true
+            → length self.old.bytes + length bytes.now ≤ self.old.room
+            → self.new ≡ record self.old { bytes = self.old.bytes ++ bytes.now } }
+        ensures beyond { self.old.room < length self.old.bytes + length bytes.now
+            → self.new.is_whole ≡ false }
         ensures stays { self.old.is_whole ≡ false → self.new.is_whole ≡ false }
     {
         self.is_whole = self.is_whole && bytes.len() <= self.room - self.bytes.len();

@@ -4,8 +4,8 @@ ghost use Rattle.std.specs.Cmp.{IsTotalOrder};
 
 use crate::universe::Universe;
 
-/// The laws that each universe keeps: those of its moves; keys that are equal, or compare equal, are the same, and so are
-/// values that are equal. It does no work.
+/// The laws that each universe keeps: those of its moves; keys that are equal, or compare equal,
+/// are the same, and so are values that are equal. It does no work.
 pub fn laws_of<U: Universe>()
     ensures lawful { IsLawful U.meaning }
     ensures same_keys { SameKeys U.Key.cmp }

@@ -1,4 +1,5 @@
-//! What an engine needs of the values that it computes: keys, values, and the moves by which a key comes to its value.
+//! What an engine needs of the values that it computes: keys, values, and the moves by which a key
+//! comes to its value.
 #![tactic(auto)]
 
 mod batch;

@@ -51,14 +51,15 @@ impl<T: Drop> From<AllocFailed<T>> for NoMemory {
 
 /// The keys and values of an engine, and how a key comes to its value.
 ///
-/// A key's value is found by a run, which asks for other keys in batches until it is done. The next move is a function of the
-/// key, the answers so far and the version; only a transient result may depend on the version.
+/// A key's value is found by a run, which asks for other keys in batches until it is done. The next
+/// move is a function of the key, the answers so far and the version; only a transient result may
+/// depend on the version.
 pub trait Universe: Send + Sync + Drop {
     /// What is asked for.
     type Key: Ord + Eq + Hash + Send + Sync + Drop;
 
-    /// What a key comes to. It is hashed since the values that an injected key was set to are numbered by what they are: so only
-    /// those values need to be hashed apart.
+    /// What a key comes to. It is hashed since the values that an injected key was set to are
+    /// numbered by what they are: so only those values need to be hashed apart.
     type Value: Eq + Hash + Send + Sync + Drop;
 
     /// A key on its way to its value.
@@ -85,26 +86,32 @@ pub trait Universe: Send + Sync + Drop {
         version: u64,
     ) -> Result<(Self::Run, Move<Self::Key, Self::Value>), NoMemory>
         requires { meaning.kind (arc_value key.now) ≡ Injected → ⊥ }
-        ensures run { IfOk result (λ p. running p.0 ≡ record { key = arc_value key.now; version = version; answered = [] }) }
-        ensures step { IfOk result (λ p. IsStep p.1 (meaning.next (arc_value key.now) [] version)) };
+        ensures run { IfOk result (λ p. running p.0
+            ≡ record { key = arc_value key.now; version = version; answered = [] }) }
+        ensures step { IfOk result
+            (λ p. IsStep p.1 (meaning.next (arc_value key.now) [] version)) };
 
-    /// The next move after the answers to the batch last asked. After `NoMemory` the run is given up.
+    /// The next move after the answers to the batch last asked. After `NoMemory` the run is given
+    /// up.
     fn resume(
         &self,
         run: &mut Self::Run,
         answers: &Answers<Self::Value>,
     ) -> Result<Move<Self::Key, Self::Value>, NoMemory>
         requires { Takes (next_of meaning (running run.old)) (length answers.now) }
-        ensures run { OnOk result (running run.new ≡ resumed meaning (running run.old) answers.now) }
+        ensures run { OnOk result
+            (running run.new ≡ resumed meaning (running run.old) answers.now) }
         ensures step { IfOk result (λ p. IsStep p (next_of meaning (running run.new))) };
 
     /// The base of a projection key. Of another key nothing is said.
     fn base(&self, key: &Self::Key) -> Result<Arc<Self::Key>, NoMemory>
-        ensures { IfOk result (λ b. meaning.kind key.now ≡ Projection → arc_value b ≡ meaning.base key.now) };
+        ensures { IfOk result
+            (λ b. meaning.kind key.now ≡ Projection → arc_value b ≡ meaning.base key.now) };
 
     /// The value of a projection key from the value of its base. Of another key nothing is said.
     fn project(&self, key: &Self::Key, base: &Self::Value) -> Result<Arc<Self::Value>, NoMemory>
-        ensures { IfOk result (λ x. meaning.kind key.now ≡ Projection → arc_value x ≡ meaning.project key.now base.now) };
+        ensures { IfOk result (λ x. meaning.kind key.now ≡ Projection
+            → arc_value x ≡ meaning.project key.now base.now) };
 
     /// Whether the value is not to be used again at later versions. It takes no memory.
     fn is_transient(&self, value: &Self::Value) -> bool
@@ -118,10 +125,12 @@ pub trait Universe: Send + Sync + Drop {
     fn print(&self, key: &Self::Key, short: bool) -> Result<Line, NoMemory>
         ensures { IfOk result (λ t. t ≡ meaning.text key.now short) };
 
-    /// Moves end, depend on the version in a transient end alone, and are those of a projection where the key is one.
+    /// Moves end, depend on the version in a transient end alone, and are those of a projection
+    /// where the key is one.
     ghost lawful: { IsLawful meaning };
 
-    /// Keys that compare equal are the same. (So are keys that are equal, since `==` and the order of a type agree.)
+    /// Keys that compare equal are the same. (So are keys that are equal, since `==` and the order
+    /// of a type agree.)
     ghost same_keys: { SameKeys Self.Key.cmp };
 
     /// Values that are equal are the same.

@@ -10,7 +10,8 @@ use std::alloc::Global;
 use std::marker::Model;
 use std::sync::Arc;
 
-/// The commits so far, oldest first. Each sets one or more injected keys, and none twice. The first `v` of them are version `v`.
+/// The commits so far, oldest first. Each sets one or more injected keys, and none twice. The first
+/// `v` of them are version `v`.
 #[derive(Drop)]
 pub struct Commits<U: Universe> {
     commits: Vec<Vec<(Arc<U::Key>, Arc<U::Value>)>>,
@@ -54,11 +55,12 @@ impl<U: Universe> Commits<U> {
         self.commits.len()
     }
 
-    /// The input at a version: the value in the last of its commits that has one, else the absent one. It looks through all
-    /// commits up to the version.
+    /// The input at a version: the value in the last of its commits that has one, else the absent
+    /// one. It looks through all commits up to the version.
     #[tactic(auto, using(crate::proofs::Firsts::mapped_first))]
     pub fn input(&self, universe: &U, version: u64, key: &U::Key) -> Result<Arc<U::Value>, NoMemory>
-        ensures { IfOk result (λ x. arc_value x ≡ input U.Key.eq U.meaning self.now version key.now) }
+        ensures { IfOk result
+            (λ x. arc_value x ≡ input U.Key.eq U.meaning self.now version key.now) }
     {
         let count = version.min(self.commits.len() as u64) as usize;
         let found = last_value(&self.commits[..count], key, universe.absent(key));
@@ -72,7 +74,8 @@ fn last_value<'a, K: Eq, V>(
     key: &K,
     absent: &'a Arc<V>,
 ) -> &'a Arc<V>
-    ensures { arc_value result.now ≡ last_value_of (K.eq key.now) (arc_value absent.now) (commits_of commits.now) }
+    ensures { arc_value result.now
+        ≡ last_value_of (K.eq key.now) (arc_value absent.now) (commits_of commits.now) }
 {
     let mut found = absent;
     for commit in commits {
@@ -85,7 +88,8 @@ fn last_value<'a, K: Eq, V>(
 
 /// The value that a commit has for a key.
 fn value_in<'a, K: Eq, V>(commit: &'a [(Arc<K>, Arc<V>)], key: &K) -> Option<&'a Arc<V>>
-    ensures { option_map (λ x. arc_value x.now) result ≡ lookup (K.eq key.now) (pairs_of commit.now) }
+    ensures { option_map (λ x. arc_value x.now) result
+        ≡ lookup (K.eq key.now) (pairs_of commit.now) }
 {
     for (at, value) in commit {
         if *key == **at {

@@ -9,8 +9,9 @@ use dice_key::{Answers, Batch, Kind, Move, NoMemory, Universe};
 use std::alloc::Global;
 use std::sync::Arc;
 
-/// The value of the key at the version, by evaluation from nothing; `None` where this depth is not enough. An injected key needs
-/// depth 1, another key one more than the keys that it asks. Nothing is kept, so the time is exponential in the depth.
+/// The value of the key at the version, by evaluation from nothing; `None` where this depth is not
+/// enough. An injected key needs depth 1, another key one more than the keys that it asks. Nothing
+/// is kept, so the time is exponential in the depth.
 #[cycle(plain)]
 pub fn plain<U: Universe>(
     alloc: Global,
@@ -20,7 +21,8 @@ pub fn plain<U: Universe>(
     key: &Arc<U::Key>,
     depth: u32,
 ) -> Result<Option<Arc<U::Value>>, NoMemory>
-    ensures { IfOk result (λ o. option_map arc_value o ≡ eval U.Key.eq U.meaning depth commits.now version (arc_value key.now)) }
+    ensures { IfOk result (λ o. option_map arc_value o
+        ≡ eval U.Key.eq U.meaning depth commits.now version (arc_value key.now)) }
 {
     if depth == 0 {
         return Ok(None);
@@ -57,7 +59,8 @@ fn answer<U: Universe>(
     batch: &Batch<U::Key>,
     depth: u32,
 ) -> Result<Option<Answers<U::Value>>, NoMemory>
-    ensures { IfOk result (λ o. o ≡ answers (eval U.Key.eq U.meaning depth commits.now version) batch.now) }
+    ensures { IfOk result
+        (λ o. o ≡ answers (eval U.Key.eq U.meaning depth commits.now version) batch.now) }
 {
     let mut values = Answers::new(alloc);
     for key in batch.keys() {

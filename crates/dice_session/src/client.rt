@@ -20,8 +20,8 @@ use std::sync::{Arc, Wait};
 /// The worker that the session is.
 const SESSION: u32 = 0;
 
-/// Commits those of the changes whose value is another than the key's newest one, if there are any. The transaction that is kept is
-/// closed if the version is a new one.
+/// Commits those of the changes whose value is another than the key's newest one, if there are any.
+/// The transaction that is kept is closed if the version is a new one.
 pub(crate) fn commit<U: Universe, R: Wait>(
     rt: &R,
     engine: &Engine<U>,
@@ -32,10 +32,12 @@ pub(crate) fn commit<U: Universe, R: Wait>(
     requires { IsReady engine.now seat.old kept.old }
     ensures ready { IsReady engine.now seat.new kept.new }
     ensures begins { StartsWith seat.new.seen seat.old.seen }
-    ensures ok { OnOk result (log_of seat.new.seen ≡ committed U.Key.eq U.Value.eq U.meaning (log_of seat.old.seen) changes.now) }
+    ensures ok { OnOk result (log_of seat.new.seen
+        ≡ committed U.Key.eq U.Value.eq U.meaning (log_of seat.old.seen) changes.now) }
     ensures version { IfOk result (λ v. v ≡ newest_in seat.new.seen) }
     ensures settable { OnOk result (AreSettable U.meaning (keys_of changes.now)) }
-    ensures fault { IfErr result (λ e. IfSome (fault_in e) (IsFirstFault U.meaning (keys_of changes.now))) }
+    ensures fault { IfErr result
+        (λ e. IfSome (fault_in e) (IsFirstFault U.meaning (keys_of changes.now))) }
     ensures err { OnErr result (log_of seat.new.seen ≡ log_of seat.old.seen) }
 {
     match apply(rt, engine, seat, changes) {
@@ -47,7 +49,8 @@ pub(crate) fn commit<U: Universe, R: Wait>(
     }
 }
 
-/// Applies the changes whose value is another than the key's newest one, as one commit, if there are any.
+/// Applies the changes whose value is another than the key's newest one, as one commit, if there
+/// are any.
 fn apply<U: Universe, R: Wait>(
     rt: &R,
     engine: &Engine<U>,
@@ -58,10 +61,12 @@ fn apply<U: Universe, R: Wait>(
     ensures sole { IsSole engine.now seat.new }
     ensures open { (t v : ℕ) → HasOpen seat.old t v → HasOpen seat.new t v }
     ensures begins { StartsWith seat.new.seen seat.old.seen }
-    ensures ok { OnOk result (log_of seat.new.seen ≡ committed U.Key.eq U.Value.eq U.meaning (log_of seat.old.seen) changes.now) }
+    ensures ok { OnOk result (log_of seat.new.seen
+        ≡ committed U.Key.eq U.Value.eq U.meaning (log_of seat.old.seen) changes.now) }
     ensures version { IfOk result (λ v. v ≡ newest_in seat.new.seen) }
     ensures settable { OnOk result (AreSettable U.meaning (keys_of changes.now)) }
-    ensures fault { IfErr result (λ e. IfSome (fault_in e) (IsFirstFault U.meaning (keys_of changes.now))) }
+    ensures fault { IfErr result
+        (λ e. IfSome (fault_in e) (IsFirstFault U.meaning (keys_of changes.now))) }
     ensures err { OnErr result (log_of seat.new.seen ≡ log_of seat.old.seen) }
 {
     owned(engine.commit(rt, seat, changes))
@@ -90,8 +95,10 @@ fn ask<U: Universe, R: Wait>(
 ) -> Result<Promise<U>, NoMemory>
     requires sole { IsSole engine.now seat.old }
     requires open { IsOpen seat.old transaction.now.opened transaction.now.version }
-    ensures asks { Asks engine.now seat.old seat.new transaction.now.opened transaction.now.version }
-    ensures asked { IfOk result (IsAsked seat.new transaction.now.opened transaction.now.version (arc_value key)) }
+    ensures asks { Asks engine.now seat.old seat.new transaction.now.opened
+        transaction.now.version }
+    ensures asked { IfOk result
+        (IsAsked seat.new transaction.now.opened transaction.now.version (arc_value key)) }
 {
     engine.ask(rt, seat, transaction, key)
 }
@@ -106,9 +113,12 @@ fn wait<U: Universe, R: Wait>(
 ) -> Result<Found<U>, NoMemory>
     requires sole { IsSole engine.now seat.old }
     requires open { IsOpen seat.old transaction.now.opened transaction.now.version }
-    requires asked { IsAsked seat.old transaction.now.opened transaction.now.version (arc_value promise.now.key) promise.now }
-    ensures asks { Asks engine.now seat.old seat.new transaction.now.opened transaction.now.version }
-    ensures found { IfOk result (IsFound U.Key.eq U.meaning (log_of seat.old.seen) (arc_value promise.now.key)) }
+    requires asked { IsAsked seat.old transaction.now.opened transaction.now.version
+        (arc_value promise.now.key) promise.now }
+    ensures asks { Asks engine.now seat.old seat.new transaction.now.opened
+        transaction.now.version }
+    ensures found { IfOk result
+        (IsFound U.Key.eq U.meaning (log_of seat.old.seen) (arc_value promise.now.key)) }
 {
     match engine.wait(rt, seat, promise, &Open, SESSION)? {
         Settled::Value(value) => Ok(Found::Value(value)),
@@ -127,7 +137,8 @@ fn leave<U: Universe, R: Wait>(
 )
     requires sole { IsSole engine.now seat.old }
     requires open { IsOpen seat.old transaction.now.opened transaction.now.version }
-    requires asked { IsAsked seat.old transaction.now.opened transaction.now.version (arc_value promise.key) promise }
+    requires asked { IsAsked seat.old transaction.now.opened transaction.now.version
+        (arc_value promise.key) promise }
     ensures goes { Goes engine.now seat.old seat.new }
     ensures still { IsOpen seat.new transaction.now.opened transaction.now.version }
 {
@@ -165,8 +176,8 @@ fn reopen<U: Universe, R: Wait>(
     }
 }
 
-/// Keeps a transaction for the next call if its key was answered. If memory was refused it is closed, since what was given up for that
-/// reason stays so while it is open.
+/// Keeps a transaction for the next call if its key was answered. If memory was refused it is
+/// closed, since what was given up for that reason stays so while it is open.
 fn keep_answered<U: Universe, R: Wait>(
     rt: &R,
     engine: &Engine<U>,
@@ -221,7 +232,8 @@ pub(crate) fn compute<U: Universe, R: Wait>(
     requires { IsReady engine.now seat.old kept.old }
     ensures ready { IsReady engine.now seat.new kept.new }
     ensures goes { Goes engine.now seat.old seat.new }
-    ensures found { IfOk result (IsFound U.Key.eq U.meaning (log_of seat.old.seen) (arc_value key)) }
+    ensures found { IfOk result
+        (IsFound U.Key.eq U.meaning (log_of seat.old.seen) (arc_value key)) }
 {
     let transaction = reopen(rt, engine, seat, kept.take())?;
     let found = compute_in(rt, engine, seat, &transaction, key);
@@ -241,7 +253,8 @@ fn compute_in<U: Universe, R: Wait>(
     requires open { IsOpen seat.old transaction.now.opened transaction.now.version }
     ensures goes { Goes engine.now seat.old seat.new }
     ensures still { IsOpen seat.new transaction.now.opened transaction.now.version }
-    ensures found { IfOk result (IsFound U.Key.eq U.meaning (log_of seat.old.seen) (arc_value key)) }
+    ensures found { IfOk result
+        (IsFound U.Key.eq U.meaning (log_of seat.old.seen) (arc_value key)) }
 {
     let promise = ask(rt, engine, seat, transaction, key)?;
     let found = wait(rt, engine, seat, transaction, &promise)?;
@@ -249,8 +262,8 @@ fn compute_in<U: Universe, R: Wait>(
     Ok(found)
 }
 
-/// What these keys come to, in one transaction, in which all are asked before the first is waited for. It is closed after that, which
-/// leaves all of them in one turn.
+/// What these keys come to, in one transaction, in which all are asked before the first is waited
+/// for. It is closed after that, which leaves all of them in one turn.
 pub(crate) fn compute_all<U: Universe, R: Wait>(
     rt: &R,
     alloc: Global,
@@ -262,7 +275,8 @@ pub(crate) fn compute_all<U: Universe, R: Wait>(
     requires { IsReady engine.now seat.old kept.old }
     ensures ready { IsReady engine.now seat.new kept.new }
     ensures goes { Goes engine.now seat.old seat.new }
-    ensures found { IfOk result (λ v. AllZip (IsFound U.Key.eq U.meaning (log_of seat.old.seen)) keys.items v.items) }
+    ensures found { IfOk result
+        (λ v. AllZip (IsFound U.Key.eq U.meaning (log_of seat.old.seen)) keys.items v.items) }
 {
     let keys = shared_all(alloc, keys)?;
     let transaction = reopen(rt, engine, seat, kept.take())?;
@@ -282,8 +296,11 @@ fn compute_all_in<U: Universe, R: Wait>(
 ) -> Result<Vec<Found<U>>, NoMemory>
     requires sole { IsSole engine.now seat.old }
     requires open { IsOpen seat.old transaction.now.opened transaction.now.version }
-    ensures asks { Asks engine.now seat.old seat.new transaction.now.opened transaction.now.version }
-    ensures found { IfOk result (λ v. AllZip (λ k f. IsFound U.Key.eq U.meaning (log_of seat.old.seen) (arc_value k) f) keys.now v.items) }
+    ensures asks { Asks engine.now seat.old seat.new transaction.now.opened
+        transaction.now.version }
+    ensures found { IfOk result (λ v. AllZip
+        (λ k f. IsFound U.Key.eq U.meaning (log_of seat.old.seen) (arc_value k) f) keys.now
+        v.items) }
 {
     let promises = ask_all(rt, alloc, engine, seat, transaction, keys)?;
     wait_all(rt, alloc, engine, seat, transaction, promises.as_slice())
@@ -300,8 +317,11 @@ fn ask_all<U: Universe, R: Wait>(
 ) -> Result<Vec<Promise<U>>, NoMemory>
     requires sole { IsSole engine.now seat.old }
     requires open { IsOpen seat.old transaction.now.opened transaction.now.version }
-    ensures asks { Asks engine.now seat.old seat.new transaction.now.opened transaction.now.version }
-    ensures asked { IfOk result (λ v. AllZip (λ k p. IsAsked seat.new transaction.now.opened transaction.now.version (arc_value k) p) keys.now v.items) }
+    ensures asks { Asks engine.now seat.old seat.new transaction.now.opened
+        transaction.now.version }
+    ensures asked { IfOk result (λ v. AllZip
+        (λ k p. IsAsked seat.new transaction.now.opened transaction.now.version (arc_value k) p)
+        keys.now v.items) }
 {
     let mut promises = Vec::new(alloc);
     for key in keys {
@@ -323,8 +343,11 @@ fn wait_all<U: Universe, R: Wait>(
     requires sole { IsSole engine.now seat.old }
     requires open { IsOpen seat.old transaction.now.opened transaction.now.version }
     requires asked { AreAsked seat.old transaction.now.opened transaction.now.version promises.now }
-    ensures asks { Asks engine.now seat.old seat.new transaction.now.opened transaction.now.version }
-    ensures found { IfOk result (λ v. AllZip (λ p f. IsFound U.Key.eq U.meaning (log_of seat.old.seen) (arc_value p.key) f) promises.now v.items) }
+    ensures asks { Asks engine.now seat.old seat.new transaction.now.opened
+        transaction.now.version }
+    ensures found { IfOk result (λ v. AllZip
+        (λ p f. IsFound U.Key.eq U.meaning (log_of seat.old.seen) (arc_value p.key) f) promises.now
+        v.items) }
 {
     let mut found = Vec::new(alloc);
     for promise in promises {

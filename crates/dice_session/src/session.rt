@@ -17,8 +17,9 @@ use std::marker::Model;
 use std::mem;
 use std::sync::{Arc, Wait};
 
-/// An engine and the seat of its one writer, the transaction that it keeps open at the newest version, if any, and the changes that
-/// were set since the last commit. Contracts see its commits, these changes, and the events that it has seen.
+/// An engine and the seat of its one writer, the transaction that it keeps open at the newest
+/// version, if any, and the changes that were set since the last commit. Contracts see its commits,
+/// these changes, and the events that it has seen.
 #[derive(Drop)]
 pub struct Session<U: Universe> {
     engine: Arc<Engine<U>>,
@@ -36,7 +37,8 @@ impl<U: Universe> Model for Session<U> {
 
     ghost Value = { SessionView U.Key U.Value };
 
-    ghost view = { λ s. record { commits = log_of s.seat.seen; changes = s.changes; events = s.seat.seen } };
+    ghost view = { λ s. record
+        { commits = log_of s.seat.seen; changes = s.changes; events = s.seat.seen } };
 
     ghost invariant = { λ s. IsReady (arc_value s.engine) s.seat s.kept };
 }
@@ -68,8 +70,8 @@ impl<U: Universe> Session<U> {
         })
     }
 
-    /// Sets an injected key to a value, from the next commit on. A key is set at most once between two commits. If memory is refused
-    /// nothing changes.
+    /// Sets an injected key to a value, from the next commit on. A key is set at most once between
+    /// two commits. If memory is refused nothing changes.
     pub fn set(&mut self, key: U::Key, value: U::Value) -> Result<(), NoMemory>
         ensures ok { OnOk result (Sets self.old key value self.new) }
         ensures err { OnErr result (self.new ≡ self.old) }
@@ -79,15 +81,18 @@ impl<U: Universe> Session<U> {
         self.changes.changed_to(key, value)
     }
 
-    /// Commits what was set since the last commit, and answers the newest version. Changes to the value that a key has already are left
-    /// out; if none is left there is no commit.
+    /// Commits what was set since the last commit, and answers the newest version. Changes to the
+    /// value that a key has already are left out; if none is left there is no commit.
     ///
-    /// If one of the changes is at fault the commits stay, and all the changes are let go. If memory is refused nothing changes.
+    /// If one of the changes is at fault the commits stay, and all the changes are let go. If
+    /// memory is refused nothing changes.
     pub fn commit<R: Wait>(&mut self, rt: &R) -> Result<Version, CommitError<U>>
-        ensures ok { OnOk result (self.new.commits ≡ committed U.Key.eq U.Value.eq U.meaning self.old.commits self.old.changes) }
+        ensures ok { OnOk result (self.new.commits
+            ≡ committed U.Key.eq U.Value.eq U.meaning self.old.commits self.old.changes) }
         ensures version { IfOk result (λ v. v ≡ length self.new.commits) }
         ensures settable { OnOk result (AreSettable U.meaning (keys_of self.old.changes)) }
-        ensures fault { IfErr result (λ e. IfSome (fault_in e) (IsFirstFault U.meaning (keys_of self.old.changes))) }
+        ensures fault { IfErr result
+            (λ e. IfSome (fault_in e) (IsFirstFault U.meaning (keys_of self.old.changes))) }
         ensures changes { self.new.changes ≡ still_set result self.old.changes }
         ensures events { StartsWith self.new.events self.old.events }
         ensures err { OnErr result (self.new.commits ≡ self.old.commits) }
@@ -103,7 +108,8 @@ impl<U: Universe> Session<U> {
         }
     }
 
-    /// What the key comes to at the newest version. It does the work itself, as far as no worker does.
+    /// What the key comes to at the newest version. It does the work itself, as far as no worker
+    /// does.
     pub fn compute<R: Wait>(&mut self, rt: &R, key: U::Key) -> Result<Found<U>, NoMemory>
         ensures rests { Rests self.old self.new }
         ensures found { IfOk result (IsFound U.Key.eq U.meaning self.old.commits key) }
@@ -112,15 +118,16 @@ impl<U: Universe> Session<U> {
         client::compute(rt, &*self.engine, &mut self.seat, &mut self.kept, key)
     }
 
-    /// What these keys come to at the newest version, each as by `compute`, in their order. They are asked in one transaction, so work
-    /// that they share is done once.
+    /// What these keys come to at the newest version, each as by `compute`, in their order. They
+    /// are asked in one transaction, so work that they share is done once.
     pub fn compute_all<R: Wait>(
         &mut self,
         rt: &R,
         keys: Vec<U::Key>,
     ) -> Result<Vec<Found<U>>, NoMemory>
         ensures rests { Rests self.old self.new }
-        ensures found { IfOk result (λ v. AllZip (IsFound U.Key.eq U.meaning self.old.commits) keys.items v.items) }
+        ensures found { IfOk result
+            (λ v. AllZip (IsFound U.Key.eq U.meaning self.old.commits) keys.items v.items) }
     {
         client::compute_all(
             rt,
@@ -132,8 +139,8 @@ impl<U: Universe> Session<U> {
         )
     }
 
-    /// What the value of a key of this kind holds at the newest version. It is `None` if the key reaches a cycle, or was set to a value
-    /// of another kind.
+    /// What the value of a key of this kind holds at the newest version. It is `None` if the key
+    /// reaches a cycle, or was set to a value of another kind.
     pub fn get<R: Wait, K: TypedKey<U>>(
         &mut self,
         rt: &R,
@@ -142,7 +149,8 @@ impl<U: Universe> Session<U> {
     where
         K::Out: Copy,
         ensures rests { Rests self.old self.new }
-        ensures read { IfOk result (IsRead U.Key.eq U.meaning self.old.commits (K.wrapped key) K.reads) }
+        ensures read { IfOk result
+            (IsRead U.Key.eq U.meaning self.old.commits (K.wrapped key) K.reads) }
     {
         match self.compute(rt, key.wrap())? {
             Found::Value(value) => Ok(K::read(&*value).copied()),
@@ -166,7 +174,8 @@ impl<U: Universe> Session<U> {
         self.engine.event_count(rt, &mut self.seat)
     }
 
-    /// The events since a point, in order. They tell what was computed (`Start`), kept (`Keep`) and ended (`End`), and why.
+    /// The events since a point, in order. They tell what was computed (`Start`), kept (`Keep`) and
+    /// ended (`End`), and why.
     pub fn events_since<R: Wait>(
         &mut self,
         rt: &R,
@@ -178,7 +187,8 @@ impl<U: Universe> Session<U> {
         self.engine.events(rt, self.alloc, &mut self.seat, point)
     }
 
-    /// So many workers for this session, who wait to be begun. They are fewer if no numbers for their seats are left.
+    /// So many workers for this session, who wait to be begun. They are fewer if no numbers for
+    /// their seats are left.
     pub fn workers(&mut self, count: u32) -> Result<Workers<U>, NoMemory>
         ensures { self.new ≡ self.old }
     {

@@ -17,8 +17,9 @@ pub struct Workers<U: Universe> {
 }
 
 impl<U: Universe> Workers<U> {
-    /// Calls `f` in this thread. The workers do jobs of the session beside it, each in a thread of its own, until `f` has returned. If no
-    /// thread can be made for a worker, the others and `f` do its jobs.
+    /// Calls `f` in this thread. The workers do jobs of the session beside it, each in a thread of
+    /// its own, until `f` has returned. If no thread can be made for a worker, the others and `f`
+    /// do its jobs.
     pub fn beside<R: Threads + Wait + Sync, T, F: FnOnce() -> T>(self, rt: &R, f: F) -> T
         requires { F.pre f }
         ensures { F.post f result }

@@ -161,7 +161,9 @@ fn command_line<'a>(alloc: Global) -> Result<clap::Command<'a>, AllocError>
 
 // `dice run` by its matches.
 fn run_of(matches: &ArgMatches) -> Option<Command>
-    ensures { HasRun (rows_of (found_of matches.now)) → IsSomeAnd result (λ c. IsOf c (codes "run", rows_of (found_of matches.now)) × IsWithin c) }
+    ensures { HasRun (rows_of (found_of matches.now))
+        → IsSomeAnd result
+        (λ c. IsOf c (codes "run", rows_of (found_of matches.now)) × IsWithin c) }
 {
     let workers = matches.get_one::<u32>("workers")?;
     let trace = matches.get_flag("trace");
@@ -170,7 +172,9 @@ fn run_of(matches: &ArgMatches) -> Option<Command>
 
 // `dice bulk` by its matches.
 fn bulk_of(matches: &ArgMatches) -> Option<Command>
-    ensures { HasBulk (rows_of (found_of matches.now)) → IsSomeAnd result (λ c. IsOf c (codes "bulk", rows_of (found_of matches.now)) × IsWithin c) }
+    ensures { HasBulk (rows_of (found_of matches.now))
+        → IsSomeAnd result
+        (λ c. IsOf c (codes "bulk", rows_of (found_of matches.now)) × IsWithin c) }
 {
     let targets = matches.get_one::<u32>("targets")?;
     let workers = matches.get_one::<u32>("workers")?;
@@ -179,7 +183,8 @@ fn bulk_of(matches: &ArgMatches) -> Option<Command>
 
 // What the matches ask for, where each argument has what its rule wants.
 fn asked(matches: &ArgMatches) -> Option<Command>
-    ensures { IsSomeAnd (subcommand_rows_of matches.now) IsComplete → IsSomeAnd result (λ c. IsSomeAnd (subcommand_rows_of matches.now) (IsOf c) × IsWithin c) }
+    ensures { IsSomeAnd (subcommand_rows_of matches.now) IsComplete
+        → IsSomeAnd result (λ c. IsSomeAnd (subcommand_rows_of matches.now) (IsOf c) × IsWithin c) }
 {
     match matches.subcommand_matches("run") {
         Some(run) => run_of(run),
@@ -189,13 +194,14 @@ fn asked(matches: &ArgMatches) -> Option<Command>
 
 /// Reads the words, of which the first is the program's name.
 ///
-/// `Refused` comes exactly where `clap` refuses the words for another cause than memory. A number is what `clap` takes for one:
-/// a plus or zeros may stand before its digits.
+/// `Refused` comes exactly where `clap` refuses the words for another cause than memory. A number
+/// is what `clap` takes for one: a plus or zeros may stand before its digits.
 pub fn read_words(alloc: Global, words: &[&str]) -> Result<Command, WordsFail>
     ensures accepted { IfOk result (λ c. IsAccepted (map (λ w. w.now) words.now)) }
     ensures named { IfOk result (λ c. Asks (map (λ w. w.now) words.now) c) }
     ensures within { IfOk result IsWithin }
-    ensures refused { IsErrOf result WordsFail.Refused → IsAccepted (map (λ w. w.now) words.now) → ⊥ }
+    ensures refused { IsErrOf result WordsFail.Refused → IsAccepted (map (λ w. w.now) words.now)
+        → ⊥ }
 {
     let matches = command_line(alloc)?.try_get_matches_from(words)?;
     asked(&matches).ok_or(WordsFail::Refused)

@@ -62,7 +62,8 @@ fn digest_key(alloc: Global) -> Result<Arc<Key>, NoMemory> {
     Ok(Arc::new(alloc, Key::Digest(label))?)
 }
 
-/// Whether the digest is computed once, by one job, and the promise goes when its transaction is closed.
+/// Whether the digest is computed once, by one job, and the promise goes when its transaction is
+/// closed.
 fn comes_to_digest(alloc: Global, course: &Course<Buck>) -> Result<bool, NoMemory> {
     let way = &course.way;
     let first = seen_of(alloc, &way.first)? == Seen::Pending;

@@ -127,7 +127,8 @@ fn course_of_sum<R: Wait>(rt: &R, alloc: Global) -> Result<Course<Tiny>, NoMemor
     course_of(rt, alloc, universe, &updater, key)
 }
 
-/// Whether the sum of the cells is computed once, by one job, and the promise goes when its transaction is closed.
+/// Whether the sum of the cells is computed once, by one job, and the promise goes when its
+/// transaction is closed.
 fn comes_to_five(course: &Course<Tiny>) -> bool {
     let way = &course.way;
     let worked = way.worked == Worked::Did && way.idle == Worked::Idle;
@@ -146,8 +147,8 @@ fn a_promise_is_pending_then_settled_and_at_last_gone(rt: HostRuntime) -> Result
     Ok(())
 }
 
-/// What a seat did that works on what another one waits for, what the other one sees, the number of the first when it is joined, and
-/// what is left to do then.
+/// What a seat did that works on what another one waits for, what the other one sees, the number of
+/// the first when it is joined, and what is left to do then.
 fn two_seats<R: Wait>(rt: &R, alloc: Global) -> Result<(Worked, Seen, u64, Worked), NoMemory> {
     let ring = Arc::new(alloc, Place::Ring(true))?;
     let (engine, mut zero) = start(rt, alloc, Tiny::new(alloc)?, 1)?;

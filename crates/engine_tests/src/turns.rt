@@ -40,7 +40,8 @@ impl Tale for Ledger {
         self.entries.len() as u64
     }
 
-    ghost rises = { λ xs ys. subst (λ n. length xs ≤ n) (sym (length-append xs ys)) (le-add_right (length xs) (length ys)) };
+    ghost rises = { λ xs ys. subst (λ n. length xs ≤ n) (sym (length-append xs ys))
+        (le-add_right (length xs) (length ys)) };
 }
 
 // Adds an entry of the seat, in a turn of its own.
@@ -91,12 +92,15 @@ fn first_entry<R: Wait>(
 struct Course {
     /// The number of each seat, and how many it can give away.
     numbers: [(u64, u64); 2],
-    /// What the second seat left, and the newest version for the first, before the second adds an entry and after it.
+    /// What the second seat left, and the newest version for the first, before the second adds an
+    /// entry and after it.
     before: ((u64, u64, u64), u64),
     after: ((u64, u64, u64), u64),
-    /// The first entry that the first seat finds, and whether the turnstile is taken in its turn and after it.
+    /// The first entry that the first seat finds, and whether the turnstile is taken in its turn
+    /// and after it.
     found: (Option<Entry>, bool, bool),
-    /// The number of the seat that is joined, and then what the first seat left, and its newest version.
+    /// The number of the seat that is joined, and then what the first seat left, and its newest
+    /// version.
     joined: u64,
     last: ((u64, u64, u64), u64),
     ledger: Ledger,
@@ -235,11 +239,13 @@ fn four_threads_leave_each_event_once(rt: HostRuntime) -> Result<(), Fail> {
     let ((mut zero, first), (other, second)) = join(
         &rt,
         move || -> (Seat<Entry>, Result<(), AllocError>)
-            requires { (IsSeatOf shared.now zero × IsWriter zero) × (IsSeatOf shared.now one × IsWriter one) }
+            requires { (IsSeatOf shared.now zero × IsWriter zero)
+                × (IsSeatOf shared.now one × IsWriter one) }
             ensures { IsSeatOf shared.entry.now result.0 }
         { add_all_twice(threads, shared, (zero, one)) },
         move || -> (Seat<Entry>, Result<(), AllocError>)
-            requires { (IsSeatOf shared.now two × IsWriter two) × (IsSeatOf shared.now three × IsWriter three) }
+            requires { (IsSeatOf shared.now two × IsWriter two)
+                × (IsSeatOf shared.now three × IsWriter three) }
             ensures { IsSeatOf shared.entry.now result.0 }
         { add_all_twice(threads, shared, (two, three)) },
     );

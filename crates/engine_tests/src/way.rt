@@ -160,7 +160,8 @@ pub(crate) fn course_of<U: Universe, R: Wait>(
     })
 }
 
-/// Asks for a key by one seat, lets another one work once, and waits; what the other one did, and what the promise has come to.
+/// Asks for a key by one seat, lets another one work once, and waits; what the other one did, and
+/// what the promise has come to.
 pub(crate) fn waited<U: Universe, R: Wait>(
     rt: &R,
     engine: &Engine<U>,

@@ -1,6 +1,8 @@
-//! Look-ups and finishes on the example universe: calls one after another, with what look-ups answer.
+//! Look-ups and finishes on the example universe: calls one after another, with what look-ups
+//! answer.
 //!
-//! The key asked for is the sum of cell 1 and itself, so it asks cell 1 alone; cell 3 is one that it does not ask.
+//! The key asked for is the sum of cell 1 and itself, so it asks cell 1 alone; cell 3 is one that
+//! it does not ask.
 ghost use Rattle.std.specs.Prelude.{◌≡◌, length, IfOk};
 
 use dep_recorder::{Recorder, Trace};
@@ -69,7 +71,8 @@ fn asked_twice(alloc: Global, key: Place, number: u64) -> Result<Arc<Trace<Tiny>
 enum Call {
     /// A cell is set to a number at this version.
     Commit(u64, u32, u64),
-    /// The key is finished at a version with a value; it asked another key, which was answered with this number.
+    /// The key is finished at a version with a value; it asked another key, which was answered with
+    /// this number.
     Finish(Place, u64, Value, Place, u64),
     /// The value of the key was used at this version.
     See(Place, u64),

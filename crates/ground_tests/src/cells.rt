@@ -7,7 +7,8 @@ use std::sync::Arc;
 use std::test::Fail;
 use tiny_universe::{Place, Tiny, Value};
 
-/// Sets the value of a key at a version above all that were set; whether the version was above them.
+/// Sets the value of a key at a version above all that were set; whether the version was above
+/// them.
 fn put_one(
     alloc: Global,
     cells: &mut Cells<Tiny>,
@@ -39,7 +40,8 @@ fn put(
     Ok(true)
 }
 
-/// A version, the value there, the versions that have this value, and those of them round it without another value between.
+/// A version, the value there, the versions that have this value, and those of them round it
+/// without another value between.
 type Row = (u64, u64, &'static [RangeRow], RangeRow);
 
 /// The number of the first row that says otherwise.
@@ -81,7 +83,8 @@ const UNSET: [Row; 2] = [
     (9, 0, &[(0, None)], (0, None)),
 ];
 
-/// Sets the key's values; whether each version was above those before it. Room is made for the key in between.
+/// Sets the key's values; whether each version was above those before it. Room is made for the key
+/// in between.
 fn set_all(alloc: Global, cells: &mut Cells<Tiny>, key: &Arc<Place>) -> Result<bool, NoMemory> {
     let first = put(alloc, cells, key, &[(1, 1), (3, 2), (4, 3), (6, 1), (7, 0)])?;
     cells.reserve(Arc::try_clone(key)?)?;

@@ -62,7 +62,8 @@ fn two_commits(alloc: Global) -> Result<Commits<Tiny>, NoMemory> {
 type Row = (Place, u64, u32, Option<Value>);
 
 const ROWS: [Row; 23] = [
-    // an injected key needs depth 1; it has the newest value that is set by the version, and is 0 before
+    // an injected key needs depth 1; it has the newest value that is set by the version, and is 0
+    // before
     (Place::Cell(2), 2, 0, None),
     (Place::Cell(2), 0, 1, Some(Value::Number(0))),
     (Place::Cell(2), 1, 1, Some(Value::Number(40))),

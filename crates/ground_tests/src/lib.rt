@@ -1,4 +1,5 @@
-//! Tests of the crates that stand lowest: keys, the example universe, evaluation, versions, cells and recordings, through public calls.
+//! Tests of the crates that stand lowest: keys, the example universe, evaluation, versions, cells
+//! and recordings, through public calls.
 #![tactic(auto)]
 
 #[cfg(test)]

@@ -91,7 +91,8 @@ fn feed(check: &mut Check<Tiny>, answers: Answers<Value>) -> bool {
     false
 }
 
-/// What a check wants or finds: the first key and the number of keys that it wants, or the key that has changed with its values.
+/// What a check wants or finds: the first key and the number of keys that it wants, or the key that
+/// has changed with its values.
 #[derive(Clone, Copy, PartialEq, Eq)]
 enum State {
     Wants(Place, usize),
@@ -179,7 +180,8 @@ fn an_extended_trace_has_one_batch_more(rt: HostRuntime) -> Result<(), Fail> {
     Ok(())
 }
 
-/// The answers to the first and to the second batch of a trace, and what its check then wants or finds.
+/// The answers to the first and to the second batch of a trace, and what its check then wants or
+/// finds.
 type Row = (u64, Option<(u64, u64)>, State);
 
 const ROWS: [Row; 5] = [

@@ -20,7 +20,8 @@ use version_ranges::{Range, Ranges, open_has_a_tail};
 
 /// The sets of one key, in order, and for how many more there is room.
 ///
-/// A value that is set again is kept once, and has one number: so two sets are to one value exactly where their numbers are equal.
+/// A value that is set again is kept once, and has one number: so two sets are to one value exactly
+/// where their numbers are equal.
 #[derive(Drop)]
 pub(crate) struct History<V: Eq + Hash> {
     /// Each set: its version and the number of its value.
@@ -40,7 +41,8 @@ impl<V: Eq + Hash> Model for History<V> {
 
     ghost view = { λ h. record { room = h.room; sets = sets_of h.values.keys h.sets.items } };
 
-    ghost invariant = { λ h. IsNumbered V.eq h.values.keys h.sets.items h.room (vec_capacity h.sets - vec_len h.sets) (spare h.values) };
+    ghost invariant = { λ h. IsNumbered V.eq h.values.keys h.sets.items h.room
+        (vec_capacity h.sets - vec_len h.sets) (spare h.values) };
 }
 
 impl<V: Eq + Hash + Drop> History<V> {
@@ -111,8 +113,8 @@ impl<V: Eq + Hash + Drop> History<V> {
         &self.values[self.sets[count - 1].1]
     }
 
-    /// The versions round this one up to which the value stays as it is there: a binary search, and a walk over the sets next to it
-    /// that are to the same value.
+    /// The versions round this one up to which the value stays as it is there: a binary search, and
+    /// a walk over the sets next to it that are to the same value.
     pub(crate) fn range_round(
         &self,
         alloc: Global,
@@ -121,7 +123,8 @@ impl<V: Eq + Hash + Drop> History<V> {
     ) -> Result<Ranges, NoMemory>
         requires laws { IsEquality V.eq }
         requires rising { IsRising self.now.sets }
-        ensures { IfOk result (λ r. (w : ℕ) → contains r w ≡ stays V.eq (value_at (arc_value absent.now) self.now.sets) version w) }
+        ensures { IfOk result (λ r. (w : ℕ)
+            → contains r w ≡ stays V.eq (value_at (arc_value absent.now) self.now.sets) version w) }
     {
         let first = **absent == **self.at(absent, version);
         let begun = begun_by(&self.sets, version);
@@ -129,7 +132,8 @@ impl<V: Eq + Hash + Drop> History<V> {
         one_range(alloc, range_of(first, &self.sets, number, begun))
     }
 
-    /// The versions at which the value is the wanted one: one look-up of its number, and then a walk over the numbers.
+    /// The versions at which the value is the wanted one: one look-up of its number, and then a
+    /// walk over the numbers.
     pub(crate) fn ranges_with(
         &self,
         alloc: Global,
@@ -138,8 +142,11 @@ impl<V: Eq + Hash + Drop> History<V> {
     ) -> Result<Ranges, NoMemory>
         requires laws { IsEquality V.eq }
         requires rising { IsRising self.now.sets }
-        ensures members { IfOk result (λ r. (w : ℕ) → contains r w ≡ V.eq (value_at (arc_value absent.now) self.now.sets w) (arc_value wanted.now)) }
-        ensures tail { IfOk result (λ r. is_open r ≡ V.eq (newest_of (arc_value absent.now) self.now.sets) (arc_value wanted.now)) }
+        ensures members { IfOk result (λ r. (w : ℕ)
+            → contains r w
+            ≡ V.eq (value_at (arc_value absent.now) self.now.sets w) (arc_value wanted.now)) }
+        ensures tail { IfOk result (λ r. is_open r
+            ≡ V.eq (newest_of (arc_value absent.now) self.now.sets) (arc_value wanted.now)) }
     {
         let first = **absent == **wanted;
         let number = self.values.get_index_of(wanted);
@@ -163,8 +170,10 @@ fn number_after<V: Eq + Hash>(
     begun: usize,
 ) -> Option<usize>
     requires { begun ≤ length sets.now }
-    ensures none { begun ≡ 0 → result ≡ position (λ k. V.eq (arc_value absent.now) (arc_value k)) values.now.keys }
-    ensures last { (d : ℕ × ℕ) → 0 < begun → result ≡ Some (slice_index_or sets.now (begun - 1) d).1 }
+    ensures none { begun ≡ 0
+        → result ≡ position (λ k. V.eq (arc_value absent.now) (arc_value k)) values.now.keys }
+    ensures last { (d : ℕ × ℕ) → 0 < begun
+        → result ≡ Some (slice_index_or sets.now (begun - 1) d).1 }
 {
     if begun == 0 {
         values.get_index_of(absent)
@@ -178,9 +187,11 @@ fn range_of(first: bool, sets: &[(u64, usize)], number: Option<usize>, begun: us
     requires rising { IsRising sets.now }
     requires bound { begun ≤ length sets.now }
     requires none { begun ≡ 0 → first ≡ true }
-    requires last { (d : ℕ × ℕ) → 0 < begun → names number (slice_index_or sets.now (begun - 1) d) ≡ true }
+    requires last { (d : ℕ × ℕ) → 0 < begun
+        → names number (slice_index_or sets.now (begun - 1) d) ≡ true }
     ensures here { (v : ℕ) → AreBegun v sets.now begun → is_in result v ≡ true }
-    ensures members { (v : ℕ) → AreBegun v sets.now begun → (w : ℕ) → is_in result w ≡ all_between (value_at first (tests number sets.now)) v w }
+    ensures members { (v : ℕ) → AreBegun v sets.now begun → (w : ℕ)
+        → is_in result w ≡ all_between (value_at first (tests number sets.now)) v w }
 {
     let begin = begin_of_run(sets, number, begun);
     let end = end_of_run(sets, number, begun);
@@ -190,11 +201,13 @@ fn range_of(first: bool, sets: &[(u64, usize)], number: Option<usize>, begun: us
     }
 }
 
-/// The version of the set at this place; that of the first is 0 where the value before it is the same.
+/// The version of the set at this place; that of the first is 0 where the value before it is the
+/// same.
 fn first_version(first: bool, sets: &[(u64, usize)], place: usize) -> u64
     requires { (place ≡ 0 → first ≡ false) → place < length sets.now }
     ensures zero { place ≡ 0 → first ≡ true → result ≡ 0 }
-    ensures set { (place ≡ 0 → first ≡ false) → (d : ℕ × ℕ) → result ≡ (slice_index_or sets.now place d).0 }
+    ensures set { (place ≡ 0 → first ≡ false) → (d : ℕ × ℕ)
+        → result ≡ (slice_index_or sets.now place d).0 }
 {
     if place == 0 && first {
         0
@@ -205,7 +218,8 @@ fn first_version(first: bool, sets: &[(u64, usize)], place: usize) -> u64
 
 /// The version of the set at this place, if there is one.
 fn version_at(sets: &[(u64, usize)], place: usize) -> Option<u64>
-    ensures there { (d : ℕ × ℕ) → place < length sets.now → result ≡ Some (slice_index_or sets.now place d).0 }
+    ensures there { (d : ℕ × ℕ) → place < length sets.now
+        → result ≡ Some (slice_index_or sets.now place d).0 }
     ensures none { length sets.now ≤ place → result ≡ None }
 {
     if place < sets.len() {
@@ -219,8 +233,10 @@ fn version_at(sets: &[(u64, usize)], place: usize) -> Option<u64>
 fn begin_of_run(sets: &[(u64, usize)], number: Option<usize>, begun: usize) -> usize
     requires { begun ≤ length sets.now }
     ensures bound { result ≤ begun }
-    ensures run { (i : ℕ) (d : ℕ × ℕ) → result ≤ i → i < begun → names number (slice_index_or sets.now i d) ≡ true }
-    ensures before { (d : ℕ × ℕ) → 0 < result → names number (slice_index_or sets.now (result - 1) d) ≡ false }
+    ensures run { (i : ℕ) (d : ℕ × ℕ) → result ≤ i → i < begun
+        → names number (slice_index_or sets.now i d) ≡ true }
+    ensures before { (d : ℕ × ℕ) → 0 < result
+        → names number (slice_index_or sets.now (result - 1) d) ≡ false }
 {
     let mut begin = begun;
     while begin > 0 && number == Some(sets[begin - 1].1) {
@@ -233,8 +249,10 @@ fn begin_of_run(sets: &[(u64, usize)], number: Option<usize>, begun: usize) -> u
 fn end_of_run(sets: &[(u64, usize)], number: Option<usize>, begun: usize) -> usize
     requires { begun ≤ length sets.now }
     ensures bound { (begun ≤ result) × (result ≤ length sets.now) }
-    ensures run { (i : ℕ) (d : ℕ × ℕ) → begun ≤ i → i < result → names number (slice_index_or sets.now i d) ≡ true }
-    ensures behind { (d : ℕ × ℕ) → result < length sets.now → names number (slice_index_or sets.now result d) ≡ false }
+    ensures run { (i : ℕ) (d : ℕ × ℕ) → begun ≤ i → i < result
+        → names number (slice_index_or sets.now i d) ≡ true }
+    ensures behind { (d : ℕ × ℕ) → result < length sets.now
+        → names number (slice_index_or sets.now result d) ≡ false }
 {
     let mut end = begun;
     while end < sets.len() && number == Some(sets[end].1) {
@@ -243,7 +261,8 @@ fn end_of_run(sets: &[(u64, usize)], number: Option<usize>, begun: usize) -> usi
     end
 }
 
-/// The versions from each set to the number up to the next set, and those before the first set where they belong too.
+/// The versions from each set to the number up to the next set, and those before the first set
+/// where they belong too.
 fn versions_of(
     alloc: Global,
     first: bool,
@@ -251,7 +270,8 @@ fn versions_of(
     number: Option<usize>,
 ) -> Result<Ranges, NoMemory>
     requires { IsRising sets.now }
-    ensures members { IfOk result (λ r. (w : ℕ) → contains r w ≡ value_at first (tests number sets.now) w) }
+    ensures members { IfOk result
+        (λ r. (w : ℕ) → contains r w ≡ value_at first (tests number sets.now) w) }
     ensures tail { IfOk result (λ r. is_open r ≡ newest_of first (tests number sets.now)) }
 {
     let mut ranges = Ranges::new(alloc);
@@ -288,9 +308,12 @@ pub(crate) fn always(alloc: Global) -> Result<Ranges, NoMemory>
     Ok(ranges)
 }
 
-/// Adds the versions from `from` on up to but not with `to`, if any, where they belong to the ranges.
+/// Adds the versions from `from` on up to but not with `to`, if any, where they belong to the
+/// ranges.
 fn add_if(belongs: bool, ranges: &mut Ranges, from: u64, to: Option<u64>) -> Result<(), NoMemory>
-    ensures { OnOk result ((w : ℕ) → contains ranges.new w ≡ (contains ranges.old w || (belongs && is_in (record { from = from; to = to }) w))) }
+    ensures { OnOk result ((w : ℕ)
+        → contains ranges.new w
+        ≡ (contains ranges.old w || (belongs && is_in (record { from = from; to = to }) w))) }
 {
     if !belongs {
         return Ok(());

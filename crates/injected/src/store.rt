@@ -20,8 +20,8 @@ use version_ranges::Ranges;
 
 /// The sets of each injected key, and so its value at each version.
 ///
-/// Contracts see the sets of each key by `sets_at`, for how many more there is room by `room_at`, and
-/// the greatest version that was set. `cell_at` is the value that the sets make of a version.
+/// Contracts see the sets of each key by `sets_at`, for how many more there is room by `room_at`,
+/// and the greatest version that was set. `cell_at` is the value that the sets make of a version.
 pub struct Cells<U: Universe> {
     alloc: Global,
     universe: Arc<U>,
@@ -49,7 +49,8 @@ impl<U: Universe> Model for Cells<U> {
 
     ghost view = { λ a. record { cells = map named a.histories.entries; last = a.last } };
 
-    ghost invariant = { λ a. IsInOrder U.Key.eq (record { cells = map named a.histories.entries; last = a.last }) };
+    ghost invariant = { λ a. IsInOrder U.Key.eq
+        (record { cells = map named a.histories.entries; last = a.last }) };
 }
 
 impl<U: Universe> Cells<U> {
@@ -71,8 +72,10 @@ impl<U: Universe> Cells<U> {
         ensures ok { OnOk result (0 < room_at U.Key.eq self.new (arc_value key)) }
         ensures sets { (k : U.Key) → sets_at U.Key.eq self.new k ≡ sets_at U.Key.eq self.old k }
         ensures last { self.new.last ≡ self.old.last }
-        ensures others { (k : U.Key) → U.Key.eq (arc_value key) k ≡ false → room_at U.Key.eq self.new k ≡ room_at U.Key.eq self.old k }
-        ensures err { OnErr result ((k : U.Key) → room_at U.Key.eq self.new k ≡ room_at U.Key.eq self.old k) }
+        ensures others { (k : U.Key) → U.Key.eq (arc_value key) k ≡ false
+            → room_at U.Key.eq self.new k ≡ room_at U.Key.eq self.old k }
+        ensures err { OnErr result
+            ((k : U.Key) → room_at U.Key.eq self.new k ≡ room_at U.Key.eq self.old k) }
     {
         laws_of::<U>();
         make_room(self.alloc, &mut self.histories, key)
@@ -89,11 +92,18 @@ impl<U: Universe> Cells<U> {
     ) -> Result<(), NoMemory>
         requires { AllBelow (sets_at U.Key.eq self.old (arc_value key)) version }
         ensures reserved { 0 < room_at U.Key.eq self.old (arc_value key) → IsOk result }
-        ensures sets { OnOk result ((k : U.Key) → sets_at U.Key.eq self.new k ≡ (if U.Key.eq (arc_value key) k then sets_at U.Key.eq self.old k ++ (version, arc_value value) ∷ [] else sets_at U.Key.eq self.old k)) }
+        ensures sets { OnOk result ((k : U.Key)
+            → sets_at U.Key.eq self.new k
+            ≡ (if U.Key.eq (arc_value key) k
+            then sets_at U.Key.eq self.old k ++ (version, arc_value value) ∷ []
+            else sets_at U.Key.eq self.old k)) }
         ensures last { OnOk result (self.new.last ≡ max self.old.last version) }
-        ensures others { (k : U.Key) → U.Key.eq (arc_value key) k ≡ false → room_at U.Key.eq self.new k ≡ room_at U.Key.eq self.old k }
-        ensures err { OnErr result ((k : U.Key) → sets_at U.Key.eq self.new k ≡ sets_at U.Key.eq self.old k) }
-        ensures err_room { OnErr result ((k : U.Key) → room_at U.Key.eq self.new k ≡ room_at U.Key.eq self.old k) }
+        ensures others { (k : U.Key) → U.Key.eq (arc_value key) k ≡ false
+            → room_at U.Key.eq self.new k ≡ room_at U.Key.eq self.old k }
+        ensures err { OnErr result
+            ((k : U.Key) → sets_at U.Key.eq self.new k ≡ sets_at U.Key.eq self.old k) }
+        ensures err_room { OnErr result
+            ((k : U.Key) → room_at U.Key.eq self.new k ≡ room_at U.Key.eq self.old k) }
         ensures err_last { OnErr result (self.new.last ≡ self.old.last) }
     {
         if !self.has_room(&key) {
@@ -103,10 +113,11 @@ impl<U: Universe> Cells<U> {
         Ok(())
     }
 
-    /// The key's value at the version: that of its last set there or below, else the absent one. The
-    /// cost is a look-up, and logarithmic in the number of the key's sets.
+    /// The key's value at the version: that of its last set there or below, else the absent one.
+    /// The cost is a look-up, and logarithmic in the number of the key's sets.
     pub fn at(&self, version: u64, key: &Arc<U::Key>) -> &Arc<U::Value>
-        ensures { arc_value result.now ≡ cell_at U.Key.eq U.meaning self.now version (arc_value key.now) }
+        ensures { arc_value result.now
+            ≡ cell_at U.Key.eq U.meaning self.now version (arc_value key.now) }
     {
         let absent = self.universe.absent(key);
         match self.history(key) {
@@ -126,12 +137,17 @@ impl<U: Universe> Cells<U> {
         }
     }
 
-    /// The versions at which the key's value equals that at the version; open where the newest does.
-    /// The cost is linear in the number of the key's sets, and of values only the wanted one is hashed and looked up, and
-    /// compared with the absent one.
+    /// The versions at which the key's value equals that at the version; open where the newest
+    /// does. The cost is linear in the number of the key's sets, and of values only the wanted one
+    /// is hashed and looked up, and compared with the absent one.
     pub fn ranges_of(&self, version: u64, key: &Arc<U::Key>) -> Result<Ranges, NoMemory>
-        ensures members { IfOk result (λ r. (w : ℕ) → contains r w ≡ U.Value.eq (cell_at U.Key.eq U.meaning self.now w (arc_value key.now)) (cell_at U.Key.eq U.meaning self.now version (arc_value key.now))) }
-        ensures tail { IfOk result (λ r. is_open r ≡ U.Value.eq (newest_at U.Key.eq U.meaning self.now (arc_value key.now)) (cell_at U.Key.eq U.meaning self.now version (arc_value key.now))) }
+        ensures members { IfOk result (λ r. (w : ℕ)
+            → contains r w
+            ≡ U.Value.eq (cell_at U.Key.eq U.meaning self.now w (arc_value key.now))
+            (cell_at U.Key.eq U.meaning self.now version (arc_value key.now))) }
+        ensures tail { IfOk result (λ r. is_open r
+            ≡ U.Value.eq (newest_at U.Key.eq U.meaning self.now (arc_value key.now))
+            (cell_at U.Key.eq U.meaning self.now version (arc_value key.now))) }
     {
         laws_of::<U>();
         let Some(history) = self.history(key) else {
@@ -142,10 +158,14 @@ impl<U: Universe> Cells<U> {
         history.ranges_with(self.alloc, absent, wanted)
     }
 
-    /// The versions round this one up to which the key's value stays as it is there, and as it was from there back. The cost is a
-    /// look-up, and logarithmic in the number of the key's sets where no two next to one another are to the same value.
+    /// The versions round this one up to which the key's value stays as it is there, and as it was
+    /// from there back. The cost is a look-up, and logarithmic in the number of the key's sets
+    /// where no two next to one another are to the same value.
     pub fn range_round(&self, version: u64, key: &Arc<U::Key>) -> Result<Ranges, NoMemory>
-        ensures { IfOk result (λ r. (w : ℕ) → contains r w ≡ stays U.Value.eq (λ u. cell_at U.Key.eq U.meaning self.now u (arc_value key.now)) version w) }
+        ensures { IfOk result (λ r. (w : ℕ)
+            → contains r w
+            ≡ stays U.Value.eq (λ u. cell_at U.Key.eq U.meaning self.now u (arc_value key.now))
+            version w) }
     {
         laws_of::<U>();
         let Some(history) = self.history(key) else {
@@ -183,9 +203,14 @@ impl<U: Universe> Cells<U> {
     fn write(&mut self, version: u64, key: &Arc<U::Key>, value: Arc<U::Value>)
         requires room { 0 < room_at U.Key.eq self.old (arc_value key.now) }
         requires rises { AllBelow (sets_at U.Key.eq self.old (arc_value key.now)) version }
-        ensures sets { (k : U.Key) → sets_at U.Key.eq self.new k ≡ (if U.Key.eq (arc_value key.now) k then sets_at U.Key.eq self.old k ++ (version, arc_value value) ∷ [] else sets_at U.Key.eq self.old k) }
+        ensures sets { (k : U.Key)
+            → sets_at U.Key.eq self.new k
+            ≡ (if U.Key.eq (arc_value key.now) k
+            then sets_at U.Key.eq self.old k ++ (version, arc_value value) ∷ []
+            else sets_at U.Key.eq self.old k) }
         ensures last { self.new.last ≡ max self.old.last version }
-        ensures others { (k : U.Key) → U.Key.eq (arc_value key.now) k ≡ false → room_at U.Key.eq self.new k ≡ room_at U.Key.eq self.old k }
+        ensures others { (k : U.Key) → U.Key.eq (arc_value key.now) k ≡ false
+            → room_at U.Key.eq self.new k ≡ room_at U.Key.eq self.old k }
     {
         laws_of::<U>();
         push_set(&mut self.histories, version, key, value);
@@ -199,7 +224,12 @@ fn make_room<K: Eq + Hash + Drop, V: Eq + Hash + Drop>(
     histories: &mut HashMap<Arc<K>, History<V>>,
     key: Arc<K>,
 ) -> Result<(), NoMemory>
-    ensures ok { OnOk result ((room : ℕ) × (0 < room) × Writes K.eq (map named histories.old.entries) (map named histories.new.entries) (arc_value key) (record { room = room; sets = sets_in (lookup (K.eq (arc_value key)) (map named histories.old.entries)) })) }
+    ensures ok { OnOk result ((room : ℕ) × (0 < room)
+        × Writes K.eq (map named histories.old.entries) (map named histories.new.entries)
+        (arc_value key) (record {
+          room = room;
+          sets = sets_in (lookup (K.eq (arc_value key)) (map named histories.old.entries));
+        })) }
     ensures err { OnErr result (map named histories.new.entries ≡ map named histories.old.entries) }
 {
     if histories.contains_key(&key) {
@@ -216,7 +246,12 @@ fn reserve_more<K: Eq + Hash + Drop, V: Eq + Hash + Drop>(
     key: &Arc<K>,
 ) -> Result<(), NoMemory>
     requires { IsSome (lookup (K.eq (arc_value key.now)) (map named histories.old.entries)) }
-    ensures ok { OnOk result ((room : ℕ) × (0 < room) × Writes K.eq (map named histories.old.entries) (map named histories.new.entries) (arc_value key.now) (record { room = room; sets = sets_in (lookup (K.eq (arc_value key.now)) (map named histories.old.entries)) })) }
+    ensures ok { OnOk result ((room : ℕ) × (0 < room)
+        × Writes K.eq (map named histories.old.entries) (map named histories.new.entries)
+        (arc_value key.now) (record {
+          room = room;
+          sets = sets_in (lookup (K.eq (arc_value key.now)) (map named histories.old.entries));
+        })) }
     ensures err { OnErr result (map named histories.new.entries ≡ map named histories.old.entries) }
 {
     match histories.get_mut(key) {
@@ -233,8 +268,15 @@ fn push_set<K: Eq + Hash + Drop, V: Eq + Hash + Drop>(
     value: Arc<V>,
 )
     requires laws { IsEquality V.eq }
-    requires room { 0 < room_in (lookup (K.eq (arc_value key.now)) (map named histories.old.entries)) }
-    ensures { (room : ℕ) × Writes K.eq (map named histories.old.entries) (map named histories.new.entries) (arc_value key.now) (record { room = room; sets = sets_in (lookup (K.eq (arc_value key.now)) (map named histories.old.entries)) ++ (version, arc_value value) ∷ [] }) }
+    requires room { 0
+        < room_in (lookup (K.eq (arc_value key.now)) (map named histories.old.entries)) }
+    ensures { (room : ℕ)
+        × Writes K.eq (map named histories.old.entries) (map named histories.new.entries)
+        (arc_value key.now) (record {
+          room = room;
+          sets = sets_in (lookup (K.eq (arc_value key.now)) (map named histories.old.entries))
+              ++ (version, arc_value value) ∷ [];
+        }) }
 {
     match histories.get_mut(key) {
         Some(history) => history.push(version, value),

@@ -10,8 +10,8 @@ use dice_key::{Line, NoMemory, Universe};
 use std::alloc::Global;
 use std::marker::Model;
 
-/// Events in the order in which they happened, with room for more made ahead. The index of an event is the number of events
-/// before it.
+/// Events in the order in which they happened, with room for more made ahead. The index of an event
+/// is the number of events before it.
 #[derive(Drop)]
 pub struct Journal<U: Universe> {
     events: Vec<Event<U::Key, U::Value>>,
@@ -42,7 +42,8 @@ impl<U: Universe> Journal<U> {
         }
     }
 
-    /// Makes room for at least `n` more events; no event changes, also where memory is refused, and room that was made stays.
+    /// Makes room for at least `n` more events; no event changes, also where memory is refused, and
+    /// room that was made stays.
     pub fn reserve(&mut self, n: usize) -> Result<(), NoMemory>
         ensures same { self.new.events ≡ self.old.events }
         ensures ok { OnOk result (n ≤ self.new.spare) }
@@ -88,10 +89,12 @@ impl<U: Universe> Journal<U> {
         &self.events[index]
     }
 
-    /// The line of the event of this index, as the trace of a run has it; its keys print as the universe has them.
+    /// The line of the event of this index, as the trace of a run has it; its keys print as the
+    /// universe has them.
     pub fn line(&self, index: usize, universe: &U, alloc: Global) -> Result<Line, NoMemory>
         requires { index < length self.now.events }
-        ensures { IfOk result (λ t. (e : Told U.Key U.Value) → slice_get self.now.events index ≡ Some e → IsLine U.meaning e t) }
+        ensures { IfOk result (λ t. (e : Told U.Key U.Value)
+            → slice_get self.now.events index ≡ Some e → IsLine U.meaning e t) }
     {
         line_of(alloc, universe, self.event(index))
     }

@@ -95,7 +95,8 @@ fn cause<U: Universe>(
     universe: &U,
     cause: &Cause<U::Key>,
 ) -> Result<(), NoMemory>
-    ensures { OnOk result (text.new.items ≡ text.old.items ++ spaced (reason_words U.meaning (reason_of cause.now))) }
+    ensures { OnOk result
+        (text.new.items ≡ text.old.items ++ spaced (reason_words U.meaning (reason_of cause.now))) }
 {
     match cause {
         Cause::New => text.extend_from_slice(b" new")?,
@@ -188,7 +189,8 @@ fn key_line<U: Universe>(
     version: u64,
     at: &U::Key,
 ) -> Result<Vec<u8>, NoMemory>
-    ensures { IfOk result (λ t. t.items ≡ word.now ++ spaced (decimal version ∷ U.meaning.text at.now false ∷ [])) }
+    ensures { IfOk result
+        (λ t. t.items ≡ word.now ++ spaced (decimal version ∷ U.meaning.text at.now false ∷ [])) }
 {
     let mut text = Vec::from_slice(alloc, word)?;
     number(&mut text, version)?;
@@ -241,7 +243,8 @@ fn end_line<U: Universe>(
     version: u64,
     at: &U::Key,
 ) -> Result<Line, NoMemory>
-    ensures { IfOk result (λ t. t ≡ word.now ++ spaced (decimal version ∷ U.meaning.text at.now false ∷ [])) }
+    ensures { IfOk result
+        (λ t. t ≡ word.now ++ spaced (decimal version ∷ U.meaning.text at.now false ∷ [])) }
 {
     Ok(Line::from_bytes(key_line(alloc, universe, word, version, at)?))
 }

@@ -6,7 +6,8 @@ use dice_key::{Answers, Kind, Line, Move, NoMemory, Universe, Version};
 use std::alloc::Global;
 use std::sync::Arc;
 
-/// A pure universe as one that an engine runs on. Each of its keys is injected or computed; none is a projection.
+/// A pure universe as one that an engine runs on. Each of its keys is injected or computed; none is
+/// a projection.
 #[derive(Drop)]
 pub struct Plain<P: Pure> {
     alloc: Global,
@@ -47,7 +48,11 @@ impl<P: Pure> Universe for Plain<P> {
 
     ghost meaning = { plain P.is_injected (λ k. P.absent) P.next (λ k. P.most) P.text };
 
-    ghost running = { λ r. record { key = arc_value r.key; version = r.version; answered = history (P.next (arc_value r.key)) r.answers.items } };
+    ghost running = { λ r. record {
+      key = arc_value r.key;
+      version = r.version;
+      answered = history (P.next (arc_value r.key)) r.answers.items;
+    } };
 
     fn kind(&self, key: &P::Key) -> Kind {
         if self.pure.is_injected(key) {
@@ -87,12 +92,14 @@ impl<P: Pure> Universe for Plain<P> {
             .next(self.alloc, &*run.key, run.answers.as_slice())
     }
 
-    /// No key is a projection, so an engine never asks for a base. There is none to give, and this only answers `NoMemory`.
+    /// No key is a projection, so an engine never asks for a base. There is none to give, and this
+    /// only answers `NoMemory`.
     fn base(&self, _key: &P::Key) -> Result<Arc<P::Key>, NoMemory> {
         Err(NoMemory)
     }
 
-    /// No key is a projection, so an engine never asks for a part of a value. This only answers `NoMemory`.
+    /// No key is a projection, so an engine never asks for a part of a value. This only answers
+    /// `NoMemory`.
     fn project(&self, _key: &P::Key, _base: &P::Value) -> Result<Arc<P::Value>, NoMemory> {
         Err(NoMemory)
     }
@@ -109,7 +116,8 @@ impl<P: Pure> Universe for Plain<P> {
         self.pure.print(self.alloc, key, short)
     }
 
-    ghost lawful = { plain_is_lawful P.is_injected (λ k. P.absent) P.next (λ k. P.most) P.text P.ends };
+    ghost lawful = { plain_is_lawful P.is_injected (λ k. P.absent) P.next (λ k. P.most) P.text
+        P.ends };
 
     ghost same_keys = { P.same_keys };
 

@@ -7,11 +7,11 @@ use dice_key::{Answers, Line, Move, NoMemory};
 use std::alloc::Global;
 use std::hash::Hash;
 
-/// Keys and values, if each key is set from outside or computed from the values of other keys alone: no value depends on the
-/// version. `Plain` makes a universe of it.
+/// Keys and values, if each key is set from outside or computed from the values of other keys
+/// alone: no value depends on the version. `Plain` makes a universe of it.
 ///
-/// A key is computed by a run. It asks for other keys, a batch at a time, and is done with a value; what it does next depends on the
-/// key and on the answers so far alone.
+/// A key is computed by a run. It asks for other keys, a batch at a time, and is done with a value;
+/// what it does next depends on the key and on the answers so far alone.
 pub trait Pure: Send + Sync + Drop {
     /// What is asked for.
     type Key: Ord + Eq + Hash + Send + Sync + Drop;
@@ -42,8 +42,9 @@ pub trait Pure: Send + Sync + Drop {
     fn absent(&self, alloc: Global) -> Result<Self::Value, NoMemory>
         ensures { IfOk result (λ x. x ≡ absent) };
 
-    /// What the key asks next or is, by the answers to its batches so far, the first of them first. What it makes is allocated by
-    /// `alloc`. An injected key is set, and the engine never asks this of it.
+    /// What the key asks next or is, by the answers to its batches so far, the first of them first.
+    /// What it makes is allocated by `alloc`. An injected key is set, and the engine never asks
+    /// this of it.
     fn next(
         &self,
         alloc: Global,

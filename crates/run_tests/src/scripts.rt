@@ -6,8 +6,8 @@ use std::sync::Wait;
 use std::test::Fail;
 use std::thread::Threads;
 
-/// The status of a run with these words, from this source into this sink; 100 more where an engine is kept after another status
-/// than 0, or none after 0.
+/// The status of a run with these words, from this source into this sink; 100 more where an engine
+/// is kept after another status than 0, or none after 0.
 pub(crate) fn status_of<R: Threads + Wait + Sync, G: Gate>(
     rt: &R,
     alloc: Global,
@@ -25,7 +25,8 @@ pub(crate) fn status_of<R: Threads + Wait + Sync, G: Gate>(
     }
 }
 
-/// How a run with these words on this script ends: its status, and what the sink holds. Source and sink move 10 bytes a call.
+/// How a run with these words on this script ends: its status, and what the sink holds. Source and
+/// sink move 10 bytes a call.
 pub(crate) fn outcome<R: Threads + Wait + Sync>(
     rt: &R,
     alloc: Global,
@@ -54,7 +55,8 @@ pub(crate) const FIRST_OUT: &[u8] =
 /// A script, the status of its run, and its output.
 pub(crate) type Row = (&'static [u8], u8, &'static [u8]);
 
-/// Whether the run of a script with these words, and with these bytes before it, is as its row says.
+/// Whether the run of a script with these words, and with these bytes before it, is as its row
+/// says.
 fn is_as_told<R: Threads + Wait + Sync>(
     rt: &R,
     alloc: Global,
@@ -69,7 +71,8 @@ fn is_as_told<R: Threads + Wait + Sync>(
     Ok(found.0 == status && found.1.as_slice() == wanted)
 }
 
-/// Runs scripts with these words, each with the same bytes before it; the number of the first row whose run says otherwise.
+/// Runs scripts with these words, each with the same bytes before it; the number of the first row
+/// whose run says otherwise.
 pub(crate) fn first_other<R: Threads + Wait + Sync>(
     rt: &R,
     alloc: Global,
@@ -403,8 +406,9 @@ fn words_that_name_no_command_and_scripts_that_are_too_long(rt: HostRuntime) -> 
     Ok(())
 }
 
-/// Whether the run of the first script ends as it should if the read with this number fails, and if the write does. The script has
-/// 101 bytes and the output 114, so that of each the calls from 0 to 11 are made.
+/// Whether the run of the first script ends as it should if the read with this number fails, and if
+/// the write does. The script has 101 bytes and the output 114, so that of each the calls from 0 to
+/// 11 are made.
 fn fails_as_told<R: Threads + Wait + Sync>(
     rt: &R,
     alloc: Global,

@@ -64,7 +64,8 @@ fn traces_and_summaries(rt: HostRuntime) -> Result<(), Fail> {
     Ok(())
 }
 
-/// What a script prints that is driven on an engine of its own, and the number of the seat that comes back.
+/// What a script prints that is driven on an engine of its own, and the number of the seat that
+/// comes back.
 fn driven<R: Threads + Wait + Sync>(
     rt: &R,
     alloc: Global,
@@ -171,7 +172,8 @@ const LEFT: &[u8] =
 const LEFT_OUT: &[u8] =
     b"commit 1\nopen t 1\nr 1 cancelled\nq 1 72801cd249fb51131b7bbb93151ac0d3277ce1ef6febdf4fdc9f980dbb59266d\n";
 
-/// Scripts of one target, of two packages, of two versions, and with a request that is given up; each with its output.
+/// Scripts of one target, of two packages, of two versions, and with a request that is given up;
+/// each with its output.
 const SCRIPTS: [Row; 4] = [
     (FIRST, 0, FIRST_OUT),
     (PACKAGES, 0, PACKAGES_OUT),

@@ -100,7 +100,8 @@ impl Known {
         number: &[u8],
         behind: &[u8],
     ) -> Result<(Line, usize), Stop>
-        ensures taken { IsTaken (past_of self.old) (puts path.now number.now) behind.now result (past_of self.new) }
+        ensures taken { IsTaken (past_of self.old) (puts path.now number.now) behind.now result
+            (past_of self.new) }
         ensures fits { IfOk result (λ r. r.1 ≤ length behind.now) }
     {
         let (path, count) = self.put_operands(alloc, path, number, behind)?;
@@ -124,7 +125,8 @@ impl Known {
     fn note_request(&mut self, alloc: Global, name: &[u8], transaction: &Name) -> Result<Name, Stop>
         requires { (past_of self.old).opened transaction.now ≡ Some true }
         ensures tested { IsTested (fresh (past_of self.old) name.now) name.now result }
-        ensures noted { IfOk result (λ n. past_of self.new ≡ with_request n transaction.now (past_of self.old)) }
+        ensures noted { IfOk result
+            (λ n. past_of self.new ≡ with_request n transaction.now (past_of self.old)) }
     {
         let name = read_name(alloc, name)?;
         if !self.requests.add(name.as_text(), transaction.as_text())? {
@@ -142,7 +144,8 @@ impl Known {
         label: &[u8],
     ) -> Result<Request, Stop>
         ensures tested { IsRequestRead (past_of self.old) t.now name.now label.now result }
-        ensures noted { IfOk result (λ r. past_of self.new ≡ with_request r.name r.transaction (past_of self.old)) }
+        ensures noted { IfOk result
+            (λ r. past_of self.new ≡ with_request r.name r.transaction (past_of self.old)) }
     {
         let transaction = self.open_transaction(alloc, t)?;
         let name = self.note_request(alloc, name, &transaction)?;
@@ -160,7 +163,8 @@ impl Known {
         path: &[u8],
         behind: &[u8],
     ) -> Result<(Line, usize), Stop>
-        ensures taken { IsTaken (past_of self.old) (drops path.now) behind.now result (past_of self.new) }
+        ensures taken { IsTaken (past_of self.old) (drops path.now) behind.now result
+            (past_of self.new) }
         ensures fits { IfOk result (λ r. r.1 ≤ length behind.now) }
     {
         let path = self.touch(alloc, path)?;
@@ -176,7 +180,8 @@ impl Known {
     }
 
     fn open(&mut self, alloc: Global, t: &[u8], behind: &[u8]) -> Result<(Line, usize), Stop>
-        ensures taken { IsTaken (past_of self.old) (opens t.now) behind.now result (past_of self.new) }
+        ensures taken { IsTaken (past_of self.old) (opens t.now) behind.now result
+            (past_of self.new) }
         ensures fits { IfOk result (λ r. r.1 ≤ length behind.now) }
     {
         let name = read_name(alloc, t)?;
@@ -194,7 +199,8 @@ impl Known {
         label: &[u8],
         behind: &[u8],
     ) -> Result<(Line, usize), Stop>
-        ensures taken { IsTaken (past_of self.old) (asks t.now name.now label.now) behind.now result (past_of self.new) }
+        ensures taken { IsTaken (past_of self.old) (asks t.now name.now label.now) behind.now result
+            (past_of self.new) }
         ensures fits { IfOk result (λ r. r.1 ≤ length behind.now) }
     {
         let request = self.request(alloc, t, name, label)?;
@@ -209,7 +215,8 @@ impl Known {
         label: &[u8],
         behind: &[u8],
     ) -> Result<(Line, usize), Stop>
-        ensures taken { IsTaken (past_of self.old) (acts t.now name.now label.now) behind.now result (past_of self.new) }
+        ensures taken { IsTaken (past_of self.old) (acts t.now name.now label.now) behind.now result
+            (past_of self.new) }
         ensures fits { IfOk result (λ r. r.1 ≤ length behind.now) }
     {
         let request = self.request(alloc, t, name, label)?;
@@ -217,7 +224,8 @@ impl Known {
     }
 
     fn wait(&mut self, alloc: Global, name: &[u8], behind: &[u8]) -> Result<(Line, usize), Stop>
-        ensures taken { IsTaken (past_of self.old) (waits name.now) behind.now result (past_of self.new) }
+        ensures taken { IsTaken (past_of self.old) (waits name.now) behind.now result
+            (past_of self.new) }
         ensures fits { IfOk result (λ r. r.1 ≤ length behind.now) }
     {
         let name = read_name(alloc, name)?;
@@ -233,7 +241,8 @@ impl Known {
     }
 
     fn cancel(&mut self, alloc: Global, name: &[u8], behind: &[u8]) -> Result<(Line, usize), Stop>
-        ensures taken { IsTaken (past_of self.old) (cancels name.now) behind.now result (past_of self.new) }
+        ensures taken { IsTaken (past_of self.old) (cancels name.now) behind.now result
+            (past_of self.new) }
         ensures fits { IfOk result (λ r. r.1 ≤ length behind.now) }
     {
         let name = read_name(alloc, name)?;
@@ -249,7 +258,8 @@ impl Known {
     }
 
     fn close(&mut self, alloc: Global, t: &[u8], behind: &[u8]) -> Result<(Line, usize), Stop>
-        ensures taken { IsTaken (past_of self.old) (closes t.now) behind.now result (past_of self.new) }
+        ensures taken { IsTaken (past_of self.old) (closes t.now) behind.now result
+            (past_of self.new) }
         ensures fits { IfOk result (λ r. r.1 ≤ length behind.now) }
     {
         let name = self.open_transaction(alloc, t)?;
@@ -259,7 +269,8 @@ impl Known {
 
     /// Takes a line of this form, and so many of the bytes behind it.
     fn form(&mut self, alloc: Global, form: Form, behind: &[u8]) -> Result<(Line, usize), Stop>
-        ensures taken { IsTaken (past_of self.old) (form_seen form.entry) behind.now result (past_of self.new) }
+        ensures taken { IsTaken (past_of self.old) (form_seen form.entry) behind.now result
+            (past_of self.new) }
         ensures fits { IfOk result (λ r. r.1 ≤ length behind.now) }
     {
         match form {

@@ -25,7 +25,8 @@ pub(crate) fn small_number(digits: &[u8]) -> Option<usize>
 }
 
 fn digits_value(digits: &[u8]) -> Option<usize>
-    ensures some { IfSome result (λ n. AreDigits digits.now × (n ≡ value_from 0 digits.now) × (n ≤ 4194304)) }
+    ensures some { IfSome result
+        (λ n. AreDigits digits.now × (n ≡ value_from 0 digits.now) × (n ≤ 4194304)) }
     ensures none { IfNone result (AreDigits digits.now → value_from 0 digits.now ≤ 4194304 → ⊥) }
 {
     let mut value = 0;

@@ -42,7 +42,8 @@ impl Requests {
     /// Adds a request that nobody has waited for, and tells whether its name is a new one.
     pub(crate) fn add(&mut self, name: &Text, transaction: &Text) -> Result<bool, AllocError>
         ensures is_new { IfOk result (λ is_new. is_new ≡ is_none (requests_at self.old name.now)) }
-        ensures added { OnOk result (requests_at self.new ≡ with_entry name.now (made_in transaction.now) (requests_at self.old)) }
+        ensures added { OnOk result (requests_at self.new
+            ≡ with_entry name.now (made_in transaction.now) (requests_at self.old)) }
     {
         let asked = Asked {
             transaction: transaction.try_clone()?,

@@ -44,7 +44,8 @@ impl Model for Script {
 
     ghost view = { λ s. s.lines.items };
 
-    ghost invariant = { λ s. (text : List ℕ) × IsScript text s.lines.items × (past_of s.known ≡ after_all nothing s.lines.items) };
+    ghost invariant = { λ s. (text : List ℕ) × IsScript text s.lines.items
+        × (past_of s.known ≡ after_all nothing s.lines.items) };
 }
 
 impl Script {
@@ -150,9 +151,12 @@ pub fn read(alloc: Global, bytes: &[u8]) -> Result<Script, ScriptRefusal>
 
 /// A text is one script, or has one first fault, and not both.
 pub fn readings_are_one()
-    ensures script { (text : List ℕ) (ls ms : List Line) → IsScript text ls → IsScript text ms → ls ≡ ms }
-    ensures fault { (text : List ℕ) (m n : ℕ) (v w : Word) → IsFirstFault text m v → IsFirstFault text n w → (m ≡ n) × (v ≡ w) }
-    ensures not_both { (text : List ℕ) (ls : List Line) (n : ℕ) (w : Word) → IsScript text ls → IsFirstFault text n w → ⊥ }
+    ensures script { (text : List ℕ) (ls ms : List Line) → IsScript text ls → IsScript text ms
+        → ls ≡ ms }
+    ensures fault { (text : List ℕ) (m n : ℕ) (v w : Word) → IsFirstFault text m v
+        → IsFirstFault text n w → (m ≡ n) × (v ≡ w) }
+    ensures not_both { (text : List ℕ) (ls : List Line) (n : ℕ) (w : Word) → IsScript text ls
+        → IsFirstFault text n w → ⊥ }
 {
     printed_is_read();
 }

@@ -31,8 +31,10 @@ impl Transactions {
 
     /// Notes that the transaction is open, and tells whether its name is a new one.
     pub(crate) fn open(&mut self, name: &Text) -> Result<bool, AllocError>
-        ensures is_new { IfOk result (λ is_new. is_new ≡ is_none (transactions_at self.old name.now)) }
-        ensures opened { OnOk result (transactions_at self.new ≡ with_entry name.now true (transactions_at self.old)) }
+        ensures is_new { IfOk result
+            (λ is_new. is_new ≡ is_none (transactions_at self.old name.now)) }
+        ensures opened { OnOk result
+            (transactions_at self.new ≡ with_entry name.now true (transactions_at self.old)) }
     {
         Ok(self.standing.insert(name.try_clone()?, true)?.is_none())
     }

@@ -1,4 +1,5 @@
-//! What stands for a script: its output, and the text of a trace of it. None of these functions does any work.
+//! What stands for a script: its output, and the text of a trace of it. None of these functions
+//! does any work.
 #![tactic(auto)]
 
 mod laws;

@@ -47,7 +47,8 @@ fn outcome_of(found: &Found<Tiny>) -> Came {
     }
 }
 
-/// How often a key was computed, how often its earlier value was kept, and how often a computing ended.
+/// How often a key was computed, how often its earlier value was kept, and how often a computing
+/// ended.
 #[derive(Clone, Copy, Debug, Default, PartialEq, Eq)]
 struct Tally {
     started: u32,

@@ -14,8 +14,9 @@ use std::sync::Arc;
 
 /// Bytes that are kept once, with their hash beside them. A contract sees them as a list.
 ///
-/// Texts that are equal are the same, so a text may stand in a key or a value of a universe. A `String` or a `Vec` may not: a
-/// contract sees its capacity too, and two equal ones may differ in that.
+/// Texts that are equal are the same, so a text may stand in a key or a value of a universe. A
+/// `String` or a `Vec` may not: a contract sees its capacity too, and two equal ones may differ in
+/// that.
 ///
 /// A clone copies no byte, equality of unlike texts mostly looks at the hashes alone, and hashing
 /// takes constant time. The order is that of the bytes.

@@ -1,4 +1,5 @@
-//! A spreadsheet on the engine. It reads lines from standard input, and says of each answer what was computed for it.
+//! A spreadsheet on the engine. It reads lines from standard input, and says of each answer what
+//! was computed for it.
 #![tactic(auto)]
 
 mod cell;

@@ -8,8 +8,8 @@ use crate::label_text::LabelText;
 use buck_label::Text;
 use std::marker::Model;
 
-/// A command with the labels that its `$(location LABEL)` name. A contract sees the text; its labels, in order,
-/// are `locations` of it.
+/// A command with the labels that its `$(location LABEL)` name. A contract sees the text; its
+/// labels, in order, are `locations` of it.
 #[derive(Drop)]
 pub struct Command {
     text: Text,

@@ -25,8 +25,8 @@ impl<T: Drop> From<AllocFailed<T>> for NoMemory {
 /// Why a target file was not read.
 #[derive(Clone, Copy, Debug, PartialEq, Eq)]
 pub enum FileFault {
-    /// The bytes are no target file. `line` is the line of the first byte with which no target file goes on, or
-    /// of the end where every prefix begins one.
+    /// The bytes are no target file. `line` is the line of the first byte with which no target file
+    /// goes on, or of the end where every prefix begins one.
     Bad { line: u64 },
     /// Memory was refused.
     NoMemory,

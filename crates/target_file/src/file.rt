@@ -53,7 +53,8 @@ impl Model for File {
 
     ghost view = { λ f. all_of f.targets.items };
 
-    ghost invariant = { λ f. (q : List ℕ) → number_of f.names q ≡ number_at 0 q (all_of f.targets.items) };
+    ghost invariant = { λ f. (q : List ℕ)
+        → number_of f.names q ≡ number_at 0 q (all_of f.targets.items) };
 }
 
 impl File {
@@ -85,7 +86,8 @@ impl File {
     /// The file of these calls. `names` has the number of each.
     pub(crate) fn of(alloc: Global, calls: Vec<Call>, names: Names) -> Result<File, NoMemory>
         requires fine { AllByRecursion IsFine (map call_of calls.items) }
-        requires numbered { (q : List ℕ) → number_of names q ≡ number_from 0 q (map call_of calls.items) [] }
+        requires numbered { (q : List ℕ)
+            → number_of names q ≡ number_from 0 q (map call_of calls.items) [] }
         ensures { IfOk result (λ f. f ≡ map located (map call_of calls.items)) }
     {
         let targets = located_all(alloc, calls)?;

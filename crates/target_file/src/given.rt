@@ -15,7 +15,8 @@ use buck_label::is_path;
 
 /// Whether no attribute that has no default is missing.
 pub fn is_whole(rule: Rule, given: &[Argument]) -> bool
-    ensures { (result ≡ true) ↔ AllByRecursion (λ a. Has (attributes (arguments_of given.now)) a) (needed rule) }
+    ensures { (result ≡ true)
+        ↔ AllByRecursion (λ a. Has (attributes (arguments_of given.now)) a) (needed rule) }
 {
     for attribute in needed(rule) {
         if !is_given(given, *attribute) {

@@ -7,8 +7,9 @@ ghost use Rattle.buck_label.specs.Labels.{IsSomeLabel};
 use buck_label::Text;
 use std::marker::Model;
 
-/// A label as it stands in a target file: absolute, or `:NAME` of the file's own package. Which label that is
-/// says `buck_label::Label::read_in` with the package, which never refuses it. A contract sees the bytes.
+/// A label as it stands in a target file: absolute, or `:NAME` of the file's own package. Which
+/// label that is says `buck_label::Label::read_in` with the package, which never refuses it. A
+/// contract sees the bytes.
 #[derive(Drop)]
 pub struct LabelText {
     text: Text,

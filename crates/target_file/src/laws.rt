@@ -13,11 +13,13 @@ ghost use Rattle.target_file.specs.Spelling.{IsTokens};
 ghost use Rattle.target_file.specs.Tokens.{Token, tokens};
 ghost use Rattle.lists.specs.Lists.{AreDistinct, Has};
 
-/// The contents of a text, which are one value, are those of the grammar: a text is a file, and then one list
-/// of targets, or bad, and then on one line, and not both.
+/// The contents of a text, which are one value, are those of the grammar: a text is a file, and
+/// then one list of targets, or bad, and then on one line, and not both.
 pub fn contents_by_grammar()
-    ensures file { (text : List ℕ) (file : List Located) → length text < 2 ^ 64 → (contents text ≡ Holds file) ↔ IsFile text file }
-    ensures bad { (text : List ℕ) (line : ℕ) → length text < 2 ^ 64 → (contents text ≡ Fails line) ↔ IsBad text line }
+    ensures file { (text : List ℕ) (file : List Located) → length text < 2 ^ 64
+        → (contents text ≡ Holds file) ↔ IsFile text file }
+    ensures bad { (text : List ℕ) (line : ℕ) → length text < 2 ^ 64
+        → (contents text ≡ Fails line) ↔ IsBad text line }
 {}
 
 /// The tokens of a text, which are one list at most, are those that the grammar spells it by.
@@ -25,17 +27,22 @@ pub fn tokens_by_grammar()
     ensures { (text : List ℕ) (ts : List Token) → (tokens text ≡ Some ts) ↔ IsTokens text 1 ts }
 {}
 
-/// What does not count in a call: the order of its attributes, and whether a default is written out. And no two
-/// targets of a file have the same name.
+/// What does not count in a call: the order of its attributes, and whether a default is written
+/// out. And no two targets of a file have the same name.
 pub fn calls_by_meaning()
-    ensures order { (r : Rule) (xs ys : List Argument) → AreSame xs ys → target_of r xs ≡ target_of r ys }
-    ensures default { (r : Rule) (a : Attribute) (v : Value) (xs : List Argument) → default_of r a (target_of r xs).name ≡ Some v → (Has (attributes xs) a → ⊥) → target_of r (xs ++ record { attribute = a; value = v } ∷ []) ≡ target_of r xs }
-    ensures names { (text : List ℕ) (file : List Located) → IsFile text file → AreDistinct (names_of file) }
+    ensures order { (r : Rule) (xs ys : List Argument) → AreSame xs ys
+        → target_of r xs ≡ target_of r ys }
+    ensures default { (r : Rule) (a : Attribute) (v : Value) (xs : List Argument)
+        → default_of r a (target_of r xs).name ≡ Some v → (Has (attributes xs) a → ⊥)
+        → target_of r (xs ++ record { attribute = a; value = v } ∷ []) ≡ target_of r xs }
+    ensures names { (text : List ℕ) (file : List Located) → IsFile text file
+        → AreDistinct (names_of file) }
 {}
 
-/// Worked texts: the empty file, one target with the default of `out`, one with sources and a location, prefixes
-/// with which no file begins, and texts that are no file: an unknown rule, a string without end, a comma before
-/// the first argument, a location without its parenthesis, and a list where a string is wanted.
+/// Worked texts: the empty file, one target with the default of `out`, one with sources and a
+/// location, prefixes with which no file begins, and texts that are no file: an unknown rule, a
+/// string without end, a comma before the first argument, a location without its parenthesis, and a
+/// list where a string is wanted.
 pub fn worked_texts()
     ensures empty { IsFile [] [] }
     ensures one { IsFile w_text w_file }

@@ -26,7 +26,8 @@ fn locate(alloc: Global, call: Call) -> Result<Located, NoMemory>
 /// Adds the target of a call.
 fn add_located(alloc: Global, targets: &mut Vec<Located>, call: Call) -> Result<(), NoMemory>
     requires { IsFine (call_of call) }
-    ensures { OnOk result (all_of targets.new.items ≡ all_of targets.old.items ++ located (call_of call) ∷ []) }
+    ensures { OnOk result
+        (all_of targets.new.items ≡ all_of targets.old.items ++ located (call_of call) ∷ []) }
 {
     targets.push(locate(alloc, call)?)?;
     Ok(())

@@ -24,7 +24,8 @@ use std::alloc::Global;
 
 /// The value that is given for an attribute.
 fn given(arguments: &[Argument], attribute: Attribute) -> Option<&Value>
-    ensures { option_map (λ v. seen.value_of v.now) result ≡ given attribute (arguments_of arguments.now) }
+    ensures { option_map (λ v. seen.value_of v.now) result
+        ≡ given attribute (arguments_of arguments.now) }
 {
     for argument in arguments {
         if argument.attribute == attribute {
@@ -36,7 +37,9 @@ fn given(arguments: &[Argument], attribute: Attribute) -> Option<&Value>
 
 /// The string that is given for an attribute, or the default.
 pub fn text_of<'a>(arguments: &'a [Argument], attribute: Attribute, default: &'a [u8]) -> &'a [u8]
-    ensures { result.now ≡ text_in (option_or (given attribute (arguments_of arguments.now)) (Some (One default.now))) }
+    ensures { result.now
+        ≡ text_in
+        (option_or (given attribute (arguments_of arguments.now)) (Some (One default.now))) }
 {
     match given(arguments, attribute) {
         Some(Value::One(text)) => text,
@@ -47,7 +50,8 @@ pub fn text_of<'a>(arguments: &'a [Argument], attribute: Attribute, default: &'a
 
 /// The list that is given for an attribute, or an empty one.
 pub fn list_of(arguments: &[Argument], attribute: Attribute) -> &[Text]
-    ensures { result.now ≡ list_in (option_or (given attribute (arguments_of arguments.now)) (Some (Many []))) }
+    ensures { result.now
+        ≡ list_in (option_or (given attribute (arguments_of arguments.now)) (Some (Many []))) }
 {
     match given(arguments, attribute) {
         Some(Value::Many(items)) => items,
@@ -159,7 +163,8 @@ fn write_file(alloc: Global, arguments: &[Argument], name: &[u8]) -> Result<Acti
 
 /// What a `genrule` does.
 fn genrule(alloc: Global, arguments: &[Argument]) -> Result<Action, NoMemory>
-    requires srcs { AllByRecursion IsSource (list_or_none Attribute.Srcs (arguments_of arguments.now)) }
+    requires srcs { AllByRecursion IsSource
+        (list_or_none Attribute.Srcs (arguments_of arguments.now)) }
     requires out { IsPath (text_or Attribute.Out (arguments_of arguments.now) []) }
     requires cmd { IsCommand (text_or Attribute.Cmd (arguments_of arguments.now) []) }
     ensures { IfOk result (λ a. a ≡ commanded (arguments_of arguments.now)) }
@@ -173,7 +178,9 @@ fn genrule(alloc: Global, arguments: &[Argument]) -> Result<Action, NoMemory>
 /// What the target of a call does.
 pub fn action_of(alloc: Global, call: &Call) -> Result<Action, NoMemory>
     requires { IsFine (call_of call.now) }
-    ensures { IfOk result (λ a. a ≡ action_by call.now.rule (value_of call.now.rule (arguments_of call.now.arguments.items))) }
+    ensures { IfOk result (λ a. a
+        ≡ action_by call.now.rule
+        (value_of call.now.rule (arguments_of call.now.arguments.items))) }
 {
     let given = call.arguments.as_slice();
     let name = text_of(given, Attribute::Name, b"");

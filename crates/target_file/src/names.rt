@@ -9,8 +9,8 @@ use crate::table::Attribute;
 use std::alloc::Global;
 use std::collections::BTreeMap;
 
-/// Names, each with the number of its call. A look-up takes logarithmic time, whatever the names are: an ordered
-/// map, since whoever writes a file picks its names.
+/// Names, each with the number of its call. A look-up takes logarithmic time, whatever the names
+/// are: an ordered map, since whoever writes a file picks its names.
 #[derive(Drop)]
 pub struct Names {
     pub places: BTreeMap<Vec<u8>, usize>,
@@ -35,7 +35,9 @@ impl Names {
 
     /// Gives a name a number.
     pub fn add(&mut self, name: Vec<u8>, number: usize) -> Result<(), NoMemory>
-        ensures ok { OnOk result ((q : List ℕ) → number_of self.new q ≡ (if bytes_eq name.items q then Some number else number_of self.old q)) }
+        ensures ok { OnOk result ((q : List ℕ)
+            → number_of self.new q
+            ≡ (if bytes_eq name.items q then Some number else number_of self.old q)) }
         ensures err { OnErr result ((q : List ℕ) → number_of self.new q ≡ number_of self.old q) }
     {
         self.places.insert(name, number)?;
@@ -50,7 +52,11 @@ impl Names {
         text: &[u8],
         number: usize,
     ) -> Result<(), NoMemory>
-        ensures ok { OnOk result ((q : List ℕ) → number_of self.new q ≡ (if gives_name q attribute (One text.now) then Some number else number_of self.old q)) }
+        ensures ok { OnOk result ((q : List ℕ)
+            → number_of self.new q
+            ≡ (if gives_name q attribute (One text.now)
+            then Some number
+            else number_of self.old q)) }
         ensures err { OnErr result ((q : List ℕ) → number_of self.new q ≡ number_of self.old q) }
     {
         match attribute {

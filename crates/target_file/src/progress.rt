@@ -69,7 +69,8 @@ impl Progress {
 
     /// A word.
     pub fn word(&mut self, line: u64, word: &[u8]) -> Result<bool, NoMemory>
-        ensures { IfOk result (λ ok. Stepped (state_of self.old) (Word line word.now) ok (state_of self.new)) }
+        ensures { IfOk result
+            (λ ok. Stepped (state_of self.old) (Word line word.now) ok (state_of self.new)) }
     {
         match self.place {
             Place::Top => Ok(self.begin(line, word)),
@@ -97,7 +98,8 @@ impl Progress {
     /// An attribute's name.
     fn name(&mut self, word: &[u8]) -> bool
         requires { self.old.place ≡ Place.Inside }
-        ensures { (line : ℕ) → Stepped (state_of self.old) (Word line word.now) result (state_of self.new) }
+        ensures { (line : ℕ)
+            → Stepped (state_of self.old) (Word line word.now) result (state_of self.new) }
     {
         let Some(attribute) = attribute_of(word) else {
             return false;
@@ -111,7 +113,8 @@ impl Progress {
 
     /// A string.
     pub fn text(&mut self, text: Vec<u8>) -> Result<bool, NoMemory>
-        ensures { IfOk result (λ ok. Stepped (state_of self.old) (token.Text text.items) ok (state_of self.new)) }
+        ensures { IfOk result
+            (λ ok. Stepped (state_of self.old) (token.Text text.items) ok (state_of self.new)) }
     {
         match self.place {
             Place::Value(attribute) => self.value(attribute, text),
@@ -123,7 +126,8 @@ impl Progress {
     /// A string as an attribute's value.
     fn value(&mut self, attribute: Attribute, text: Vec<u8>) -> Result<bool, NoMemory>
         requires { self.old.place ≡ Place.Value attribute }
-        ensures { IfOk result (λ ok. Stepped (state_of self.old) (token.Text text.items) ok (state_of self.new)) }
+        ensures { IfOk result
+            (λ ok. Stepped (state_of self.old) (token.Text text.items) ok (state_of self.new)) }
     {
         if !may_be(self.rule, attribute, &text) || !self.is_fresh(attribute, &text) {
             return Ok(false);
@@ -135,7 +139,8 @@ impl Progress {
     /// Gives the attribute this string.
     fn give(&mut self, attribute: Attribute, text: Vec<u8>) -> Result<(), NoMemory>
         requires { IsFresh (map call_of self.old.calls.items) attribute (One text.items) }
-        ensures { OnOk result (state_of self.new ≡ give (state_of self.old) attribute (One text.items)) }
+        ensures { OnOk result
+            (state_of self.new ≡ give (state_of self.old) attribute (One text.items)) }
     {
         self.given.reserve(1)?;
         self.names
@@ -151,7 +156,8 @@ impl Progress {
 
     /// Whether the string, if it is a name, is that of no whole call.
     fn is_fresh(&self, attribute: Attribute, text: &[u8]) -> bool
-        ensures { (result ≡ true) ↔ IsFresh (map call_of self.now.calls.items) attribute (One text.now) }
+        ensures { (result ≡ true)
+            ↔ IsFresh (map call_of self.now.calls.items) attribute (One text.now) }
     {
         attribute != Attribute::Name || !self.is_used(text)
     }
@@ -168,7 +174,8 @@ impl Progress {
     /// A string of a list.
     fn item(&mut self, attribute: Attribute, text: Vec<u8>) -> Result<bool, NoMemory>
         requires { self.old.place ≡ Place.List attribute }
-        ensures { IfOk result (λ ok. Stepped (state_of self.old) (token.Text text.items) ok (state_of self.new)) }
+        ensures { IfOk result
+            (λ ok. Stepped (state_of self.old) (token.Text text.items) ok (state_of self.new)) }
     {
         if !may_hold(self.rule, attribute, &text) {
             return Ok(false);
@@ -180,7 +187,8 @@ impl Progress {
 
     /// One of ( ) [ ] , =
     pub fn mark(&mut self, mark: u8) -> Result<bool, NoMemory>
-        ensures { IfOk result (λ ok. Stepped (state_of self.old) (Mark mark) ok (state_of self.new)) }
+        ensures { IfOk result
+            (λ ok. Stepped (state_of self.old) (Mark mark) ok (state_of self.new)) }
     {
         match self.place {
             Place::Top => Ok(false),
@@ -197,7 +205,8 @@ impl Progress {
     /// A comma or the end, behind a string of a list.
     fn behind_item(&mut self, mark: u8, attribute: Attribute) -> Result<bool, NoMemory>
         requires { self.old.place ≡ Place.Item attribute }
-        ensures { IfOk result (λ ok. Stepped (state_of self.old) (Mark mark) ok (state_of self.new)) }
+        ensures { IfOk result
+            (λ ok. Stepped (state_of self.old) (Mark mark) ok (state_of self.new)) }
     {
         if mark == b',' {
             self.place = Place::List(attribute);
@@ -209,7 +218,8 @@ impl Progress {
     /// A comma or the end, behind a value.
     fn behind_value(&mut self, mark: u8) -> Result<bool, NoMemory>
         requires { self.old.place ≡ Place.Done }
-        ensures { IfOk result (λ ok. Stepped (state_of self.old) (Mark mark) ok (state_of self.new)) }
+        ensures { IfOk result
+            (λ ok. Stepped (state_of self.old) (Mark mark) ok (state_of self.new)) }
     {
         if mark == b',' {
             self.place = Place::Inside;
@@ -221,7 +231,8 @@ impl Progress {
     /// The one mark that may stand here.
     fn go(&mut self, mark: u8, wanted: u8, place: Place) -> bool
         requires { place ≡ Place.Top → ⊥ }
-        ensures yes { result ≡ true → (mark ≡ wanted) × (state_of self.new ≡ set_place (state_of self.old) place) }
+        ensures yes { result ≡ true
+            → (mark ≡ wanted) × (state_of self.new ≡ set_place (state_of self.old) place) }
         ensures no { result ≡ false → mark ≡ wanted → ⊥ }
     {
         if mark != wanted {
@@ -246,8 +257,10 @@ impl Progress {
 
     /// The end of a list.
     fn close_list(&mut self, mark: u8, attribute: Attribute) -> Result<bool, NoMemory>
-        ensures list { self.old.place ≡ Place.List attribute → IfOk result (λ ok. Stepped (state_of self.old) (Mark mark) ok (state_of self.new)) }
-        ensures item { self.old.place ≡ Place.Item attribute → (mark ≡ 44 → ⊥) → IfOk result (λ ok. Stepped (state_of self.old) (Mark mark) ok (state_of self.new)) }
+        ensures list { self.old.place ≡ Place.List attribute
+            → IfOk result (λ ok. Stepped (state_of self.old) (Mark mark) ok (state_of self.new)) }
+        ensures item { self.old.place ≡ Place.Item attribute → (mark ≡ 44 → ⊥)
+            → IfOk result (λ ok. Stepped (state_of self.old) (Mark mark) ok (state_of self.new)) }
     {
         if mark != b']' {
             return Ok(false);
@@ -263,8 +276,10 @@ impl Progress {
 
     /// The end of a call.
     fn close(&mut self, mark: u8) -> Result<bool, NoMemory>
-        ensures inside { self.old.place ≡ Place.Inside → IfOk result (λ ok. Stepped (state_of self.old) (Mark mark) ok (state_of self.new)) }
-        ensures done { self.old.place ≡ Place.Done → (mark ≡ 44 → ⊥) → IfOk result (λ ok. Stepped (state_of self.old) (Mark mark) ok (state_of self.new)) }
+        ensures inside { self.old.place ≡ Place.Inside
+            → IfOk result (λ ok. Stepped (state_of self.old) (Mark mark) ok (state_of self.new)) }
+        ensures done { self.old.place ≡ Place.Done → (mark ≡ 44 → ⊥)
+            → IfOk result (λ ok. Stepped (state_of self.old) (Mark mark) ok (state_of self.new)) }
     {
         if mark != b')' || !is_whole(self.rule, &self.given) {
             return Ok(false);

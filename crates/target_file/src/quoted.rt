@@ -39,10 +39,13 @@ fn escaped(byte: u8) -> Option<u8>
     }
 }
 
-/// What the bytes in front stand for in a string with another quote than the first one, and how many these are.
+/// What the bytes in front stand for in a string with another quote than the first one, and how
+/// many these are.
 fn meant(byte: u8, behind: &[u8]) -> Option<(u8, usize)>
-    ensures some { IfSome result (λ c. (q : ℕ) → nat_eq byte q ≡ false → Means q (byte ∷ behind.now) c.0 c.1) }
-    ensures none { IfNone result ((q : ℕ) → nat_eq byte q ≡ false → IsBroken q (byte ∷ behind.now)) }
+    ensures some { IfSome result
+        (λ c. (q : ℕ) → nat_eq byte q ≡ false → Means q (byte ∷ behind.now) c.0 c.1) }
+    ensures none { IfNone result
+        ((q : ℕ) → nat_eq byte q ≡ false → IsBroken q (byte ∷ behind.now)) }
 {
     if byte == b'\n' || byte == b'\r' {
         return None;
@@ -61,7 +64,8 @@ fn meant(byte: u8, behind: &[u8]) -> Option<(u8, usize)>
 
 /// What a string stands for, read byte by byte.
 fn unescaped(alloc: Global, quote: u8, rest: &[u8]) -> Result<Option<(Vec<u8>, usize)>, NoMemory>
-    ensures { IfOk result (λ o. MatchOption o (HasNoEnd quote rest.now) (λ r. Quoted quote rest.now r.0.items r.1)) }
+    ensures { IfOk result
+        (λ o. MatchOption o (HasNoEnd quote rest.now) (λ r. Quoted quote rest.now r.0.items r.1)) }
 {
     let mut text = Vec::new(alloc);
     let mut at = 0;
@@ -81,10 +85,11 @@ fn unescaped(alloc: Global, quote: u8, rest: &[u8]) -> Result<Option<(Vec<u8>, u
     Ok(None)
 }
 
-/// What a string stands for whose quote stands before `rest`, and how many bytes stand before the closing quote; `None`
-/// where no file goes on so.
+/// What a string stands for whose quote stands before `rest`, and how many bytes stand before the
+/// closing quote; `None` where no file goes on so.
 pub fn quoted(alloc: Global, quote: u8, rest: &[u8]) -> Result<Option<(Vec<u8>, usize)>, NoMemory>
-    ensures { IfOk result (λ o. MatchOption o (HasNoEnd quote rest.now) (λ r. Quoted quote rest.now r.0.items r.1)) }
+    ensures { IfOk result
+        (λ o. MatchOption o (HasNoEnd quote rest.now) (λ r. Quoted quote rest.now r.0.items r.1)) }
 {
     let end = plain(quote, rest);
     if end < rest.len() && rest[end] == quote {

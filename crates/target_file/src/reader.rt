@@ -111,11 +111,13 @@ impl Reader {
         )
     }
 
-    /// Takes what stands in front, and says how many bytes that is; `None` where no file goes on so.
+    /// Takes what stands in front, and says how many bytes that is; `None` where no file goes on
+    /// so.
     pub fn take(&mut self, rest: &[u8]) -> Result<Option<usize>, NoMemory>
         requires some { 0 < length rest.now }
         requires line { self.old.line < 2 ^ 63 }
-        ensures { IfOk result (λ o. Goes (scan_of self.old) rest.now (state_of self.old.progress) o (scan_of self.new) (state_of self.new.progress)) }
+        ensures { IfOk result (λ o. Goes (scan_of self.old) rest.now (state_of self.old.progress) o
+            (scan_of self.new) (state_of self.new.progress)) }
     {
         match self.mode {
             Mode::Between => self.between(rest),
@@ -128,7 +130,8 @@ impl Reader {
         requires some { 0 < length rest.now }
         requires mode { self.old.mode ≡ Mode.Comment }
         requires line { self.old.line < 2 ^ 63 }
-        ensures { Goes (scan_of self.old) rest.now (state_of self.old.progress) (Some result) (scan_of self.new) (state_of self.new.progress) }
+        ensures { Goes (scan_of self.old) rest.now (state_of self.old.progress) (Some result)
+            (scan_of self.new) (state_of self.new.progress) }
     {
         let end = before_line_feed(rest);
         if end == rest.len() {
@@ -144,7 +147,8 @@ impl Reader {
         requires some { 0 < length rest.now }
         requires mode { self.old.mode ≡ Mode.Between }
         requires line { self.old.line < 2 ^ 63 }
-        ensures { IfOk result (λ o. Goes (scan_of self.old) rest.now (state_of self.old.progress) o (scan_of self.new) (state_of self.new.progress)) }
+        ensures { IfOk result (λ o. Goes (scan_of self.old) rest.now (state_of self.old.progress) o
+            (scan_of self.new) (state_of self.new.progress)) }
     {
         let end = letters(rest);
         if end == 0 {
@@ -164,7 +168,8 @@ impl Reader {
         requires no_letter { is_letter byte ≡ false }
         requires mode { self.old.mode ≡ Mode.Between }
         requires line { self.old.line < 2 ^ 63 }
-        ensures { IfOk result (λ o. Goes (scan_of self.old) (byte ∷ behind.now) (state_of self.old.progress) o (scan_of self.new) (state_of self.new.progress)) }
+        ensures { IfOk result (λ o. Goes (scan_of self.old) (byte ∷ behind.now)
+            (state_of self.old.progress) o (scan_of self.new) (state_of self.new.progress)) }
     {
         if is_quote(byte) {
             return self.string(byte, behind);
@@ -181,7 +186,8 @@ impl Reader {
         requires no_quote { is_quote byte ≡ false }
         requires mode { self.old.mode ≡ Mode.Between }
         requires line { self.old.line < 2 ^ 63 }
-        ensures { IfOk result (λ ok. Took (scan_of self.old) byte (state_of self.old.progress) ok (scan_of self.new) (state_of self.new.progress)) }
+        ensures { IfOk result (λ ok. Took (scan_of self.old) byte (state_of self.old.progress) ok
+            (scan_of self.new) (state_of self.new.progress)) }
     {
         if is_blank(byte) {
             if byte == b'\n' {
@@ -204,7 +210,8 @@ impl Reader {
     fn string(&mut self, quote: u8, behind: &[u8]) -> Result<Option<usize>, NoMemory>
         requires quote { is_quote quote ≡ true }
         requires mode { self.old.mode ≡ Mode.Between }
-        ensures { IfOk result (λ o. Goes (scan_of self.old) (quote ∷ behind.now) (state_of self.old.progress) o (scan_of self.new) (state_of self.new.progress)) }
+        ensures { IfOk result (λ o. Goes (scan_of self.old) (quote ∷ behind.now)
+            (state_of self.old.progress) o (scan_of self.new) (state_of self.new.progress)) }
     {
         let Some((text, end)) = quoted(self.alloc, quote, behind)? else {
             return Ok(None);

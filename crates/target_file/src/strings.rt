@@ -34,8 +34,8 @@ pub fn opens(text: &[u8]) -> bool
     text.starts_with(b"$(location ")
 }
 
-/// Whether behind each `$(location ` stand a label and a closing parenthesis. Behind each it looks at no more
-/// than 514 bytes.
+/// Whether behind each `$(location ` stand a label and a closing parenthesis. Behind each it looks
+/// at no more than 514 bytes.
 pub fn is_command(text: &[u8]) -> bool
     ensures { (result ≡ true) ↔ IsCommand text.now }
 {
@@ -49,7 +49,8 @@ pub fn is_command(text: &[u8]) -> bool
 
 /// The same, of a location that begins here.
 fn is_fine(rest: &[u8]) -> bool
-    ensures { (result ≡ true) ↔ (starts_with nat_eq rest.now opener ≡ true → IsLocated (drop 11 rest.now)) }
+    ensures { (result ≡ true)
+        ↔ (starts_with nat_eq rest.now opener ≡ true → IsLocated (drop 11 rest.now)) }
 {
     !opens(rest) || is_located(&rest[11..])
 }

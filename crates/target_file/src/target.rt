@@ -16,8 +16,8 @@ use buck_label::{Path, Text};
 use std::alloc::Global;
 use std::marker::Model;
 
-/// What a call means, apart from its line: a default that is left out equals the same value written out, and the
-/// order of the attributes does not count.
+/// What a call means, apart from its line: a default that is left out equals the same value written
+/// out, and the order of the attributes does not count.
 pub struct Target {
     name: Path,
     visibility: Vec<Text>,
@@ -43,7 +43,12 @@ impl Model for Target {
 
     ghost Value = { targets.Target };
 
-    ghost view = { λ t. record { name = t.name; visibility = t.visibility.items; labels = t.labels.items; action = t.action } };
+    ghost view = { λ t. record {
+      name = t.name;
+      visibility = t.visibility.items;
+      labels = t.labels.items;
+      action = t.action;
+    } };
 
     ghost invariant = { λ t. IsPath t.name × targets.IsSound t.action };
 }
@@ -64,7 +69,8 @@ impl Target {
         self.visibility.as_slice()
     }
 
-    /// The target's labels, in order: any strings, which nothing is done with. They are no labels of targets.
+    /// The target's labels, in order: any strings, which nothing is done with. They are no labels
+    /// of targets.
     pub fn labels(&self) -> &[Text]
         ensures { result.now ≡ self.now.labels }
     {
@@ -82,7 +88,8 @@ impl Target {
     /// The target that a call means.
     pub(crate) fn of(alloc: Global, call: &Call) -> Result<Target, NoMemory>
         requires { IsFine (call_of call.now) }
-        ensures { IfOk result (λ t. t ≡ target_of (call_of call.now).rule (call_of call.now).arguments) }
+        ensures { IfOk result
+            (λ t. t ≡ target_of (call_of call.now).rule (call_of call.now).arguments) }
     {
         let given = call.arguments.as_slice();
         let name = path_of(alloc, text_of(given, Attribute::Name, b""))?;

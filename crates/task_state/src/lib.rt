@@ -1,4 +1,5 @@
-//! Where a task stands: whether it checks its dependencies, computes, or has ended, and what it needs next.
+//! Where a task stands: whether it checks its dependencies, computes, or has ended, and what it
+//! needs next.
 #![tactic(auto)]
 
 mod state;

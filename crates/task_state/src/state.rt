@@ -52,8 +52,8 @@ pub enum Need {
 }
 
 impl<K: Drop, V: Drop> TaskState<K, V> {
-    /// What the task needs next: to be taken where it is ready, to be brought back where it is out, answers where it waits, and
-    /// nothing where it has ended.
+    /// What the task needs next: to be taken where it is ready, to be brought back where it is out,
+    /// answers where it waits, and nothing where it has ended.
     pub fn poll_step(&self) -> Need
         ensures { result ≡ need_of self.now }
     {
@@ -91,7 +91,8 @@ impl<K: Drop, V: Drop> TaskState<K, V> {
         self.set(Stage::Ready);
     }
 
-    /// It is given back with a batch: from out to ready where all answers are there, else to waiting.
+    /// It is given back with a batch: from out to ready where all answers are there, else to
+    /// waiting.
     pub fn given(&mut self, complete: bool)
         requires { stage_of self.old ≡ Some Stage.Out }
         ensures { self.new ≡ with_stage self.old (if complete then Stage.Ready else Stage.Waiting) }
@@ -103,7 +104,8 @@ impl<K: Drop, V: Drop> TaskState<K, V> {
         });
     }
 
-    /// Its check found a dependency that differs: from a check that is out to a computation that is ready.
+    /// Its check found a dependency that differs: from a check that is out to a computation that is
+    /// ready.
     pub fn differs(&mut self)
         requires { self.old ≡ TaskState.Checking Stage.Out }
         ensures { self.new ≡ TaskState.Computing Stage.Ready }
@@ -111,7 +113,8 @@ impl<K: Drop, V: Drop> TaskState<K, V> {
         *self = TaskState::Computing(Stage::Ready);
     }
 
-    /// Its check found all the same: from a check that is out to the end, with the value that was checked.
+    /// Its check found all the same: from a check that is out to the end, with the value that was
+    /// checked.
     pub fn same(&mut self, checked: Arc<V>)
         requires { self.old ≡ TaskState.Checking Stage.Out }
         ensures { self.new ≡ TaskState.Ended (Outcome.Value checked) }

@@ -60,7 +60,8 @@ fn advanced(job: Job<Tiny>, universe: &Tiny) -> Result<Step<Tiny>, NoMemory> {
     }
 }
 
-/// The job that goes on with these answers; as for want of memory where the step does not ask as many keys.
+/// The job that goes on with these answers; as for want of memory where the step does not ask as
+/// many keys.
 fn resumed(parked: Parked<Tiny>, answers: Answers<Value>) -> Result<Job<Tiny>, NoMemory> {
     if answers.len() != parked.batch().len() {
         return Err(NoMemory);
@@ -69,7 +70,8 @@ fn resumed(parked: Parked<Tiny>, answers: Answers<Value>) -> Result<Job<Tiny>, N
     Ok(parked.resume(next, answers))
 }
 
-/// The step after this one, which is answered with these numbers; as for want of memory where it does not ask as many keys.
+/// The step after this one, which is answered with these numbers; as for want of memory where it
+/// does not ask as many keys.
 fn after(
     alloc: Global,
     universe: &Tiny,
@@ -84,7 +86,8 @@ fn after(
     advanced(job, universe)
 }
 
-/// The step of a job when its first batch, and then its second, if there are numbers for it, are answered with these.
+/// The step of a job when its first batch, and then its second, if there are numbers for it, are
+/// answered with these.
 fn run_to(
     alloc: Global,
     universe: &Tiny,
@@ -225,7 +228,8 @@ fn a_job_and_its_step_have_its_name(rt: HostRuntime) -> Result<(), Fail> {
     Ok(())
 }
 
-/// What a check of `Follow(1)` is for: its name, the earlier value, the last answer of its trace, and the base.
+/// What a check of `Follow(1)` is for: its name, the earlier value, the last answer of its trace,
+/// and the base.
 type Checking = ((u64, Place, u64), u64, u64, u64);
 
 const CHECKING: Checking = ((4, FOLLOW, 9), 40, 40, 3);

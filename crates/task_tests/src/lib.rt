@@ -1,4 +1,5 @@
-//! Tests of tasks, those who ask for them, their waits, their jobs, and the journal, through public calls.
+//! Tests of tasks, those who ask for them, their waits, their jobs, and the journal, through public
+//! calls.
 #![tactic(auto)]
 
 #[cfg(test)]

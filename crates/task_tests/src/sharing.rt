@@ -62,7 +62,8 @@ impl Tasks {
         self.table.task(&self.one) == Some(&task)
     }
 
-    /// Notes that the task of key 1 has ended; whether it is still there, and neither runs nor waits.
+    /// Notes that the task of key 1 has ended; whether it is still there, and neither runs nor
+    /// waits.
     fn end(&mut self) -> bool {
         self.table.ended(&self.one);
         self.has(10) && !self.table.is_live(&self.one) && self.table.waits(&self.one).is_empty()

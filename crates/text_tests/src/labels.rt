@@ -64,7 +64,8 @@ fn is_home(alloc: Global, label: &Label, home: &Package) -> Result<bool, Refused
     Ok(label.package(alloc)?.try_clone()? == *home)
 }
 
-/// Whether a label in a package is printed as this, its name is `w`, and its package is that package.
+/// Whether a label in a package is printed as this, its name is `w`, and its package is that
+/// package.
 fn is_local(alloc: Global, home: &Package, text: &[u8], printed: &[u8]) -> Result<bool, Refused> {
     let label = Label::read_in(alloc, text, home)?;
     Ok(has_parts(&label, printed, home.as_bytes(), b"w") && is_home(alloc, &label, home)?)

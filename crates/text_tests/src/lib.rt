@@ -1,4 +1,5 @@
-//! Tests of what is read and written as text: labels, scripts and target files, through public calls.
+//! Tests of what is read and written as text: labels, scripts and target files, through public
+//! calls.
 #![tactic(auto)]
 
 #[cfg(test)]

@@ -223,8 +223,8 @@ fn requests_that_a_script_cancels(rt: HostRuntime) {
     }
 }
 
-/// What a long script begins with, and how many lines of it do something; then what it repeats, with a number between the parts, and
-/// how many lines of that do something.
+/// What a long script begins with, and how many lines of it do something; then what it repeats,
+/// with a number between the parts, and how many lines of that do something.
 type LongRow = (&'static [u8], usize, &'static [&'static [u8]], usize);
 
 const LONG: [LongRow; 9] = [

@@ -355,8 +355,8 @@ fn targets_of_five_rules(rt: HostRuntime) -> Result<(), Fail> {
     Ok(())
 }
 
-/// A text of 256 KiB: bytes before, a piece that is repeated, and bytes at the end; then how many targets it has, or 99, and the line of
-/// its fault, or 0.
+/// A text of 256 KiB: bytes before, a piece that is repeated, and bytes at the end; then how many
+/// targets it has, or 99, and the line of its fault, or 0.
 type LargeRow = (&'static [u8], &'static [u8], &'static [u8], usize, u64);
 
 const LARGE: [LargeRow; 8] = [

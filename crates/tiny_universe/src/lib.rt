@@ -1,4 +1,5 @@
-//! An example universe: cells that are set, and keys computed from them. It shows how a universe is written, and tests run on it.
+//! An example universe: cells that are set, and keys computed from them. It shows how a universe is
+//! written, and tests run on it.
 #![tactic(auto)]
 
 mod fronts;

@@ -38,7 +38,8 @@ impl Tiny {
 
     /// The next move of a run.
     fn step(&self, run: &Run) -> Result<Move<Place, Value>, NoMemory>
-        ensures { IfOk result (λ p. IsStep p (next_move run.now.key (batches run.now.key run.now.version run.now.first run.now.second) run.now.version)) }
+        ensures { IfOk result (λ p. IsStep p (next_move run.now.key
+            (batches run.now.key run.now.version run.now.first run.now.second) run.now.version)) }
     {
         let alloc = self.alloc;
         match (run.key, &run.first, &run.second) {
@@ -81,7 +82,8 @@ impl Universe for Tiny {
 
     ghost meaning = { tiny };
 
-    ghost running = { λ r. record { key = r.key; version = r.version; answered = batches r.key r.version r.first r.second } };
+    ghost running = { λ r. record
+        { key = r.key; version = r.version; answered = batches r.key r.version r.first r.second } };
 
     fn kind(&self, key: &Place) -> Kind {
         match key {

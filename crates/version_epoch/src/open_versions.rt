@@ -49,8 +49,14 @@ impl Tracker {
     pub fn open(&mut self, version: u64) -> Result<(), NoMemory>
         requires count { open_count_of self.old version < u64.MAX }
         requires epoch { epoch_of self.old version < u64.MAX }
-        ensures count { OnOk result ((w : ℕ) → open_count_of self.new w ≡ (if w == version then open_count_of self.old w + 1 else open_count_of self.old w)) }
-        ensures epoch { OnOk result ((w : ℕ) → epoch_of self.new w ≡ (if w == version && open_count_of self.old w == 0 then epoch_of self.old w + 1 else epoch_of self.old w)) }
+        ensures count { OnOk result ((w : ℕ)
+            → open_count_of self.new w
+            ≡ (if w == version then open_count_of self.old w + 1 else open_count_of self.old w)) }
+        ensures epoch { OnOk result ((w : ℕ)
+            → epoch_of self.new w
+            ≡ (if w == version && open_count_of self.old w == 0
+            then epoch_of self.old w + 1
+            else epoch_of self.old w)) }
         ensures err { OnErr result (self.new ≡ self.old) }
     {
         let before = self.standing(version);
@@ -66,7 +72,9 @@ impl Tracker {
     /// A transaction at the version is closed. It takes no memory.
     pub fn close(&mut self, version: u64)
         requires { 0 < open_count_of self.old version }
-        ensures count { (w : ℕ) → open_count_of self.new w ≡ (if w == version then open_count_of self.old w - 1 else open_count_of self.old w) }
+        ensures count { (w : ℕ)
+            → open_count_of self.new w
+            ≡ (if w == version then open_count_of self.old w - 1 else open_count_of self.old w) }
         ensures epoch { (w : ℕ) → epoch_of self.new w ≡ epoch_of self.old w }
     {
         if let Some(standing) = self.standings.get_mut(&version) {

@@ -29,7 +29,8 @@ pub(crate) fn is_before_end(version: u64, end: Option<u64>) -> bool
     }
 }
 
-/// Whether the end lies below the version, so that a range up to it does not touch one from there on.
+/// Whether the end lies below the version, so that a range up to it does not touch one from there
+/// on.
 pub(crate) fn is_end_below(end: Option<u64>, version: u64) -> bool
     ensures { result ≡ ends_below end version }
 {

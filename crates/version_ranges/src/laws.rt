@@ -14,7 +14,8 @@ pub fn same_members(a: &Ranges, b: &Ranges)
 
 /// A set is open exactly where it has all versions from some version on.
 pub fn open_has_a_tail(ranges: &Ranges)
-    ensures { IsTrue (is_open ranges.now) ↔ ((v : ℕ) × ((w : ℕ) → v ≤ w → contains ranges.now w ≡ true)) }
+    ensures { IsTrue (is_open ranges.now)
+        ↔ ((v : ℕ) × ((w : ℕ) → v ≤ w → contains ranges.now w ≡ true)) }
 {
     let _ = &ranges.ranges;
 }

@@ -14,7 +14,8 @@ pub(crate) fn append(ranges: &mut Vec<Range>, next: Range) -> Result<(), NoMemor
     requires has_version { is_before next.from next.to ≡ true }
     requires in_order { LastBeginsBy ranges.old.items next.from }
     ensures separate { OnOk result (IsSeparate ranges.new.items) }
-    ensures members { OnOk result ((w : ℕ) → contains ranges.new.items w ≡ (contains ranges.old.items w || is_in next w)) }
+    ensures members { OnOk result
+        ((w : ℕ) → contains ranges.new.items w ≡ (contains ranges.old.items w || is_in next w)) }
     ensures in_order { OnOk result (LastBeginsBy ranges.new.items next.from) }
     ensures err { OnErr result (ranges.new.items ≡ ranges.old.items) }
 {
@@ -38,7 +39,8 @@ pub(crate) fn append_common(ranges: &mut Vec<Range>, a: Range, b: Range) -> Resu
     requires separate { IsSeparate ranges.old.items }
     requires in_order { LastBeginsBy ranges.old.items (max a.from b.from) }
     ensures separate { OnOk result (IsSeparate ranges.new.items) }
-    ensures members { OnOk result ((w : ℕ) → contains ranges.new.items w ≡ (contains ranges.old.items w || (is_in a w && is_in b w))) }
+    ensures members { OnOk result ((w : ℕ)
+        → contains ranges.new.items w ≡ (contains ranges.old.items w || (is_in a w && is_in b w))) }
     ensures in_order { OnOk result (LastBeginsBy ranges.new.items (max a.from b.from)) }
 {
     let common = Range {
@@ -51,13 +53,16 @@ pub(crate) fn append_common(ranges: &mut Vec<Range>, a: Range, b: Range) -> Resu
     append(ranges, common)
 }
 
-/// Whether, of what is left of two lists from these places on, the range that begins first is `a[i]`.
+/// Whether, of what is left of two lists from these places on, the range that begins first is
+/// `a[i]`.
 fn is_left_next(a: &[Range], i: usize, b: &[Range], j: usize) -> bool
     requires left { i ≤ length a.now }
     requires right { j ≤ length b.now }
     ensures yes { result ≡ true → i < length a.now }
-    ensures first { result ≡ true → (d : Range) → j < length b.now → (slice_index_or a.now i d).from ≤ (slice_index_or b.now j d).from }
-    ensures no { result ≡ false → (d : Range) → i < length a.now → (slice_index_or b.now j d).from ≤ (slice_index_or a.now i d).from }
+    ensures first { result ≡ true → (d : Range) → j < length b.now
+        → (slice_index_or a.now i d).from ≤ (slice_index_or b.now j d).from }
+    ensures no { result ≡ false → (d : Range) → i < length a.now
+        → (slice_index_or b.now j d).from ≤ (slice_index_or a.now i d).from }
     ensures none { result ≡ false → i < length a.now → j < length b.now }
 {
     i < a.len() && (j == b.len() || a[i].from <= b[j].from)
@@ -68,7 +73,8 @@ pub(crate) fn union_of(alloc: Global, a: &[Range], b: &[Range]) -> Result<Vec<Ra
     requires left { IsSeparate a.now }
     requires right { IsSeparate b.now }
     ensures separate { IfOk result (λ v. IsSeparate v.items) }
-    ensures members { IfOk result (λ v. (w : ℕ) → contains v.items w ≡ (contains a.now w || contains b.now w)) }
+    ensures members { IfOk result
+        (λ v. (w : ℕ) → contains v.items w ≡ (contains a.now w || contains b.now w)) }
 {
     let mut union = Vec::new(alloc);
     let mut i = 0;
@@ -95,7 +101,8 @@ pub(crate) fn intersection_of(
     requires left { IsSeparate a.now }
     requires right { IsSeparate b.now }
     ensures separate { IfOk result (λ v. IsSeparate v.items) }
-    ensures members { IfOk result (λ v. (w : ℕ) → contains v.items w ≡ (contains a.now w && contains b.now w)) }
+    ensures members { IfOk result
+        (λ v. (w : ℕ) → contains v.items w ≡ (contains a.now w && contains b.now w)) }
 {
     let mut common = Vec::new(alloc);
     let mut i = 0;

@@ -8,12 +8,14 @@ use crate::half_open::{Range, is_end_below, later};
 use crate::memory::NoMemory;
 use crate::merge::union_of;
 
-/// Adds a range. Where it touches one other at most, it is put at its place, or joined with that one.
+/// Adds a range. Where it touches one other at most, it is put at its place, or joined with that
+/// one.
 pub(crate) fn put(ranges: &mut Vec<Range>, range: Range) -> Result<(), NoMemory>
     requires separate { IsSeparate ranges.old.items }
     requires has_version { is_before range.from range.to ≡ true }
     ensures separate { OnOk result (IsSeparate ranges.new.items) }
-    ensures members { OnOk result ((w : ℕ) → contains ranges.new.items w ≡ (contains ranges.old.items w || is_in range w)) }
+    ensures members { OnOk result
+        ((w : ℕ) → contains ranges.new.items w ≡ (contains ranges.old.items w || is_in range w)) }
     ensures err { OnErr result (ranges.new.items ≡ ranges.old.items) }
 {
     let place = ranges.partition_point(|next| next.from <= range.from);
@@ -28,13 +30,15 @@ pub(crate) fn put(ranges: &mut Vec<Range>, range: Range) -> Result<(), NoMemory>
     Ok(())
 }
 
-/// Joins a range with the one before a place or with the one at it, where it touches that one and no other; tells whether it did.
+/// Joins a range with the one before a place or with the one at it, where it touches that one and
+/// no other; tells whether it did.
 fn join_round(ranges: &mut Vec<Range>, place: usize, range: Range) -> bool
     requires place { place ≤ length ranges.old.items }
     requires separate { IsSeparate ranges.old.items }
     requires has_version { is_before range.from range.to ≡ true }
     ensures separate { IsSeparate ranges.new.items }
-    ensures joined { result ≡ true → (w : ℕ) → contains ranges.new.items w ≡ (contains ranges.old.items w || is_in range w) }
+    ensures joined { result ≡ true → (w : ℕ)
+        → contains ranges.new.items w ≡ (contains ranges.old.items w || is_in range w) }
     ensures left { result ≡ false → ranges.new.items ≡ ranges.old.items }
 {
     if place > 0 && join_at(ranges, place - 1, range) {
@@ -43,13 +47,15 @@ fn join_round(ranges: &mut Vec<Range>, place: usize, range: Range) -> bool
     place < ranges.len() && join_at(ranges, place, range)
 }
 
-/// Joins a range with the one at a place, where it touches that one and no other; tells whether it did.
+/// Joins a range with the one at a place, where it touches that one and no other; tells whether it
+/// did.
 fn join_at(ranges: &mut Vec<Range>, place: usize, range: Range) -> bool
     requires place { place < length ranges.old.items }
     requires separate { IsSeparate ranges.old.items }
     requires has_version { is_before range.from range.to ≡ true }
     ensures separate { IsSeparate ranges.new.items }
-    ensures joined { result ≡ true → (w : ℕ) → contains ranges.new.items w ≡ (contains ranges.old.items w || is_in range w) }
+    ensures joined { result ≡ true → (w : ℕ)
+        → contains ranges.new.items w ≡ (contains ranges.old.items w || is_in range w) }
     ensures left { result ≡ false → ranges.new.items ≡ ranges.old.items }
 {
     let own = ranges[place];
@@ -75,8 +81,10 @@ fn is_apart(a: Range, b: Range) -> bool
 fn is_clear(ranges: &[Range], before: usize, after: usize, range: Range) -> bool
     requires before { before ≤ length ranges.now }
     requires after { after ≤ length ranges.now }
-    ensures below { result ≡ true → (d : Range) → 0 < before → ends_below (slice_index_or ranges.now (before - 1) d).to range.from ≡ true }
-    ensures above { result ≡ true → (d : Range) → after < length ranges.now → ends_below range.to (slice_index_or ranges.now after d).from ≡ true }
+    ensures below { result ≡ true → (d : Range) → 0 < before
+        → ends_below (slice_index_or ranges.now (before - 1) d).to range.from ≡ true }
+    ensures above { result ≡ true → (d : Range) → after < length ranges.now
+        → ends_below range.to (slice_index_or ranges.now after d).from ≡ true }
 {
     (before == 0 || is_end_below(ranges[before - 1].to, range.from))
         && (after == ranges.len() || is_end_below(range.to, ranges[after].from))

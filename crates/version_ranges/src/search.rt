@@ -22,7 +22,9 @@ pub(crate) fn is_among(ranges: &[Range], version: u64) -> bool
 /// The range that has the version, if one does.
 pub(crate) fn range_at(ranges: &[Range], version: u64) -> Option<Range>
     requires { IsSeparate ranges.now }
-    ensures { MatchOption result (contains ranges.now version ≡ false) (λ r. (is_before r.from r.to ≡ true) × ((w : ℕ) → is_in r w ≡ all_between (contains ranges.now) version w)) }
+    ensures { MatchOption result (contains ranges.now version ≡ false)
+        (λ r. (is_before r.from r.to ≡ true)
+        × ((w : ℕ) → is_in r w ≡ all_between (contains ranges.now) version w)) }
 {
     let begun = ranges.partition_point(|next| next.from <= version);
     if begun == 0 {
@@ -39,8 +41,10 @@ pub(crate) fn range_at(ranges: &[Range], version: u64) -> Option<Range>
 fn begun_below(ranges: &[Range], end: u64) -> usize
     requires { IsSeparate ranges.now }
     ensures bound { result ≤ length ranges.now }
-    ensures below { (d : Range) → 0 < result → (slice_index_or ranges.now (result - 1) d).from < end }
-    ensures others { (d : Range) → result < length ranges.now → end ≤ (slice_index_or ranges.now result d).from }
+    ensures below { (d : Range) → 0 < result
+        → (slice_index_or ranges.now (result - 1) d).from < end }
+    ensures others { (d : Range) → result < length ranges.now
+        → end ≤ (slice_index_or ranges.now result d).from }
 {
     ranges.partition_point(|range| range.from < end)
 }
@@ -49,7 +53,8 @@ fn begun_below(ranges: &[Range], end: u64) -> usize
 pub(crate) fn cut(ranges: &mut Vec<Range>, end: u64)
     requires { IsSeparate ranges.old.items }
     ensures separate { IsSeparate ranges.new.items }
-    ensures members { (w : ℕ) → contains ranges.new.items w ≡ (contains ranges.old.items w && nat_lt w end) }
+    ensures members { (w : ℕ)
+        → contains ranges.new.items w ≡ (contains ranges.old.items w && nat_lt w end) }
 {
     let begun = begun_below(ranges, end);
     ranges.truncate(begun);

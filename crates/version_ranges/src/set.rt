@@ -56,7 +56,8 @@ impl Ranges {
     /// One version. The greatest `u64` is held as an open range, since nothing is above it.
     pub fn one(alloc: Global, version: u64) -> Result<Ranges, NoMemory>
         ensures versions { IfOk result (λ r. (w : ℕ) → w < 2 ^ 64 → contains r w ≡ (w == version)) }
-        ensures exact { IfOk result (λ r. version < u64.MAX → (w : ℕ) → contains r w ≡ (w == version)) }
+        ensures exact { IfOk result
+            (λ r. version < u64.MAX → (w : ℕ) → contains r w ≡ (w == version)) }
     {
         let mut one = Ranges::new(alloc);
         one.insert(version, version.checked_add(1))?;
@@ -96,13 +97,17 @@ impl Ranges {
         }
     }
 
-    /// Adds the versions from `from` on, up to but not with `to`; without a `to` all from `from` on.
+    /// Adds the versions from `from` on, up to but not with `to`; without a `to` all from `from`
+    /// on.
     ///
-    /// The cost is constant where nothing begins after `from`. Else it is a binary search and a move of what lies above; where the new
-    /// range touches more than one, it is linear in the number of ranges.
+    /// The cost is constant where nothing begins after `from`. Else it is a binary search and a
+    /// move of what lies above; where the new range touches more than one, it is linear in the
+    /// number of ranges.
     pub fn insert(&mut self, from: u64, to: Option<u64>) -> Result<(), NoMemory>
         requires { ForSome to (λ t. from < t) }
-        ensures ok { OnOk result ((w : ℕ) → contains self.new w ≡ (contains self.old w || is_in (record { from = from; to = to }) w)) }
+        ensures ok { OnOk result ((w : ℕ)
+            → contains self.new w
+            ≡ (contains self.old w || is_in (record { from = from; to = to }) w)) }
         ensures err { OnErr result (self.new ≡ self.old) }
     {
         let range = Range { from, to };
@@ -116,9 +121,11 @@ impl Ranges {
 
     /// Adds the versions of another set. At an error all is as before.
     ///
-    /// Where the other set is one range, it costs what `insert` does, and else it is linear in the number of ranges.
+    /// Where the other set is one range, it costs what `insert` does, and else it is linear in the
+    /// number of ranges.
     pub fn add(&mut self, other: &Ranges) -> Result<(), NoMemory>
-        ensures ok { OnOk result ((w : ℕ) → contains self.new w ≡ (contains self.old w || contains other.now w)) }
+        ensures ok { OnOk result
+            ((w : ℕ) → contains self.new w ≡ (contains self.old w || contains other.now w)) }
         ensures err { OnErr result (self.new ≡ self.old) }
     {
         if let [one] = other.ranges.as_slice() {
@@ -130,7 +137,8 @@ impl Ranges {
 
     /// The versions of either set.
     pub fn union(&self, other: &Ranges) -> Result<Ranges, NoMemory>
-        ensures { IfOk result (λ r. (w : ℕ) → contains r w ≡ (contains self.now w || contains other.now w)) }
+        ensures { IfOk result
+            (λ r. (w : ℕ) → contains r w ≡ (contains self.now w || contains other.now w)) }
     {
         let ranges = union_of(*self.ranges.allocator(), &self.ranges, &other.ranges)?;
         Ok(Ranges { ranges })
@@ -138,15 +146,18 @@ impl Ranges {
 
     /// The versions of both sets.
     pub fn intersect(&self, other: &Ranges) -> Result<Ranges, NoMemory>
-        ensures { IfOk result (λ r. (w : ℕ) → contains r w ≡ (contains self.now w && contains other.now w)) }
+        ensures { IfOk result
+            (λ r. (w : ℕ) → contains r w ≡ (contains self.now w && contains other.now w)) }
     {
         let ranges = intersection_of(*self.ranges.allocator(), &self.ranges, &other.ranges)?;
         Ok(Ranges { ranges })
     }
 
-    /// The versions of both sets, in place of this one. Where both are one range it takes no memory.
+    /// The versions of both sets, in place of this one. Where both are one range it takes no
+    /// memory.
     pub fn narrowed(self, other: &Ranges) -> Result<Ranges, NoMemory>
-        ensures { IfOk result (λ r. (w : ℕ) → contains r w ≡ (contains self w && contains other.now w)) }
+        ensures { IfOk result
+            (λ r. (w : ℕ) → contains r w ≡ (contains self w && contains other.now w)) }
     {
         let mut ranges = self.ranges;
         if let ([a], [b]) = (ranges.as_slice(), other.ranges.as_slice()) {
@@ -159,10 +170,12 @@ impl Ranges {
         Ok(Ranges { ranges })
     }
 
-    /// Of these versions, in place of them, those up to which the other set has all from the given one on, or from there back. The cost
-    /// is logarithmic in the number of the other's ranges; where this set is one range it takes no memory.
+    /// Of these versions, in place of them, those up to which the other set has all from the given
+    /// one on, or from there back. The cost is logarithmic in the number of the other's ranges;
+    /// where this set is one range it takes no memory.
     pub fn narrowed_round(self, other: &Ranges, version: u64) -> Result<Ranges, NoMemory>
-        ensures { IfOk result (λ r. (w : ℕ) → contains r w ≡ (contains self w && all_between (contains other.now) version w)) }
+        ensures { IfOk result (λ r. (w : ℕ)
+            → contains r w ≡ (contains self w && all_between (contains other.now) version w)) }
     {
         match range_at(&other.ranges, version) {
             Some(range) => self.within(range),

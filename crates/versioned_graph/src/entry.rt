@@ -15,8 +15,9 @@ use std::mem::swap;
 use std::sync::Arc;
 use version_ranges::Ranges;
 
-/// A value that was finished, the trace of its finish, the versions at which it is known to hold, and the greatest version at
-/// which it was finished or seen; and the keys from which an edge to its key is recorded.
+/// A value that was finished, the trace of its finish, the versions at which it is known to hold,
+/// and the greatest version at which it was finished or seen; and the keys from which an edge to
+/// its key is recorded.
 pub(crate) struct Entry<U: Universe> {
     pub(crate) value: Arc<U::Value>,
     pub(crate) trace: Arc<Trace<U>>,
@@ -45,7 +46,13 @@ impl<U: Universe> Model for Entry<U> {
 
     ghost Value = { Stored U.Key U.Value };
 
-    ghost view = { λ e. record { value = arc_value e.value; trace = arc_value e.trace; ranges = e.ranges; version = e.version; deps = map arc_value e.deps.keys } };
+    ghost view = { λ e. record {
+      value = arc_value e.value;
+      trace = arc_value e.trace;
+      ranges = e.ranges;
+      version = e.version;
+      deps = map arc_value e.deps.keys;
+    } };
 }
 
 impl<U: Universe> Entry<U> {
@@ -90,17 +97,23 @@ impl<U: Universe> Entry<U> {
     /// The same, with the edges of an earlier entry too.
     fn with_edges_of(self, earlier: &Entry<U>) -> Result<Entry<U>, NoMemory>
         ensures kept { IfOk result (λ e. kept_of e ≡ kept_of self) }
-        ensures deps { IfOk result (λ e. (j : U.Key) → list_any (U.Key.eq j) e.deps ≡ (list_any (U.Key.eq j) earlier.now.deps || list_any (U.Key.eq j) self.deps)) }
+        ensures deps { IfOk result (λ e. (j : U.Key)
+            → list_any (U.Key.eq j) e.deps
+            ≡ (list_any (U.Key.eq j) earlier.now.deps || list_any (U.Key.eq j) self.deps)) }
     {
         let mut entry = self;
         add_all::<U>(&mut entry.deps, &earlier.deps)?;
         Ok(entry)
     }
 
-    /// Takes in one of the same value: the ranges of both, and the trace of the later one. At an error all is as before.
+    /// Takes in one of the same value: the ranges of both, and the trace of the later one. At an
+    /// error all is as before.
     fn join(&mut self, next: Entry<U>) -> Result<(), NoMemory>
-        ensures kept { OnOk result (kept_of self.new ≡ joined U.meaning U.Value.eq (kept_of self.old) (kept_of next)) }
-        ensures deps { OnOk result ((j : U.Key) → list_any (U.Key.eq j) self.new.deps ≡ (list_any (U.Key.eq j) self.old.deps || list_any (U.Key.eq j) next.deps)) }
+        ensures kept { OnOk result
+            (kept_of self.new ≡ joined U.meaning U.Value.eq (kept_of self.old) (kept_of next)) }
+        ensures deps { OnOk result ((j : U.Key)
+            → list_any (U.Key.eq j) self.new.deps
+            ≡ (list_any (U.Key.eq j) self.old.deps || list_any (U.Key.eq j) next.deps)) }
         ensures err { OnErr result (self.new ≡ self.old) }
     {
         let mut next = next.with_edges_of(self)?;
@@ -116,15 +129,23 @@ impl<U: Universe> Entry<U> {
 
     /// Whether a finish of the same value was made, and the value is not transient.
     fn joins(&self, universe: &U, next: &Entry<U>) -> bool
-        ensures { result ≡ (U.Value.eq self.now.value next.now.value && not (U.meaning.is_transient self.now.value)) }
+        ensures { result
+            ≡ (U.Value.eq self.now.value next.now.value
+            && not (U.meaning.is_transient self.now.value)) }
     {
         *self.value == *next.value && !universe.is_transient(&self.value)
     }
 
-    /// Takes in what a finish has made: joined with it, in its place, or not at all. At an error all is as before.
+    /// Takes in what a finish has made: joined with it, in its place, or not at all. At an error
+    /// all is as before.
     pub(crate) fn take_in(&mut self, universe: &U, next: Entry<U>) -> Result<(), NoMemory>
-        ensures kept { OnOk result (kept_of self.new ≡ written U.meaning U.Value.eq (Some (kept_of self.old)) (kept_of next)) }
-        ensures deps { OnOk result ((j : U.Key) → list_any (U.Key.eq j) self.new.deps ≡ (list_any (U.Key.eq j) self.old.deps || (goes_in U.meaning U.Value.eq (Some (kept_of self.old)) (kept_of next) && list_any (U.Key.eq j) next.deps))) }
+        ensures kept { OnOk result (kept_of self.new
+            ≡ written U.meaning U.Value.eq (Some (kept_of self.old)) (kept_of next)) }
+        ensures deps { OnOk result ((j : U.Key)
+            → list_any (U.Key.eq j) self.new.deps
+            ≡ (list_any (U.Key.eq j) self.old.deps
+            || (goes_in U.meaning U.Value.eq (Some (kept_of self.old)) (kept_of next)
+            && list_any (U.Key.eq j) next.deps))) }
         ensures err { OnErr result (self.new ≡ self.old) }
     {
         if self.joins(universe, &next) {
@@ -142,7 +163,10 @@ fn add_all<U: Universe>(
     keys: &mut HashSet<Arc<U::Key>>,
     others: &HashSet<Arc<U::Key>>,
 ) -> Result<(), NoMemory>
-    ensures { OnOk result ((q : U.Key) → list_any (λ a. U.Key.eq q (arc_value a)) keys.new.keys ≡ (list_any (λ a. U.Key.eq q (arc_value a)) others.now.keys || list_any (λ a. U.Key.eq q (arc_value a)) keys.old.keys)) }
+    ensures { OnOk result ((q : U.Key)
+        → list_any (λ a. U.Key.eq q (arc_value a)) keys.new.keys
+        ≡ (list_any (λ a. U.Key.eq q (arc_value a)) others.now.keys
+        || list_any (λ a. U.Key.eq q (arc_value a)) keys.old.keys)) }
 {
     laws_of::<U>();
     for key in others.iter() {
@@ -153,7 +177,8 @@ fn add_all<U: Universe>(
 
 /// Adds the versions of another set. At an error all is as before.
 fn add(ranges: &mut Ranges, others: &Ranges) -> Result<(), NoMemory>
-    ensures ok { OnOk result ((w : ℕ) → contains ranges.new w ≡ (contains ranges.old w || contains others.now w)) }
+    ensures ok { OnOk result
+        ((w : ℕ) → contains ranges.new w ≡ (contains ranges.old w || contains others.now w)) }
     ensures err { OnErr result (ranges.new ≡ ranges.old) }
 {
     ranges.add(others).map_err(|_| NoMemory)

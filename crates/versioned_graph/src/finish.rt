@@ -15,7 +15,8 @@ use std::collections::HashSet;
 use std::sync::Arc;
 use version_ranges::Ranges;
 
-/// Where these ranges have no end, the keys of a trace, of each of which the key is a user then; else none.
+/// Where these ranges have no end, the keys of a trace, of each of which the key is a user then;
+/// else none.
 pub(crate) fn link_open<U: Universe>(
     alloc: Global,
     ranges: &Ranges,
@@ -23,9 +24,14 @@ pub(crate) fn link_open<U: Universe>(
     key: &Arc<U::Key>,
     trace: &Trace<U>,
 ) -> Result<HashSet<Arc<U::Key>>, NoMemory>
-    ensures keys { IfOk result (λ s. (q : U.Key) → list_any (λ a. U.Key.eq q (arc_value a)) s.keys ≡ (is_open ranges.now && is_asked U.Key.eq trace.now q)) }
-    ensures there { IfOk result (λ s. (j : U.Key) → list_any (λ a. U.Key.eq j (arc_value a)) s.keys ≡ true → Has (users_of U.Key.eq users.new j) (arc_value key.now)) }
-    ensures stay { (j : U.Key) (q : U.Key) → Has (users_of U.Key.eq users.old j) q → Has (users_of U.Key.eq users.new j) q }
+    ensures keys { IfOk result (λ s. (q : U.Key)
+        → list_any (λ a. U.Key.eq q (arc_value a)) s.keys
+        ≡ (is_open ranges.now && is_asked U.Key.eq trace.now q)) }
+    ensures there { IfOk result (λ s. (j : U.Key)
+        → list_any (λ a. U.Key.eq j (arc_value a)) s.keys ≡ true
+        → Has (users_of U.Key.eq users.new j) (arc_value key.now)) }
+    ensures stay { (j : U.Key) (q : U.Key) → Has (users_of U.Key.eq users.old j) q
+        → Has (users_of U.Key.eq users.new j) q }
 {
     let opened = ranges.is_open();
     if opened {
@@ -42,9 +48,13 @@ fn link<U: Universe>(
     key: &Arc<U::Key>,
     trace: &Trace<U>,
 ) -> Result<HashSet<Arc<U::Key>>, NoMemory>
-    ensures keys { IfOk result (λ s. (q : U.Key) → list_any (λ a. U.Key.eq q (arc_value a)) s.keys ≡ is_asked U.Key.eq trace.now q) }
-    ensures there { IfOk result (λ s. (j : U.Key) → list_any (λ a. U.Key.eq j (arc_value a)) s.keys ≡ true → Has (users_of U.Key.eq users.new j) (arc_value key.now)) }
-    ensures stay { (j : U.Key) (q : U.Key) → Has (users_of U.Key.eq users.old j) q → Has (users_of U.Key.eq users.new j) q }
+    ensures keys { IfOk result (λ s. (q : U.Key)
+        → list_any (λ a. U.Key.eq q (arc_value a)) s.keys ≡ is_asked U.Key.eq trace.now q) }
+    ensures there { IfOk result (λ s. (j : U.Key)
+        → list_any (λ a. U.Key.eq j (arc_value a)) s.keys ≡ true
+        → Has (users_of U.Key.eq users.new j) (arc_value key.now)) }
+    ensures stay { (j : U.Key) (q : U.Key) → Has (users_of U.Key.eq users.old j) q
+        → Has (users_of U.Key.eq users.new j) q }
 {
     laws_of::<U>();
     let mut deps = HashSet::new(alloc);

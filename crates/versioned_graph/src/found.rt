@@ -12,7 +12,8 @@ pub enum Why {
     Transient(u64),
 }
 
-/// What a look-up answers. The version beside an entry's value is the greatest at which it was finished or seen.
+/// What a look-up answers. The version beside an entry's value is the greatest at which it was
+/// finished or seen.
 #[derive(Drop)]
 pub enum Found<'a, U: Universe> {
     /// The value at the version asked for.

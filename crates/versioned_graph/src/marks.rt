@@ -19,7 +19,8 @@ use std::sync::Arc;
 use version_ranges::Ranges;
 
 impl<U: Universe> Store<U> {
-    /// The versions that a finish marks: its own, and those that are known for every dependency of its trace.
+    /// The versions that a finish marks: its own, and those that are known for every dependency of
+    /// its trace.
     pub(crate) fn marked(
         &self,
         cells: &Cells<U>,
@@ -28,7 +29,10 @@ impl<U: Universe> Store<U> {
         trace: &Trace<U>,
     ) -> Result<Ranges, NoMemory>
         requires { version < u64.MAX }
-        ensures { IfOk result (λ r. (w : ℕ) → contains r w ≡ marked U.meaning U.Value.eq (cell_at U.Key.eq U.meaning cells.now) (entry_at U.Key.eq self.now) version value.now trace.now w) }
+        ensures { IfOk result (λ r. (w : ℕ)
+            → contains r w
+            ≡ marked U.meaning U.Value.eq (cell_at U.Key.eq U.meaning cells.now)
+            (entry_at U.Key.eq self.now) version value.now trace.now w) }
     {
         let mut ranges = if self.universe.is_transient(value) {
             Ranges::new(self.alloc)
@@ -48,7 +52,10 @@ impl<U: Universe> Store<U> {
         trace: &Trace<U>,
     ) -> Result<Ranges, NoMemory>
         requires { version < u64.MAX }
-        ensures { IfOk result (λ r. (w : ℕ) → contains r w ≡ all_of (known U.meaning U.Value.eq (cell_at U.Key.eq U.meaning cells.now) (entry_at U.Key.eq self.now) version w) trace.now) }
+        ensures { IfOk result (λ r. (w : ℕ)
+            → contains r w
+            ≡ all_of (known U.meaning U.Value.eq (cell_at U.Key.eq U.meaning cells.now)
+            (entry_at U.Key.eq self.now) version w) trace.now) }
     {
         let mut ranges = Ranges::all(self.alloc).map_err(|_| NoMemory)?;
         for i in 0..trace.len() {
@@ -66,7 +73,11 @@ impl<U: Universe> Store<U> {
         ranges: Ranges,
     ) -> Result<Ranges, NoMemory>
         requires { version < u64.MAX }
-        ensures { IfOk result (λ r. (w : ℕ) → contains r w ≡ (contains ranges w && list_all (known U.meaning U.Value.eq (cell_at U.Key.eq U.meaning cells.now) (entry_at U.Key.eq self.now) version w) (keys_in batch.now))) }
+        ensures { IfOk result (λ r. (w : ℕ)
+            → contains r w
+            ≡ (contains ranges w
+            && list_all (known U.meaning U.Value.eq (cell_at U.Key.eq U.meaning cells.now)
+            (entry_at U.Key.eq self.now) version w) (keys_in batch.now))) }
     {
         let mut left = ranges;
         for (dep, _) in batch {
@@ -84,7 +95,11 @@ impl<U: Universe> Store<U> {
         ranges: Ranges,
     ) -> Result<Ranges, NoMemory>
         requires { version < u64.MAX }
-        ensures { IfOk result (λ r. (w : ℕ) → contains r w ≡ (contains ranges w && known U.meaning U.Value.eq (cell_at U.Key.eq U.meaning cells.now) (entry_at U.Key.eq self.now) version w (arc_value dep.now))) }
+        ensures { IfOk result (λ r. (w : ℕ)
+            → contains r w
+            ≡ (contains ranges w
+            && known U.meaning U.Value.eq (cell_at U.Key.eq U.meaning cells.now)
+            (entry_at U.Key.eq self.now) version w (arc_value dep.now))) }
     {
         match self.universe.kind(dep) {
             Kind::Injected => both(ranges, &cells.range_round(version, dep)?),
@@ -102,7 +117,9 @@ fn known_by_entry<U: Universe>(
     version: u64,
     ranges: Ranges,
 ) -> Result<Ranges, NoMemory>
-    ensures { IfOk result (λ r. (w : ℕ) → contains r w ≡ (contains ranges w && known_by (option_map (λ e. kept_of e.now) known.entry) version w)) }
+    ensures { IfOk result (λ r. (w : ℕ)
+        → contains r w
+        ≡ (contains ranges w && known_by (option_map (λ e. kept_of e.now) known.entry) version w)) }
 {
     match known {
         Some(entry) => round(ranges, &entry.ranges, version),
@@ -112,7 +129,8 @@ fn known_by_entry<U: Universe>(
 
 /// Of these versions those up to which the others have all from the version on, or from there back.
 fn round(ranges: Ranges, others: &Ranges, version: u64) -> Result<Ranges, NoMemory>
-    ensures { IfOk result (λ r. (w : ℕ) → contains r w ≡ (contains ranges w && all_between (contains others.now) version w)) }
+    ensures { IfOk result (λ r. (w : ℕ)
+        → contains r w ≡ (contains ranges w && all_between (contains others.now) version w)) }
 {
     ranges.narrowed_round(others, version).map_err(|_| NoMemory)
 }

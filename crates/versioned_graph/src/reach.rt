@@ -22,8 +22,11 @@ pub(crate) fn reached<U: Universe>(
     changed: &[Arc<U::Key>],
 ) -> Result<Vec<Arc<U::Key>>, NoMemory>
     requires { IsIndexed U.Key.eq store.now users.now }
-    ensures all { IfOk result (λ r. (q : U.Key) → CommitReaches U.Key.eq store.now (map arc_value changed.now) q → Has (map arc_value r.items) q) }
-    ensures only { IfOk result (λ r. (q : U.Key) → Has (map arc_value r.items) q → CommitReaches U.Key.eq store.now (map arc_value changed.now) q) }
+    ensures all { IfOk result (λ r. (q : U.Key)
+        → CommitReaches U.Key.eq store.now (map arc_value changed.now) q
+        → Has (map arc_value r.items) q) }
+    ensures only { IfOk result (λ r. (q : U.Key) → Has (map arc_value r.items) q
+        → CommitReaches U.Key.eq store.now (map arc_value changed.now) q) }
 {
     let mut todo = copies(alloc, changed)?;
     let mut seen = HashSet::new(alloc);
@@ -32,7 +35,8 @@ pub(crate) fn reached<U: Universe>(
     Ok(reached)
 }
 
-/// Adds all keys to which chains of recorded edges lead from those that are to do, and those themselves.
+/// Adds all keys to which chains of recorded edges lead from those that are to do, and those
+/// themselves.
 fn walk<U: Universe>(
     store: &Store<U>,
     users: &Users<U>,
@@ -43,8 +47,11 @@ fn walk<U: Universe>(
     requires indexed { IsIndexed U.Key.eq store.now users.now }
     requires unseen { seen.old.keys ≡ [] }
     requires none { reached.old.items ≡ [] }
-    ensures all { OnOk result ((q : U.Key) → CommitReaches U.Key.eq store.now (map arc_value todo.old.items) q → Has (map arc_value reached.new.items) q) }
-    ensures only { OnOk result ((q : U.Key) → Has (map arc_value reached.new.items) q → CommitReaches U.Key.eq store.now (map arc_value todo.old.items) q) }
+    ensures all { OnOk result ((q : U.Key)
+        → CommitReaches U.Key.eq store.now (map arc_value todo.old.items) q
+        → Has (map arc_value reached.new.items) q) }
+    ensures only { OnOk result ((q : U.Key) → Has (map arc_value reached.new.items) q
+        → CommitReaches U.Key.eq store.now (map arc_value todo.old.items) q) }
 {
     laws_of::<U>();
     while let Some(key) = todo.pop() {
@@ -74,7 +81,9 @@ fn push_users<U: Universe>(
     key: &Arc<U::Key>,
     todo: &mut Vec<Arc<U::Key>>,
 ) -> Result<(), NoMemory>
-    ensures { OnOk result (map arc_value todo.new.items ≡ map arc_value todo.old.items ++ recorded_of U.Key.eq store.now users.now (arc_value key.now)) }
+    ensures { OnOk result (map arc_value todo.new.items
+        ≡ map arc_value todo.old.items
+        ++ recorded_of U.Key.eq store.now users.now (arc_value key.now)) }
 {
     let Some(recorded) = users.of(key) else {
         return Ok(());
@@ -92,7 +101,9 @@ fn push_user<U: Universe>(
     user: &Arc<U::Key>,
     todo: &mut Vec<Arc<U::Key>>,
 ) -> Result<(), NoMemory>
-    ensures { OnOk result (map arc_value todo.new.items ≡ map arc_value todo.old.items ++ filter (is_edge U.Key.eq store.now (arc_value key.now)) (arc_value user.now ∷ [])) }
+    ensures { OnOk result (map arc_value todo.new.items
+        ≡ map arc_value todo.old.items
+        ++ filter (is_edge U.Key.eq store.now (arc_value key.now)) (arc_value user.now ∷ [])) }
 {
     if !store.is_edge(key, user) {
         return Ok(());

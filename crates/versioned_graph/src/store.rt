@@ -49,16 +49,24 @@ impl<U: Universe> Store<U> {
 
     /// The entry of a key.
     pub(crate) fn entry(&self, key: &Arc<U::Key>) -> Option<&Entry<U>>
-        ensures entry { option_map (λ e. kept_of e.now) result ≡ entry_at U.Key.eq self.now (arc_value key.now) }
-        ensures edges { (j : U.Key) → deps_of U.Key.eq (option_copied result) j ≡ is_edge U.Key.eq self.now j (arc_value key.now) }
+        ensures entry { option_map (λ e. kept_of e.now) result
+            ≡ entry_at U.Key.eq self.now (arc_value key.now) }
+        ensures edges { (j : U.Key)
+            → deps_of U.Key.eq (option_copied result) j
+            ≡ is_edge U.Key.eq self.now j (arc_value key.now) }
     {
         self.entries.get(key)
     }
 
-    /// What is known of a key at a version. It takes no memory, and costs one look-up and one binary search.
+    /// What is known of a key at a version. It takes no memory, and costs one look-up and one
+    /// binary search.
     pub(crate) fn lookup(&self, key: &Arc<U::Key>, version: u64) -> Found<'_, U>
-        ensures exact { look_of result ≡ look U.meaning.is_transient (entry_at U.Key.eq self.now (arc_value key.now)) version }
-        ensures value { (C : List (List (U.Key × U.Value))) (x : U.Value) (base : ℕ) → AreTrue U.Key.eq U.meaning C self.now → version ≤ length C → look_of result ≡ Matches x base → HasValue U.Key.eq U.meaning C version (arc_value key.now) x }
+        ensures exact { look_of result
+            ≡ look U.meaning.is_transient (entry_at U.Key.eq self.now (arc_value key.now)) version }
+        ensures value { (C : List (List (U.Key × U.Value))) (x : U.Value) (base : ℕ)
+            → AreTrue U.Key.eq U.meaning C self.now → version ≤ length C
+            → look_of result ≡ Matches x base
+            → HasValue U.Key.eq U.meaning C version (arc_value key.now) x }
     {
         match self.entry(key) {
             None => Found::Compute(Why::New),
@@ -68,9 +76,17 @@ impl<U: Universe> Store<U> {
 
     /// After a match notes that the key's value was seen at the version. It takes no memory.
     pub(crate) fn seen(&mut self, key: &Arc<U::Key>, version: u64)
-        ensures entries { (q : U.Key) → entry_at U.Key.eq self.new q ≡ (if U.Key.eq (arc_value key.now) q then option_map (seen_at version) (entry_at U.Key.eq self.old (arc_value key.now)) else entry_at U.Key.eq self.old q) }
-        ensures edges { (j : U.Key) (q : U.Key) → is_edge U.Key.eq self.new j q ≡ is_edge U.Key.eq self.old j q }
-        ensures kept { (C : List (List (U.Key × U.Value))) (e : Kept U.Key U.Value) → AreTrue U.Key.eq U.meaning C self.old → version ≤ length C → entry_at U.Key.eq self.old (arc_value key.now) ≡ Some e → e.ranges version ≡ true → AreTrue U.Key.eq U.meaning C self.new }
+        ensures entries { (q : U.Key)
+            → entry_at U.Key.eq self.new q
+            ≡ (if U.Key.eq (arc_value key.now) q
+            then option_map (seen_at version) (entry_at U.Key.eq self.old (arc_value key.now))
+            else entry_at U.Key.eq self.old q) }
+        ensures edges { (j : U.Key) (q : U.Key)
+            → is_edge U.Key.eq self.new j q ≡ is_edge U.Key.eq self.old j q }
+        ensures kept { (C : List (List (U.Key × U.Value))) (e : Kept U.Key U.Value)
+            → AreTrue U.Key.eq U.meaning C self.old → version ≤ length C
+            → entry_at U.Key.eq self.old (arc_value key.now) ≡ Some e → e.ranges version ≡ true
+            → AreTrue U.Key.eq U.meaning C self.new }
     {
         laws_of::<U>();
         if let Some(entry) = self.entries.get_mut(key) {
@@ -78,11 +94,21 @@ impl<U: Universe> Store<U> {
         }
     }
 
-    /// Writes an entry: over none, joined with one of the same value, or in place of one that is not later. At an error all is
-    /// as before.
+    /// Writes an entry: over none, joined with one of the same value, or in place of one that is
+    /// not later. At an error all is as before.
     pub(crate) fn put(&mut self, key: Arc<U::Key>, next: Entry<U>) -> Result<(), NoMemory>
-        ensures ok { OnOk result ((q : U.Key) → entry_at U.Key.eq self.new q ≡ (if U.Key.eq (arc_value key) q then Some (written U.meaning U.Value.eq (entry_at U.Key.eq self.old (arc_value key)) (kept_of next)) else entry_at U.Key.eq self.old q)) }
-        ensures edges { OnOk result ((j : U.Key) (q : U.Key) → is_edge U.Key.eq self.new j q ≡ (is_edge U.Key.eq self.old j q || (U.Key.eq (arc_value key) q && (goes_in U.meaning U.Value.eq (entry_at U.Key.eq self.old (arc_value key)) (kept_of next) && list_any (U.Key.eq j) next.deps)))) }
+        ensures ok { OnOk result ((q : U.Key)
+            → entry_at U.Key.eq self.new q
+            ≡ (if U.Key.eq (arc_value key) q
+            then Some (written U.meaning U.Value.eq (entry_at U.Key.eq self.old (arc_value key))
+            (kept_of next))
+            else entry_at U.Key.eq self.old q)) }
+        ensures edges { OnOk result ((j : U.Key) (q : U.Key)
+            → is_edge U.Key.eq self.new j q
+            ≡ (is_edge U.Key.eq self.old j q
+            || (U.Key.eq (arc_value key) q
+            && (goes_in U.meaning U.Value.eq (entry_at U.Key.eq self.old (arc_value key))
+            (kept_of next) && list_any (U.Key.eq j) next.deps)))) }
         ensures err { OnErr result (self.new ≡ self.old) }
     {
         laws_of::<U>();
@@ -93,10 +119,17 @@ impl<U: Universe> Store<U> {
         Ok(())
     }
 
-    /// Cuts the tail of a key's entry at a version, and takes away the edges to the key. It takes no memory.
+    /// Cuts the tail of a key's entry at a version, and takes away the edges to the key. It takes
+    /// no memory.
     pub(crate) fn cut(&mut self, key: &Arc<U::Key>, version: u64)
-        ensures entries { (q : U.Key) → entry_at U.Key.eq self.new q ≡ (if U.Key.eq (arc_value key.now) q then option_map (cut_at version) (entry_at U.Key.eq self.old (arc_value key.now)) else entry_at U.Key.eq self.old q) }
-        ensures edges { (j : U.Key) (q : U.Key) → is_edge U.Key.eq self.new j q ≡ (if U.Key.eq (arc_value key.now) q then false else is_edge U.Key.eq self.old j q) }
+        ensures entries { (q : U.Key)
+            → entry_at U.Key.eq self.new q
+            ≡ (if U.Key.eq (arc_value key.now) q
+            then option_map (cut_at version) (entry_at U.Key.eq self.old (arc_value key.now))
+            else entry_at U.Key.eq self.old q) }
+        ensures edges { (j : U.Key) (q : U.Key)
+            → is_edge U.Key.eq self.new j q
+            ≡ (if U.Key.eq (arc_value key.now) q then false else is_edge U.Key.eq self.old j q) }
     {
         laws_of::<U>();
         if let Some(entry) = self.entries.get_mut(key) {

@@ -10,8 +10,8 @@ use std::collections::{HashMap, HashSet};
 use std::marker::Model;
 use std::sync::Arc;
 
-/// For each key those that were recorded to use it, each once. One stays there after its edge was taken away, until those of the key
-/// are forgotten together.
+/// For each key those that were recorded to use it, each once. One stays there after its edge was
+/// taken away, until those of the key are forgotten together.
 #[derive(Drop)]
 pub(crate) struct Users<U: Universe> {
     alloc: Global,
@@ -40,15 +40,18 @@ impl<U: Universe> Users<U> {
 
     /// The users of a key, if any were recorded.
     pub(crate) fn of(&self, key: &Arc<U::Key>) -> Option<&HashSet<Arc<U::Key>>>
-        ensures { MatchOption result (users_of U.Key.eq self.now (arc_value key.now) ≡ []) (λ s. map arc_value s.now.keys ≡ users_of U.Key.eq self.now (arc_value key.now)) }
+        ensures { MatchOption result (users_of U.Key.eq self.now (arc_value key.now) ≡ [])
+            (λ s. map arc_value s.now.keys ≡ users_of U.Key.eq self.now (arc_value key.now)) }
     {
         self.sets.get(key)
     }
 
     /// Adds a user of a key.
     pub(crate) fn add(&mut self, key: &Arc<U::Key>, user: &Arc<U::Key>) -> Result<(), NoMemory>
-        ensures ok { OnOk result (Has (users_of U.Key.eq self.new (arc_value key.now)) (arc_value user.now)) }
-        ensures stay { (j : U.Key) (q : U.Key) → Has (users_of U.Key.eq self.old j) q → Has (users_of U.Key.eq self.new j) q }
+        ensures ok { OnOk result
+            (Has (users_of U.Key.eq self.new (arc_value key.now)) (arc_value user.now)) }
+        ensures stay { (j : U.Key) (q : U.Key) → Has (users_of U.Key.eq self.old j) q
+            → Has (users_of U.Key.eq self.new j) q }
     {
         laws_of::<U>();
         let user = Arc::try_clone(user)?;
@@ -61,8 +64,10 @@ impl<U: Universe> Users<U> {
 
     /// Makes the set of a key, with its first user.
     fn begin(&mut self, key: &Arc<U::Key>, user: Arc<U::Key>) -> Result<(), NoMemory>
-        ensures ok { OnOk result (Has (users_of U.Key.eq self.new (arc_value key.now)) (arc_value user)) }
-        ensures stay { (j : U.Key) (q : U.Key) → U.Key.eq (arc_value key.now) j ≡ false → Has (users_of U.Key.eq self.old j) q → Has (users_of U.Key.eq self.new j) q }
+        ensures ok { OnOk result
+            (Has (users_of U.Key.eq self.new (arc_value key.now)) (arc_value user)) }
+        ensures stay { (j : U.Key) (q : U.Key) → U.Key.eq (arc_value key.now) j ≡ false
+            → Has (users_of U.Key.eq self.old j) q → Has (users_of U.Key.eq self.new j) q }
     {
         laws_of::<U>();
         let key = Arc::try_clone(key)?;
@@ -74,7 +79,9 @@ impl<U: Universe> Users<U> {
 
     /// Forgets the users of a key. It takes no memory.
     pub(crate) fn forget(&mut self, key: &Arc<U::Key>)
-        ensures { (j : U.Key) → users_of U.Key.eq self.new j ≡ (if U.Key.eq (arc_value key.now) j then [] else users_of U.Key.eq self.old j) }
+        ensures { (j : U.Key)
+            → users_of U.Key.eq self.new j
+            ≡ (if U.Key.eq (arc_value key.now) j then [] else users_of U.Key.eq self.old j) }
     {
         self.sets.remove(key);
     }
