@@ -16,7 +16,7 @@ use Rattle.dice_tasks.specs.Waitings.{IsTurned}
 use Rattle.dice_steps.specs.Batches.{LeavesOut, IsOfMakes, TakesUp, ending_events}
 use Rattle.dice_steps.specs.Finishings.{IsFinished, EndsAndWakes}
 use Rattle.dice_steps.specs.Taken.{IsBatchDone}
-use Rattle.dice_core.specs.Cores.{IsWorkAt}
+use Rattle.dice_core.specs.Cores.{CoreSeen, Turned, IsWorkAt, IsJobOut}
 use Rattle.dice_core.specs.declared.giving.Gave.{Gave}
 use Rattle.dice_core.specs.declared.giving.Gave.TheVariants.{Taken, Stale}
 
@@ -60,3 +60,19 @@ module _ {K V : Type 0} (eq : K → K → Bool) (m : Meaning K V) (veq : V → V
   IsTakenUp d e Unchanged = (x : V) × (T : List (Answered K V)) × (b : ℕ) × (s.job.work ≡ Checks x T b) × EndsIn x
   IsTakenUp d e (Changed j) = IsTurned eq s.job.name.key (held_of s.job IsOut) (held_of (computing s.job) IsReady) ps qs × (fs ≡ es)
   IsTakenUp d e (Wanting ks) = TakesUp eq m v s.job ks ps d qs e × IsBatchDone eq m v s.job ks cells ps d es qs e fs
+
+module _ {K V : Type 0} (eq : K → K → Bool) (m : Meaning K V) (veq : V → V → Bool) where
+  -- the step is taken up among the tasks of its version
+  abbrev pub GivesStep : Stepped K V → CoreSeen K V → CoreSeen K V → Type 0
+  GivesStep s c d = Turned eq m s.job.name.version c.tables d.tables
+      (λ ps qs. Gives eq s.job.name.version s ps qs c.desk d.desk)
+
+  -- and of these tasks and of the entries becomes what it reports
+  abbrev pub DoesStep : Stepped K V → CoreSeen K V → CoreSeen K V → Type 0
+  DoesStep s c d = Turned eq m s.job.name.version c.tables d.tables
+      (λ ps qs. IsTakenUp eq m veq s.job.name.version s c.cells ps qs c.entries d.entries
+      c.desk d.desk s.outcome)
+
+  -- the step is handed back as it is: its job was not out, and nothing changes
+  abbrev pub HandsBack : Stepped K V → CoreSeen K V → CoreSeen K V → Stepped K V → Type 0
+  HandsBack s c d t = (t ≡ s) × (IsJobOut eq c s.job → ⊥) × (d ≡ c)

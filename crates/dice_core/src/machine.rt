@@ -22,7 +22,7 @@ ghost use Rattle.dice_steps.specs.Cells.{CellsStand};
 ghost use Rattle.dice_tasks.specs.Endings.{GivesUpAll};
 ghost use Rattle.dice_tasks.specs.Entries.{EntriesStand};
 ghost use Rattle.dice_tasks.specs.Hands.{KeepsWork, tasks_of};
-ghost use Rattle.dice_core.specs.Givings.{stale_of, Gives, IsTakenUp};
+ghost use Rattle.dice_core.specs.Givings.{stale_of, GivesStep, DoesStep, HandsBack};
 ghost use Rattle.dice_core.specs.Joinings.{AsksForKey};
 ghost use Rattle.dice_core.specs.Sessions.{transaction_at, ask_at, epochs_begun};
 ghost use Rattle.dice_core.specs.Cores.{CoreSeen, Came, ToValue, ToCycle, ToNothing, Pending, Absent, came_of, decision_of, events_of, past_of, table_at, held_to, injected_to, held_in, poll_of, Turned, IsAsBefore, KeepsTasksOf, DropsThese, ready_at, out_at, IsJobOut, IsNameOut, TakesOut, GivesUpOnly};
@@ -337,9 +337,9 @@ impl<U: Universe> Core<U> {
     /// `Stale` exactly where it is not the step of the job that is out: by its name, the batches that were answered, what is done, and
     /// of a check the value, trace and base; then nothing changes. Where memory is refused all is as before, and the step comes back.
     pub fn give(&mut self, step: Step<U>) -> Result<Gave<U>, (NoMemory, Step<U>)>
-        ensures stale { IfOk result (λ g. IfSome (stale_of g) (λ s. (s ≡ step) × (IsJobOut U.Key.eq self.old step.job → ⊥) × (self.new ≡ self.old))) }
-        ensures taken { IfOk result (λ g. IfNone (stale_of g) (Turned U.Key.eq U.meaning step.job.name.version self.old.tables self.new.tables (λ ps qs. Gives U.Key.eq step.job.name.version step ps qs self.old.desk self.new.desk))) }
-        ensures does { IfOk result (λ g. IfNone (stale_of g) (Turned U.Key.eq U.meaning step.job.name.version self.old.tables self.new.tables (λ ps qs. IsTakenUp U.Key.eq U.meaning U.Value.eq step.job.name.version step self.old.cells ps qs self.old.entries self.new.entries self.old.desk self.new.desk step.outcome))) }
+        ensures stale { IfOk result (λ g. IfSome (stale_of g) (HandsBack U.Key.eq U.meaning U.Value.eq step self.old self.new)) }
+        ensures taken { IfOk result (λ g. IfNone (stale_of g) (GivesStep U.Key.eq U.meaning U.Value.eq step self.old self.new)) }
+        ensures does { IfOk result (λ g. IfNone (stale_of g) (DoesStep U.Key.eq U.meaning U.Value.eq step self.old self.new)) }
         ensures rest { (self.new.cells ≡ self.old.cells) × (self.new.sessions ≡ self.old.sessions) }
         ensures step { IfErr result (λ e. e.1 ≡ step) }
         ensures err { OnErr result (IsJobOut U.Key.eq self.old step.job × IsAsBefore U.Key.eq self.old self.new) }
@@ -362,9 +362,9 @@ impl<U: Universe> Core<U> {
     /// as by `give`; but the answers of a run are not compared, since no other answers could be as many.
     pub fn give_own(&mut self, step: Step<U>) -> Result<Gave<U>, (NoMemory, Step<U>)>
         requires { AnsweredTruly U.Key.eq U.meaning (commits_of (past_of self.old)) step.job }
-        ensures stale { IfOk result (λ g. IfSome (stale_of g) (λ s. (s ≡ step) × (IsJobOut U.Key.eq self.old step.job → ⊥) × (self.new ≡ self.old))) }
-        ensures taken { IfOk result (λ g. IfNone (stale_of g) (Turned U.Key.eq U.meaning step.job.name.version self.old.tables self.new.tables (λ ps qs. Gives U.Key.eq step.job.name.version step ps qs self.old.desk self.new.desk))) }
-        ensures does { IfOk result (λ g. IfNone (stale_of g) (Turned U.Key.eq U.meaning step.job.name.version self.old.tables self.new.tables (λ ps qs. IsTakenUp U.Key.eq U.meaning U.Value.eq step.job.name.version step self.old.cells ps qs self.old.entries self.new.entries self.old.desk self.new.desk step.outcome))) }
+        ensures stale { IfOk result (λ g. IfSome (stale_of g) (HandsBack U.Key.eq U.meaning U.Value.eq step self.old self.new)) }
+        ensures taken { IfOk result (λ g. IfNone (stale_of g) (GivesStep U.Key.eq U.meaning U.Value.eq step self.old self.new)) }
+        ensures does { IfOk result (λ g. IfNone (stale_of g) (DoesStep U.Key.eq U.meaning U.Value.eq step self.old self.new)) }
         ensures rest { (self.new.cells ≡ self.old.cells) × (self.new.sessions ≡ self.old.sessions) }
         ensures step { IfErr result (λ e. e.1 ≡ step) }
         ensures err { OnErr result (IsJobOut U.Key.eq self.old step.job × IsAsBefore U.Key.eq self.old self.new) }

@@ -4,7 +4,7 @@ use Rattle.dice_key.specs.Meaning.{Meaning}
 use Rattle.dice_jobs.specs.Jobs.{Name, Assigned, Stepped, IsStepOf}
 use Rattle.dice_tasks.specs.Endings.{GivesUpAll}
 use Rattle.dice_core.specs.Cores.{CoreSeen, Turned, IsAsBefore, IsJobOut, IsNameOut, TakesOut, GivesUpOnly}
-use Rattle.dice_core.specs.Givings.{Gives, IsTakenUp}
+use Rattle.dice_core.specs.Givings.{GivesStep, DoesStep}
 
 module _ {K V : Type 0} (eq : K → K → Bool) where
   -- a job that was ready goes out, and nothing else is another; or none was, and nothing changes
@@ -33,11 +33,8 @@ module _ {K V : Type 0} (eq : K → K → Bool) (m : Meaning K V) (veq : V → V
   -- the step's job was out and is out no more; and of its task, of those that wait for it and of
   -- the entries becomes what the step reports
   pub record IsStepTaken (s : Stepped K V) (c d : CoreSeen K V) : Type 0 where
-    pub gives : Turned eq m s.job.name.version c.tables d.tables
-        (λ ps qs. Gives eq s.job.name.version s ps qs c.desk d.desk)
-    pub does : Turned eq m s.job.name.version c.tables d.tables
-        (λ ps qs. IsTakenUp eq m veq s.job.name.version s c.cells ps qs c.entries d.entries
-        c.desk d.desk s.outcome)
+    pub gives : GivesStep eq m veq s c d
+    pub does : DoesStep eq m veq s c d
     pub rest : (d.cells ≡ c.cells) × (d.sessions ≡ c.sessions)
 
   -- the step's job was out; memory was refused for the step, which left all as before; and so the
