@@ -24,7 +24,7 @@ bad=0
 lot=1
 while [ "$lot" -le "$lots" ]; do
     sed "s/^const CALLS: u32 = .*/const CALLS: u32 = $calls;/; s/^const LOT: u64 = .*/const LOT: u64 = $lot;/" "$work/random.rt" >src/random.rt
-    if rt try --test >"$work/said" 2>&1; then
+    if rt try --test --seconds 900 >"$work/said" 2>&1; then
         echo "lot $lot: $calls calls, all answers right"
     else
         echo "lot $lot: $calls calls, a difference or no answer"
