@@ -69,7 +69,7 @@ module _ {K : Type 0} (eq : K → K → Bool) (k : K) (ds : List K) (s u : Asked
     | inr n ↦ (let same : i ≡ k = (let t : Tasked i ≡ Tasked k = n.1 in cc) in inr (c, n.0, l, subst (Leads u i) same stays))
   ]
 
-  -- where no key that is asked leads to k, no cycle is closed
+  -- if no key that is asked leads to k, no cycle is closed
   pub parks_no_cycle : HasNoCycle s → ((d : K) → Has ds d → Leads s d k → ⊥) → HasNoCycle u
   parks_no_cycle free apart a i e l = elim (parks.only i (Tasked a) e) as (λ _. ⊥) [
     | inl o ↦ elim (parked_split i a l) as (λ _. ⊥) [
