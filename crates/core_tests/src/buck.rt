@@ -281,8 +281,8 @@ fn lost_events(core: &Core<Buck>) -> usize {
     lost
 }
 
-/// Asks for the digest, and gives up the job behind so many that were done; how many tasks ended as
-/// lost.
+/// Asks for the digest, and gives up the job that follows so many that were done; how many tasks
+/// ended as lost.
 fn lost_behind(alloc: Global, bench: &mut Bench<Buck>, before: usize) -> Result<usize, NoMemory> {
     commit_file(alloc, bench)?;
     for call in [Call::Open, Call::Ask] {
