@@ -18,7 +18,7 @@ use dice_tasks::{Desk, Tasks, cascade};
 use journal::Event;
 use task_share::Asker;
 
-/// Takes out one ask of a transaction that is closed, and its promise; `false` where none is left. It takes no memory.
+/// Takes out one ask of a transaction that is closed, and its promise; `false` if none is left. It takes no memory.
 fn take_promise<U: Universe>(
     tasks: &mut Tasks<U>,
     sessions: &mut Sessions<U>,
