@@ -119,7 +119,7 @@ fn only_values_that_differ_make_a_version(rt: HostRuntime) -> Result<(), Fail> {
     Ok(())
 }
 
-/// What a run comes to that asks for a sum, on the cells that it stands on.
+/// What a run that asks for a sum comes to, on the cells that the sum stands on.
 fn course_of_sum<R: Wait>(rt: &R, alloc: Global) -> Result<Course<Tiny>, NoMemory> {
     let key = Arc::new(alloc, Place::Sum(1, 2))?;
     let updater = updater_of(alloc, &CELLS)?;
