@@ -39,7 +39,7 @@ pub enum Event<K: Drop, V: Drop> {
     Cyclic(u64, Arc<K>),
     /// At a version nobody waits for a key any more.
     Drop(u64, Arc<K>),
-    /// At a version a key was given up for want of memory.
+    /// At a version a key was given up since no memory was left.
     Lost(u64, Arc<K>),
 }
 
