@@ -42,7 +42,7 @@ pub fn calls_by_meaning()
 /// Worked texts: the empty file, one target with the default of `out`, one with sources and a
 /// location, prefixes with which no file begins, and texts that are no file: an unknown rule, a
 /// string without end, a comma before the first argument, a location without its parenthesis, and a
-/// list where a string is wanted.
+/// list in place of a string.
 pub fn worked_texts()
     ensures empty { IsFile [] [] }
     ensures one { IsFile w_text w_file }
