@@ -61,7 +61,7 @@ names_sources (action.WriteFile content out) = true
 names_sources (action.Genrule srcs out cmd) = true
 names_sources (action.StampFile out) = true
 
--- the fault that stands for an answer of another kind than was asked. None comes in the program.
+-- the fault that stands for an answer of a kind that was not asked for. None comes in the program.
 -- But a commit may set a source to a value of another kind, which is read as no file
 abbrev pub nothing : Fault
 nothing = NoPackage []
@@ -75,7 +75,7 @@ abbrev pub digest_in : Option Value → Result (List ℕ) Fault
 digest_in (Some (value.Digest r)) = r
 digest_in _ = Err nothing
 
--- the line of something asked: its path or label, if it is named, and a digest in hex
+-- the line of something that was asked: its path or label, if it is named, and a digest in hex
 abbrev pub digest_line : Bool → List ℕ → List ℕ → List ℕ
 digest_line true name hex = line (name ++ 32 ∷ hex)
 digest_line false name hex = line hex

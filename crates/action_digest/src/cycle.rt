@@ -15,7 +15,7 @@ use dice_key::{NoMemory, Path};
 use std::alloc::Global;
 use std::sync::Arc;
 
-/// The labels of a cycle of keys, in its order, beginning with the least by its printed bytes: each
+/// The labels of a cycle of keys, in its order, beginning with the least by its printed bytes. Each
 /// target asks for the next one's digest, and the last for the first one's. The path may begin with
 /// any key of the cycle. It takes time linear in the path.
 pub fn labels_of_cycle(alloc: Global, path: &Path<Key>) -> Result<Vec<Label>, NoMemory>

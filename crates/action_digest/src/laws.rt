@@ -33,8 +33,8 @@ pub fn cycles_are_of_labels()
     ensures { (C : List (List (Key × Value))) (v : ℕ) (ks : List Key) → IsCycle ⟦<Key as PartialEq>⟧.eq buck C v ks → (front : List Key) × (back : List Key) × (ls : List (List ℕ)) × (ks ≡ front ++ back) × (back ++ front ≡ keys_of ls) × AreDistinct ls }
 {}
 
-/// What a package is made of is what the grammar of target files says: the targets of the file that
-/// the bytes are, or the fault with the line that the grammar gives it.
+/// A package is what the grammar of target files says of its bytes: the targets of the file that
+/// they are, or the fault with the line that the grammar gives it.
 pub fn packages_by_grammar()
     ensures file { (p : List ℕ) (text : List ℕ) (f : List Located) → length text < 2 ^ 64 → IsFile text f → package_by p (Some text) ≡ Ok f }
     ensures bad { (p : List ℕ) (text : List ℕ) (line : ℕ) → length text < 2 ^ 64 → IsBad text line → package_by p (Some text) ≡ Err (BadFile (target_file_of p) line) }
