@@ -145,8 +145,8 @@ enum Act {
     Do(Call),
 }
 
-/// What is done and what it answers, then a key, which an ask is for, and what it has come to at
-/// the newest version, and the tasks that are ready and out.
+/// What is done and what it answers; then a key, which an ask is for, and what it has come to at
+/// the newest version; and the tasks that are ready and out.
 type Row = (Act, bool, Name, Seen, u64, u64);
 
 fn commit_file(alloc: Global, bench: &mut Bench<Buck>) -> Result<bool, NoMemory> {
