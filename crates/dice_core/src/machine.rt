@@ -312,7 +312,7 @@ impl<U: Universe> Core<U> {
         bring_back(&mut self.desk, &mut self.versions, job)
     }
 
-    /// Gives up the job of this name, for which there is no memory: its task and all that wait for it end as lost, one event each, and the tasks that
+    /// Gives up the job of this name, for which there is no memory. Its task and all that wait for it end as lost, one event each, and the tasks that
     /// nobody asks for any more are dropped; `false` exactly if no job of the name is out. It takes no memory.
     pub fn fail(&mut self, name: &JobName<U>) -> bool
         ensures out { IsTrue result ↔ IsNameOut U.Key.eq self.old name.now }
