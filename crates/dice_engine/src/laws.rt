@@ -35,7 +35,7 @@ pub fn conditions_stay<U: Universe>()
     ensures left { (i : ℕ) (xs ys : List (Told U.Key U.Value)) → NotLeft i xs → NotLeft i ys → NotLeft i (xs ++ ys) }
 {}
 
-/// In what a seat has seen after a turn, its own transactions that it has not closed are open, and its own asks that it has not left,
+/// In what a seat has seen after a turn, its own transactions that it has not closed are open; and its own asks that it has not left,
 /// in transactions that it has not closed, are live.
 pub fn own_asks_are_live<U: Universe>()
     ensures open { (s : SeatView (Told U.Key U.Value)) (t v : ℕ) → IsLawfulJournal U.Key.eq U.meaning s.seen → events_by event_by s.number s.seen ≡ s.mine → HasOpen s t v → open_at (reverse s.seen) t ≡ Some (record { by = s.number; version = v }) }
