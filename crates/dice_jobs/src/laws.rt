@@ -12,8 +12,8 @@ ghost use Rattle.lists.specs.Lists.{Has};
 
 use dice_key::{Universe, laws_of};
 
-/// A job whose answers are the values at its version stays so: at its beginning, over every log that goes on, when the keys that
-/// its step wants are answered with their values, and when a check that found a change goes on as a computation with the answers
+/// A job whose answers are the values at its version stays so: at its beginning; over every log that goes on; when the keys that
+/// its step wants are answered with their values; and when a check that found a change goes on as a computation with the answers
 /// that it has. Such a computation asks the batches that it was answered.
 pub fn jobs_stay_true<U: Universe>()
     ensures begun { (C : List (List (U.Key × U.Value))) (n : Name U.Key) → U.meaning.kind n.key ≢ Injected → n.version ≤ length C → IsTrueJob U.Key.eq U.meaning C (record { name = n; answered = []; work = Computes }) }
