@@ -277,7 +277,7 @@ const KNOWN: [Call; 14] = [
     FINISHED,
     Call::Commit(2, 3, 5),
     Call::Commit(3, 1, 6),
-    // The key again, when nothing that it asks has changed, and a key that asks it.
+    // The key again, when nothing that it asks has changed; and a key that asks it.
     Call::Finish(KEY, 2, TEN, Place::Cell(1), 5),
     Call::Finish(USER, 2, TWELVE, KEY, 10),
     Call::NoMatch(KEY, 0),
