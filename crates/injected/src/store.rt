@@ -20,8 +20,8 @@ use version_ranges::Ranges;
 
 /// The sets of each injected key, and so its value at each version.
 ///
-/// Contracts see the sets of each key by `sets_at`, for how many more there is room by `room_at`,
-/// and the greatest version that was set. `cell_at` is the value that the sets make of a version.
+/// Contracts see the sets of each key by `sets_at`, the room for more of them by `room_at`, and the
+/// greatest version that was set. `cell_at` is the value that the sets make of a version.
 pub struct Cells<U: Universe> {
     alloc: Global,
     universe: Arc<U>,
