@@ -32,9 +32,9 @@ AreLetters bytes = AllByRecursion (λ b. is_letter b ≡ true) bytes
 abbrev pub IsOneLine : List ℕ → Type 0
 IsOneLine bytes = AllByRecursion (λ b. b ≢ 10) bytes
 
--- The bytes, of which the first stands on this line, are spelled by these tokens: a blank, a
--- comment up to its line feed or the end, a mark, a string in quotes, or a word as long as it can
--- be, and then the rest.
+-- The bytes, of which the first stands on this line, are spelled by these tokens. First comes a
+-- blank, a comment up to its line feed or the end, a mark, a string in quotes, or a word as long as
+-- it can be, and then the rest.
 pub data IsTokens : List ℕ → ℕ → List Token → Type 0 where
   no_token : {line : ℕ} → IsTokens [] line []
   blank : (b : ℕ) {rest : List ℕ} {line : ℕ} {ts : List Token} → is_blank b ≡ true
