@@ -412,8 +412,8 @@ impl<K: Eq + Hash + Drop, T: Drop> Waits for Table<K, T> {
     }
 }
 
-/// What every table keeps: keys that are equal are the same, a task waits for just the keys that it asks for, a key whose task has
-/// not ended has one, no key stands twice, and each key that is waited for has its number. It does no work, and hands these facts to its caller.
+/// What every table keeps: keys that are equal are the same; a task waits for just the keys that it asks for; a key whose task has
+/// not ended has one; no key stands twice; and each key that is waited for has its number. It does no work, and hands these facts to its caller.
 pub fn table_in_order<K: Eq + Hash + Drop, T: Drop>(table: &Table<K, T>)
     ensures equality { IsEquality K.eq }
     ensures waits { IsMirrored K.eq table.now }
