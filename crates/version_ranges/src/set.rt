@@ -170,9 +170,9 @@ impl Ranges {
         Ok(Ranges { ranges })
     }
 
-    /// Of these versions, in place of them, those up to which the other set has all from the given
-    /// one on, or from there back. The cost is logarithmic in the number of the other's ranges;
-    /// if this set is one range it takes no memory.
+    /// In place of these versions, those of them up to which the other set has all from the given
+    /// one on, or from there back. The cost is logarithmic in the number of the other's ranges; if
+    /// this set is one range it takes no memory.
     pub fn narrowed_round(self, other: &Ranges, version: u64) -> Result<Ranges, NoMemory>
         ensures { IfOk result (λ r. (w : ℕ)
             → contains r w ≡ (contains self w && all_between (contains other.now) version w)) }
@@ -183,7 +183,7 @@ impl Ranges {
         }
     }
 
-    /// Of these versions, in place of them, those in a range.
+    /// In place of these versions, those of them in a range.
     fn within(self, range: Range) -> Result<Ranges, NoMemory>
         requires { is_before range.from range.to ≡ true }
         ensures { IfOk result (λ r. (w : ℕ) → contains r w ≡ (contains self w && is_in range w)) }
