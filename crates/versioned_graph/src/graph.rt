@@ -171,7 +171,7 @@ impl<U: Universe> Graph<U> {
         Ok(())
     }
 
-    /// A commit changes the inputs of these keys, from the version on: the tails of all that it
+    /// A commit changes the inputs of these keys, from the version on. The tails of all that it
     /// reaches by recorded edges are cut there, and all edges to what it reaches are taken away. At
     /// an error all is as before.
     ///
