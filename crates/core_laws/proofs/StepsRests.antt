@@ -52,7 +52,7 @@ module _ {K V : Type 0} where
       of_standing (Works w p A) f = let h : true ≡ false = f in cc
       of_standing (Ended o) f = refl
 
-  -- a version put in where it is
+  -- a version put in at its own place
   pub same_world : (v : ℕ) (w : World K V) → with_version v (w.asked v) (w.tasks v) w ≡ w
   same_world v w = λ i. record { asked = λ n. same_asked n i; tasks = λ n. same_tasks n i }
     where
