@@ -1,4 +1,4 @@
--- Traces and recordings, without where they lie in memory.
+-- Traces and recordings, without their places in memory.
 use Rattle.std.specs.Prelude.{◌≡◌, Bool, true, false, ◌&&◌, ◌<◌, ◌-◌, ℕ, List, [], ◌∷◌, ◌++◌, map, take, drop, length, Option, Some, None}
 use Rattle.std.proofs.Common.{zero, suc}
 use Rattle.std.specs.Arc.{arc_value}
