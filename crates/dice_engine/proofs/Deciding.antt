@@ -120,7 +120,7 @@ module _ {E : Type 0} where
       by_rest (inr (inr q)) = inr (inr (inr q))
 
 module _ {K V : Type 0} (eq : K → K → Bool) (m : Meaning K V) where
-  -- a transaction was open where its Close stands, and had no Close before it
+  -- a transaction was open when its Close came, and had no Close before it
   unclosed_before : (J before after : List (Told K V)) (n p t : ℕ) → IsLawfulJournal eq m J → J ≡ before ++ (Close n t ∷ after) → Has before (Close p t) → ⊥
   unclosed_before J before after n p t l e h =
       let whole : before ++ (Close n t ∷ after) ≡ (before ++ Close n t ∷ []) ++ after = sym (append_assoc before (Close n t ∷ []) after) in
