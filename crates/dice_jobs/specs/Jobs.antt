@@ -1,4 +1,4 @@
--- What a job is for, and what a step reports, without where it lies in memory.
+-- What a job is for, and what a step reports, without their places in memory.
 use Rattle.std.specs.Prelude.{◌≡◌, ◌<◌, ℕ, Bool, List, [], ◌∷◌, ◌++◌, length, Option, Some, None}
 use Rattle.dice_key.specs.Meaning.{Meaning, Answered, Running, Step, Asks, Ends}
 use Rattle.dep_recorder.specs.Checks.{Finding, Wants, IsSame, HasChanged, finding, values_of, IsNextBatch, IsFirstChange}
