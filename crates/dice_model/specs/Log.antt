@@ -17,7 +17,7 @@ Log K V = List (List (K × V))
 abbrev pub version_of : {K V : Type 0} → Log K V → ℕ → Log K V
 version_of C v = take v C
 
--- a pair, without where it lies in memory
+-- a pair, without its place in memory
 abbrev pub pair_of : {K V A B : Type 0} → Arc K A × Arc V B → K × V
 pair_of p = (arc_value p.0, arc_value p.1)
 
