@@ -17,7 +17,7 @@ pub record Seen (K V : Type 0) : Type 0 where
   pub cells : List (K × Cell V)
   pub last : ℕ
 
--- a key and its cell, without where the key lies in memory
+-- a key and its cell, without the key's place in memory
 abbrev pub named : {K V A : Type 0} → Arc K A × Cell V → K × Cell V
 named e = (arc_value e.0, e.1)
 
