@@ -8,8 +8,8 @@ use Rattle.versioned_graph.specs.declared.found.Found.TheVariants.{Match, Comput
 use Rattle.versioned_graph.specs.declared.found.Why.{Why}
 use Rattle.versioned_graph.specs.declared.found.Why.TheVariants.{New, Transient}
 
--- an answer, without where it lies in memory: a value that matches; that the key has to be
--- computed, and why; a value whose dependencies have to be checked
+-- an answer, without its place in memory: a value that matches; that the key has to be computed,
+-- and why; a value whose dependencies have to be checked
 pub data Look (K V : Type 0) : Type 0 where
   Matches : V → ℕ → Look K V
   Computes : Why → Look K V
