@@ -100,7 +100,7 @@ module _ {K V : Type 0} (eq : K → K → Bool) (equality : IsEquality eq) (m : 
         let a = live_keys (with_version v s ts w) d.live st.live v in
         (a.0, (λ q e. a.1 q (ap (λ (f : K → Option (Task K V)). is_going (f q)) same ∙ (sym (here.live q) ∙ e))))
 
-    -- likewise in the midst of a call, if each of them has an asker
+    -- likewise in the middle of a call, if each of them has an asker
     pub wanted_stand : IsDone s → (k : K) → s.live k ≡ true → IsWanted eq m R v k
     wanted_stand done k l = held_wanted eq m R v W s ts here k (climbs eq equality s done here.no_cycle (askers_live eq m R v W s ts here) live_stand.0 live_stand.1 k l)
 
