@@ -1,4 +1,4 @@
--- Those that still ask are answered as before, if tasks go that nobody asks for; if a job is lost, but for those that waited for it.
+-- Those that still ask are answered as before if tasks go that nobody asks for; so they are if a job is lost, except those that waited for it.
 use Rattle.std.proofs.Common.{◌≡◌, ◌≢◌, ◌<◌, ◌+◌, ◌-◌, ◌&&◌, ◌||◌, ◌++◌, ◌⊎◌, inl, inr, ℕ, zero, suc, Bool, true, false, cond, nat_eq, eqb, eq-eqb, List, [], ◌∷◌, length, map, reverse, Option, Some, None, refl, sym, ap, ◌∙◌, subst, append_assoc, arith}
 use Rattle.std.specs.List.{list_any}
 use Rattle.std.proofs.lemmas.Bool.{eqb-true}
