@@ -78,7 +78,7 @@ impl<U: Universe> Engine<U> {
         self.stile.leave(turn);
     }
 
-    /// Waits until a promise has come to something, and does jobs meanwhile. It owes no return: jobs that others have taken have to
+    /// Waits until a promise has come to something, and does jobs meanwhile. It need not return: jobs that others have taken have to
     /// be given.
     pub fn wait<R: Wait, G: Gate>(
         &self,
