@@ -35,7 +35,7 @@ full_is home text n (inr l) = ap (full_label home) l.text_is ∙ ap (λ (h : Lis
 pub named_full : (home text l : List ℕ) → ((n : Name) × IsLabelIn home text n × (l ≡ printed n)) → l ≡ full_label home text
 named_full home text l h = h.2 ∙ sym (full_is home text h.0 h.1)
 
--- the package of a label in full: its own where the label is local, else the same in each package
+-- the package of a label in full: its own if the label is local, otherwise the same in each package
 home_is : (home t : List ℕ) → NoColon home → package_of (printed (record { home = home; target = t })) ≡ home
 home_is home t h = ap (λ (k : ℕ). take k (home ++ 58 ∷ t)) (before_at home t h) ∙ take-append_seam home (58 ∷ t)
 

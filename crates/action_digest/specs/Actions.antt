@@ -36,7 +36,8 @@ wanted_by (action.StampFile out) = []
 abbrev pub asked_by : List ℕ → Action → List Key
 asked_by home a = map (key_in home) (wanted_by a)
 
--- the lines before those of what was asked: the rule, its out, and the digest of a content or a command; of a stamp the version
+-- the lines before those of what was asked: the rule, its out, and the digest of a content or a
+-- command; of a stamp the version
 abbrev pub head_of : ℕ → Action → List ℕ
 head_of v (action.ExportFile src out) = line (codes "export_file") ++ line out
 head_of v (action.Filegroup srcs) = line (codes "filegroup")
@@ -52,7 +53,7 @@ is_stamp (action.WriteFile content out) = false
 is_stamp (action.Genrule srcs out cmd) = false
 is_stamp (action.StampFile out) = true
 
--- whether the line of a source begins with its path or label: not where a file is exported as it is
+-- whether the line of a source begins with its path or label: not if a file is exported as it is
 abbrev pub names_sources : Action → Bool
 names_sources (action.ExportFile src out) = false
 names_sources (action.Filegroup srcs) = true
@@ -60,8 +61,8 @@ names_sources (action.WriteFile content out) = true
 names_sources (action.Genrule srcs out cmd) = true
 names_sources (action.StampFile out) = true
 
--- the fault that stands for an answer of another kind than was asked. None comes in the program; but a commit may set a source to a
--- value of another kind, and that is read as no file
+-- the fault that stands for an answer of a kind that was not asked for. None comes in the program.
+-- But a commit may set a source to a value of another kind, which is read as no file
 abbrev pub nothing : Fault
 nothing = NoPackage []
 
@@ -74,7 +75,7 @@ abbrev pub digest_in : Option Value → Result (List ℕ) Fault
 digest_in (Some (value.Digest r)) = r
 digest_in _ = Err nothing
 
--- the line of something asked: its path or label, where it is named, and a digest in hex
+-- the line of something that was asked: its path or label, if it is named, and a digest in hex
 abbrev pub digest_line : Bool → List ℕ → List ℕ → List ℕ
 digest_line true name hex = line (name ++ 32 ∷ hex)
 digest_line false name hex = line hex
@@ -112,11 +113,12 @@ abbrev pub text_with : ℕ → Action → Result (List ℕ) Fault → Result Act
 text_with v a (Ok lines) = Ok (record { text = head_of v a ++ lines; holds_version = is_stamp a })
 text_with v a (Err e) = Err e
 
--- the text of an action at version v, where it asked these keys and they were answered so, or the first fault
+-- the text of an action at version v, if it asked these keys and got these answers, or the first
+-- fault
 abbrev pub action_of : ℕ → Action → List Key → List Value → Result ActionText Fault
 action_of v a ks xs = text_with v a (lines_by (names_sources a) ks xs)
 
--- the lines behind a text, or the fault
+-- the lines after a text, or the fault
 abbrev pub behind : List ℕ → Result (List ℕ) Fault → Result (List ℕ) Fault
 behind text (Ok lines) = Ok (text ++ lines)
 behind text (Err e) = Err e

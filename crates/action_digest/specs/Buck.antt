@@ -24,8 +24,8 @@ kind_of (key.Rule l) = kind.Projection
 kind_of (key.Action l) = kind.Computed
 kind_of (key.Digest l) = kind.Projection
 
--- the one key that a key asks first: of a package its target file, of a rule its package, of an action its rule, of a digest its
--- action
+-- the one key that a key asks first: of a package its target file, of a rule its package, of an
+-- action its rule, of a digest its action
 abbrev pub base_of : Key → Key
 base_of (key.Source p) = key.Source p
 base_of (key.Package p) = key.Source (target_file_of p)
@@ -46,8 +46,8 @@ abbrev pub action_in : Option Value → Result ActionText Fault
 action_in (Some (value.Action r)) = r
 action_in _ = Err nothing
 
--- the targets of a package, by the bytes of its target file: the file that they are, else the fault, and where there is no file
--- there is no package
+-- the targets of a package, by the bytes of its target file: the file that they are, otherwise the
+-- fault; if there is no file there is no package
 abbrev pub file_by : List ℕ → Contents → Result (List Located) Fault
 file_by p (Holds f) = Ok f
 file_by p (Fails l) = Err (BadFile (target_file_of p) l)
@@ -84,7 +84,8 @@ abbrev pub first_of : List Value → Option Value
 first_of [] = None
 first_of (x ∷ xs) = Some x
 
--- an action at version v, where it is known which keys it asks: it asks them in one batch, unless there are none
+-- an action at version v, when it is known which keys it asks: it asks them in one batch, unless
+-- there are none
 abbrev pub with_asked : ℕ → Action → List Key → List (Answered Key Value) → Step Key Value
 with_asked v a [] A = Ends (value.Action (action_of v a [] []))
 with_asked v a (k ∷ ks) [] = Asks (k ∷ ks)
@@ -95,8 +96,8 @@ abbrev pub with_rule : ℕ → List ℕ → Result Target Fault → List (Answer
 with_rule v l (Ok t) A = with_asked v t.action (asked_by (package_of l) t.action) A
 with_rule v l (Err e) A = Ends (value.Action (Err e))
 
--- the next move: a source is never run; each other key asks its base, and is done with what the answer makes of it; but an action
--- then asks what its target wants, and is done with the text
+-- the next move: a source is never run; each other key asks its base, and is done with what the
+-- answer makes of it; but an action then asks what its target wants, and is done with the text
 abbrev pub buck_next : Key → List (Answered Key Value) → ℕ → Step Key Value
 buck_next (key.Source p) A v = Ends (value.Source None)
 buck_next (key.Package p) [] v = Asks (key.Source (target_file_of p) ∷ [])
@@ -116,7 +117,8 @@ projected (key.Rule l) x = rule_value l (Some x)
 projected (key.Action l) x = value.Source None
 projected (key.Digest l) x = digest_value (Some x)
 
--- the value of a source that was never set: no file; of the other kinds, which are never set, the fault that there is nothing
+-- the value of a source that was never set: no file; of the other kinds, which are never set, the
+-- fault that there is nothing
 abbrev pub absent_of : Key → Value
 absent_of (key.Source p) = value.Source None
 absent_of (key.Package p) = value.Package (Err nothing)

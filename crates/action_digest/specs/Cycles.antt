@@ -11,7 +11,8 @@ use Rattle.action_digest.specs.Buck.{buck}
 use Rattle.action_digest.specs.Same.{key_equal}
 use Rattle.lists.specs.Lists.{AreDistinct}
 
--- the keys of these targets, in a cycle: each one's digest asks its action, and this the next one's digest
+-- the keys of these targets, in a cycle: each one's digest asks its action, and this the next one's
+-- digest
 abbrev pub keys_of : List (List ℕ) → List Key
 keys_of [] = []
 keys_of (l ∷ ls) = key.Digest l ∷ key.Action l ∷ keys_of ls
@@ -34,7 +35,8 @@ BeginsWithLeast [] = ⊥
 BeginsWithLeast (l ∷ ls) = AllByRecursion (IsAtMost l) ls
 
 module _ (C : List (List (Key × Value))) (v : ℕ) where
-  -- each target asks for the next one's digest, and the last for the first one's; the first label is the least
+  -- each target asks for the next one's digest, and the last for the first one's; the first label
+  -- is the least
   pub record IsLabelCycle (ls : List (List ℕ)) : Type 0 where
     pub cycle : IsCycle key_equal buck C v (keys_of ls)
     pub distinct : AreDistinct ls

@@ -26,7 +26,8 @@ pub(crate) fn digest_of(bytes: &[u8]) -> [u8; 32]
     Sha256::digest(bytes)
 }
 
-/// The text of an action at this version, where it asked these keys and they were answered so; or the first fault.
+/// The text of an action at this version, if it asked these keys and got these answers; or the
+/// first fault.
 pub(crate) fn action_of(
     alloc: Global,
     version: Version,

@@ -21,8 +21,9 @@ use std::alloc::Global;
 use std::sync::Arc;
 use target_file::FileFault;
 
-/// The universe of Buck targets. Sources are set from outside; a package is read from its target file, a rule is found in its
-/// package, an action's text is made of its rule, and a digest is the SHA-256 of the text.
+/// The universe of Buck targets. Sources are set from outside. A package is read from its target
+/// file, and a rule is found in its package. An action's text is made of its rule, and a digest is
+/// the SHA-256 of the text.
 pub struct Buck {
     alloc: Global,
     no_source: Arc<Value>,

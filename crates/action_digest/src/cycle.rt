@@ -15,8 +15,9 @@ use dice_key::{NoMemory, Path};
 use std::alloc::Global;
 use std::sync::Arc;
 
-/// The labels of a cycle of keys, in its order, beginning with the least by its printed bytes: each target asks for the next one's
-/// digest, and the last for the first one's. The path may begin with any key of the cycle. It takes time linear in the path.
+/// The labels of a cycle of keys, in its order, beginning with the least by its printed bytes. Each
+/// target asks for the next one's digest, and the last for the first one's. The path may begin with
+/// any key of the cycle. It takes time linear in the path.
 pub fn labels_of_cycle(alloc: Global, path: &Path<Key>) -> Result<Vec<Label>, NoMemory>
     ensures cycle { IfOk result (λ r. (C : List (List (Key × Value))) (v : ℕ) → IsCycle ⟦<Key as PartialEq>⟧.eq buck C v path.now → IsLabelCycle C v r.items) }
     ensures reached { IfOk result (λ r. (C : List (List (Key × Value))) (v : ℕ) (k : Key) → IsCycle ⟦<Key as PartialEq>⟧.eq buck C v path.now → ReachesFirst C v k path.now → ReachesFirst C v k (keys_of r.items)) }
@@ -40,7 +41,7 @@ fn digest_labels(alloc: Global, keys: &[Arc<Key>]) -> Result<Vec<Label>, NoMemor
     Ok(labels)
 }
 
-/// The place of the first label that is least; 0 where there is none.
+/// The place of the first label that is least; 0 if there is none.
 fn least_at(labels: &[Label]) -> usize
     ensures within { result ≤ length labels.now }
     ensures below { 0 < length labels.now → result < length labels.now }

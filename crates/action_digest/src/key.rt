@@ -22,8 +22,9 @@ pub enum Key {
 }
 
 impl Key {
-    /// The one key that this one is computed from: of a package its target file, of a rule its package, of an action its rule, of
-    /// a digest its action; a source is computed from nothing, and this is the source itself.
+    /// The one key that this one is computed from: of a package its target file, of a rule its
+    /// package, of an action its rule, of a digest its action; a source is computed from nothing,
+    /// and this is the source itself.
     pub(crate) fn base(&self, alloc: Global) -> Result<Key, NoMemory>
         ensures { IfOk result (λ k. k ≡ base_of self.now) }
     {

@@ -9,9 +9,11 @@ use buck_label::Text;
 use std::marker::Model;
 use target_file::File;
 
-/// The targets of a package, beside the text of the target file that they were read from. Contracts see the targets alone.
+/// The targets of a package, beside the text of the target file that they were read from. Contracts
+/// see the targets alone.
 ///
-/// Whether two are equal costs a comparison of the texts where these are the same, and one of the targets where they are not.
+/// To compare two costs a comparison of the texts if these are the same, and one of the targets if
+/// they are not.
 #[derive(Drop)]
 pub struct PackageFile {
     source: Text,

@@ -8,8 +8,8 @@ use crate::value::Value;
 use dice_key::{Answers, Version};
 use std::sync::Arc;
 
-/// A run of a key: the answers to its first and to its second batch, and the keys of the second batch, which are known once
-/// the first is answered.
+/// A run of a key: the answers to its first and to its second batch, and the keys of the second
+/// batch, which are known once the first is answered.
 #[derive(Drop)]
 pub struct Run {
     pub(crate) key: Arc<Key>,

@@ -30,7 +30,8 @@ pub enum Value {
     Digest(Result<[u8; 32], Fault>),
 }
 
-/// Only the value of a source is ever set, and so only such values are hashed apart: by the hash that their text keeps.
+/// Only the value of a source is ever set, and so only such values are hashed apart: by the hash
+/// that their text keeps.
 impl Hash for Value {
     ghost use Rattle.std.proofs.Common.{ap};
     ghost use Rattle.action_digest.specs.Same.{values_equal};

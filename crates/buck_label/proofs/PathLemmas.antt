@@ -75,7 +75,7 @@ three b p = record {
   no_dots = λ e. cc;
 }
 
--- the state behind one more byte of a segment
+-- the state after one more byte of a segment
 stands_more : (s : Segment) (u : List ℕ) (b : ℕ) → Stands s u → IsSegmentByte b → Stands (dotted s b) (u ++ b ∷ [])
 stands_more Empty u b e p = subst (λ (u : List ℕ). Stands (dotted Empty b) (u ++ b ∷ [])) (sym e) (dot_or_good b p)
 stands_more Dot u b e p = subst (λ (u : List ℕ). Stands (dotted Dot b) (u ++ b ∷ [])) (sym e) (dots_or_good b p)
@@ -87,7 +87,7 @@ pub bad_stays : (bs : List ℕ) → path_from Bad bs ≡ Good → ⊥
 bad_stays [] e = cc
 bad_stays (b ∷ bs) e = bad_stays bs e
 
--- what the machine reads from here on, behind what it has read of a segment
+-- what the machine reads from here on, after what it has read of a segment
 pub record Found (u bs : List ℕ) : Type 0 where
   pub first : List ℕ
   pub others : List (List ℕ)

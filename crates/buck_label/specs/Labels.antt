@@ -16,7 +16,7 @@ pub record IsName (n : Name) : Type 0 where
   pub home : IsPackage n.home
   pub target : IsPath n.target
 
--- what stands behind the last slash of a path, or all of it
+-- what stands after the last slash of a path, or all of it
 pub record IsLastOf (path last : List ℕ) : Type 0 where
   pub no_slash : AllByRecursion (λ b. b ≢ 47) last
   pub ends : (path ≡ last) ⊎ ((front : List ℕ) × (path ≡ front ++ 47 ∷ last))
@@ -75,7 +75,7 @@ package_of text = take (before_colon (drop 2 text)) (drop 2 text)
 abbrev pub target_of : List ℕ → List ℕ
 target_of text = drop (before_colon (drop 2 text) + 1) (drop 2 text)
 
--- the bytes behind the last slash of bs, or whole where it has none
+-- the bytes after the last slash of bs, or whole if it has none
 abbrev pub last_from : List ℕ → List ℕ → List ℕ
 last_from whole [] = whole
 last_from whole (b ∷ bs) = if nat_eq b 47 then last_from bs bs else last_from whole bs

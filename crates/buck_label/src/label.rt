@@ -43,7 +43,7 @@ impl Model for Label {
         × (l.colon ≡ length n.home + 2) };
 }
 
-/// Where the first colon stands; where there is none, the length.
+/// Where the first colon stands; if there is none, the length.
 fn colon(bytes: &[u8]) -> usize
     ensures at { result ≡ before_colon bytes.now }
     ensures fits { result ≤ length bytes.now }
@@ -56,7 +56,7 @@ fn colon(bytes: &[u8]) -> usize
     bytes.len()
 }
 
-/// What stands before and behind the first colon.
+/// What stands before and after the first colon.
 fn split(bytes: &[u8]) -> Option<(&[u8], &[u8])>
     ensures some { IfSome result (λ r. (bytes.now ≡ r.0.now ++ 58 ∷ r.1.now) × NoColon r.0.now) }
     ensures none { IfNone result (NoColon bytes.now) }
@@ -68,7 +68,7 @@ fn split(bytes: &[u8]) -> Option<(&[u8], &[u8])>
     Some((&bytes[..at], &bytes[at + 1..]))
 }
 
-/// What stands behind the last slash, or all of it.
+/// What stands after the last slash, or all of it.
 fn last(bytes: &[u8]) -> &[u8]
     ensures { result.now ≡ last_from bytes.now bytes.now }
 {
@@ -117,7 +117,7 @@ fn short(alloc: Global, home: &[u8]) -> Result<Label, Refused>
     Ok(label_of(alloc, home, last(home))?)
 }
 
-/// What stands behind two slashes.
+/// What stands after two slashes.
 fn absolute(alloc: Global, rest: &[u8]) -> Result<Label, Refused>
     ensures { IsRead (IsLabel (47 ∷ 47 ∷ rest.now)) result }
 {
@@ -127,7 +127,8 @@ fn absolute(alloc: Global, rest: &[u8]) -> Result<Label, Refused>
     }
 }
 
-/// The label of a text behind whose two slashes these bytes stand. One in full shares the text.
+/// The label of a text in which these bytes follow the two slashes. A label in full shares the
+/// text.
 fn shared(alloc: Global, text: &Text, rest: &[u8]) -> Result<Label, AllocError>
     requires text { text.now ≡ 47 ∷ 47 ∷ rest.now }
     requires label { (n : Name) × IsLabel text.now n }
@@ -165,8 +166,8 @@ fn local_of(alloc: Global, home: &[u8], target: &[u8]) -> Result<Label, AllocErr
 }
 
 impl Label {
-    /// Reads an absolute label, `//PACKAGE:NAME` or `//PACKAGE`: `Bad` exactly where the bytes
-    /// are none.
+    /// Reads an absolute label, `//PACKAGE:NAME` or `//PACKAGE`: `Bad` exactly if the bytes are no
+    /// such label.
     pub fn read(alloc: Global, bytes: &[u8]) -> Result<Label, Refused>
         ensures { IsRead (IsLabel bytes.now) result }
     {

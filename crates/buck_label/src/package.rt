@@ -55,7 +55,7 @@ pub(crate) fn join(alloc: Global, home: &[u8], path: &Path) -> Result<Path, Allo
 }
 
 impl Package {
-    /// Reads a package, nothing for the root: `Bad` exactly where the bytes are none.
+    /// Reads a package; the root has no bytes. `Bad` exactly if the bytes are no package.
     pub fn read(alloc: Global, bytes: &[u8]) -> Result<Package, Refused>
         ensures found { IfOk result (λ p. (p ≡ bytes.now) × IsPackage bytes.now) }
         ensures bad { IsErrOf result Refused.Bad → IsPackage bytes.now → ⊥ }

@@ -139,7 +139,7 @@ impl Model for Path {
 }
 
 impl Path {
-    /// Reads a path as written: `Bad` exactly where the bytes are none.
+    /// Reads a path as written: `Bad` exactly if the bytes are no path.
     pub fn read(alloc: Global, bytes: &[u8]) -> Result<Path, Refused>
         ensures found { IfOk result (λ p. (p ≡ bytes.now) × IsPath bytes.now) }
         ensures bad { IsErrOf result Refused.Bad → IsPath bytes.now → ⊥ }

@@ -91,7 +91,7 @@ fn no_file(alloc: Global) -> Result<Answers<Value>, NoMemory>
     Ok(answers)
 }
 
-/// Whether the package `a` asks its target file, and is none where that has no bytes.
+/// Whether the package `a` asks its target file, and is none if the file has no bytes.
 fn asks_its_file(alloc: Global) -> Result<bool, NoMemory> {
     let universe = Buck::new(alloc)?;
     let answers = no_file(alloc)?;
@@ -140,7 +140,7 @@ fn a_rule_stands_on_its_package(rt: HostRuntime) -> Result<(), Fail> {
     Ok(())
 }
 
-/// Whether the rule has the fault of a package that there is not, which is not transient.
+/// Whether the rule has the fault that there is no package, which is not transient.
 fn has_fault_of_package(alloc: Global) -> Result<bool, NoMemory> {
     let universe = Buck::new(alloc)?;
     let rule = rule_key(alloc)?;
@@ -220,7 +220,7 @@ fn digest_key(alloc: Global, name: &[u8]) -> Result<Key, NoMemory> {
     Ok(DigestKey { label }.wrap())
 }
 
-/// The text of an action or its fault in words; nothing where it has no value.
+/// The text of an action or its fault in words; nothing if it has no value.
 fn action_text(alloc: Global, files: Files<'_>, name: &[u8]) -> Result<Vec<u8>, NoMemory> {
     let key = action_key(alloc, name)?;
     match value_of(alloc, files, key)? {

@@ -15,7 +15,7 @@ use Rattle.bulk_script.proofs.Words.{AreSolid, in_line, words_of_line, line_of_s
 use Rattle.bulk_script.proofs.Decimals.{decimal_is, decimal_solid, name_solid}
 use Rattle.bulk_script.proofs.PathTexts.{path_solid, label_solid, home_is_path, target_is_path, label_is}
 
--- behind these lines the text of more lines is read as them
+-- after these lines the text of more lines is read as them
 abbrev pub IsRead : Past → List Line → Type 0
 IsRead p ls = IsFrom p (text_of ls) ls
 

@@ -86,7 +86,7 @@ no_source j g e = heads_apart 115 112 _ _ refl e
 abbrev begun_puts : Past
 begun_puts = after nothing (Put (codes "src/BUCK") rules_of_sources)
 
--- what stands behind the puts of the sources, and of the packages
+-- what stands after the puts of the sources, and of the packages
 abbrev behind_sources : Past
 behind_sources = after_all begun_puts (map (put_at source_path decimal) (numbers_below 16))
 

@@ -1,5 +1,5 @@
--- The bulk script of n targets: a package of sources, packages of a hundred targets each, and requests for every tenth target in two
--- transactions, between which one source changes.
+-- The bulk script of n targets: a package of sources, packages of a hundred targets each, and
+-- requests for every tenth target in two transactions. Between these one source changes.
 use Rattle.std.specs.Prelude.{ℕ, ◌+◌, ◌-◌, ◌*◌, ◌/◌, ◌%◌, ◌==◌, if◌then◌else◌, List, ◌∷◌, ◌++◌, codes, decimal, length, map, filter, flat_map}
 use Rattle.std.specs.List.{range_with_len}
 use Rattle.buck_label.specs.Labels.{Name, printed}

@@ -9,7 +9,7 @@ spaced [] = 10 ∷ []
 spaced (w ∷ []) = w ++ 10 ∷ []
 spaced (w ∷ v ∷ ws) = w ++ 32 ∷ spaced (v ∷ ws)
 
--- a line as it is written; behind a put stand its bytes and an LF
+-- a line as it is written; after a put stand its bytes and an LF
 abbrev pub spelled : Line → List ℕ
 spelled (Put path bytes) = spaced (codes "put" ∷ path ∷ decimal (length bytes) ∷ []) ++ bytes ++ 10 ∷ []
 spelled (Drop path) = spaced (codes "drop" ∷ path ∷ [])

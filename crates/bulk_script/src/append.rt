@@ -35,7 +35,7 @@ pub(crate) fn label(out: &mut Vec<u8>, target: u64) -> Result<(), NoMemory>
     number(out, target)
 }
 
-/// Appends a `put` line with the bytes behind it.
+/// Appends a `put` line with the bytes after it.
 pub(crate) fn put(out: &mut Vec<u8>, path: &[u8], file: &[u8]) -> Result<(), NoMemory>
     ensures { OnOk result (out.new.items ≡ out.old.items ++ spelled (Put path.now file.now)) }
 {

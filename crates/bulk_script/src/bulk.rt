@@ -72,8 +72,8 @@ fn ask_round(script: &mut Vec<u8>, transaction: &[u8], targets: u32) -> Result<(
     Ok(())
 }
 
-/// The script of so many targets: it puts sixteen sources and the targets in packages of a hundred,
-/// asks for every tenth target, changes the first source, and asks for them again.
+/// The script of so many targets. It puts sixteen sources, and the targets in packages of a
+/// hundred. It asks for every tenth target, changes the first source, and asks for them again.
 ///
 /// The time is that of writing it: about ninety bytes a target.
 pub fn bulk_script(alloc: Global, targets: u32) -> Result<Vec<u8>, NoMemory>

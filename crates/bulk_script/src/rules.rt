@@ -56,7 +56,7 @@ fn target_line(out: &mut Vec<u8>, target: u64) -> Result<(), NoMemory>
     }
 }
 
-/// The target file of a package, where there are so many targets in all.
+/// The target file of a package, if there are so many targets in all.
 pub(crate) fn package_rules(alloc: Global, targets: u32, index: u32) -> Result<Vec<u8>, NoMemory>
     ensures { IfOk result (λ text. text.items ≡ flat_map target_line (targets_in targets index)) }
 {

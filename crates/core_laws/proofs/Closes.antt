@@ -55,7 +55,7 @@ module _ {K V : Type 0} (eq : K → K → Bool) (m : Meaning K V) (R : List (Tol
     counted z = let y = ap one_if closed_there in omega arith
 
 module _ {K V : Type 0} (eq : K → K → Bool) (equality : IsEquality eq) (m : Meaning K V) (law : IsLawful m) (R : List (Told K V)) (v : ℕ) where
-  -- a Close of any transaction, where its promises are gone
+  -- a Close of any transaction, if its promises are gone
   pub closed : (W : List K) (s u : Asked K) (ts : K → Option (Task K V)) (by t : ℕ) → VersionStands eq m R v W s ts → ((q : K) (a : By K) → u.asks q a ≡ (s.asks q a && not (is_promise_in R t a))) → SameLives eq s u → VersionStands eq m (Close by t ∷ R) v W u ts
   closed W s u ts by t h leave lives = version_on eq m R (Close by t ∷ R) v (carries eq R by t v) W s u ts h lives
       (λ d j. leave d (Tasked j) ∙ and-true (s.asks d (Tasked j)))

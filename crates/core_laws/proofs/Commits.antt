@@ -14,7 +14,7 @@ module _ {K V : Type 0} (eq : K → K → Bool) (R : List (Told K V)) (v by : �
   carries = record { later = c ∷ []; commits = refl; longer = omega arith; counts = λ h. h; decides = λ k. refl; asks = λ k h. h; runs = λ k. refl; loses = λ k h. h; bases = λ b k h. h }
 
 module _ {K V : Type 0} (eq : K → K → Bool) (equality : IsEquality eq) (m : Meaning K V) (law : IsLawful m) (R : List (Told K V)) (v : ℕ) where
-  -- a version stands where it stood
+  -- a version stands if it stood before
   pub committed : (W : List K) (s : Asked K) (ts : K → Option (Task K V)) (by : ℕ) (c : List (K × V)) → VersionStands eq m R v W s ts → VersionStands eq m (Commit by c ∷ R) v W s ts
   committed W s ts by c h = version_stays eq m R (Commit by c ∷ R) v (carries eq R v by c) s ts (same_promises eq m R (Commit by c ∷ R) v (record { lives = λ i. refl; opens = λ i a l. refl }) W s ts h) W h
 

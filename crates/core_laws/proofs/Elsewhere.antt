@@ -53,7 +53,7 @@ module _ {K V : Type 0} (eq : K → K → Bool) (R : List (Told K V)) (v : ℕ) 
   same_count _ n = absurd n
 
 module _ {K V : Type 0} (eq : K → K → Bool) (equality : IsEquality eq) (m : Meaning K V) (law : IsLawful m) (R : List (Told K V)) (v : ℕ) where
-  -- a version stands where it stood
+  -- a version stands if it stood before
   pub elsewhere : (W : List K) (s : Asked K) (ts : K → Option (Task K V)) (e : Told K V) → VersionStands eq m R v W s ts → IsElsewhere v e → VersionStands eq m (e ∷ R) v W s ts
   elsewhere W s ts e h n = version_stays eq m R (e ∷ R) v (carries eq R v e n) s ts (same_promises eq m R (e ∷ R) v (same_live eq R v e n) W s ts h) W h
 

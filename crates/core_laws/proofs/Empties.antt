@@ -1,4 +1,4 @@
--- Where no transaction is open at a version, and each task at work has an asker, nobody is at work: the table can be thrown away.
+-- If no transaction is open at a version, and each task at work has an asker, nobody is at work: the table can be thrown away.
 use Rattle.std.proofs.Common.{◌≡◌, ◌<◌, ◌+◌, inl, inr, ℕ, zero, suc, Bool, true, false, List, [], ◌∷◌, length, Option, Some, None, refl, sym, ◌∙◌, subst, arith}
 use Rattle.std.proofs.lemmas.Bool.{both_ways, false_from_ne_true}
 use Rattle.std.proofs.lemmas.Option.{none-some}
@@ -33,13 +33,13 @@ module _ {K : Type 0} (eq : K → K → Bool) (equality : IsEquality eq) (s : As
             (fresh, d) (let z : length (a.0 ∷ q ∷ path) ≡ suc (length (q ∷ path)) = refl in omega arith)
       ]
 
-  -- where each task at work is asked for by a task at work, and there are finitely many without a cycle, there is none
+  -- if each task at work is asked for by a task at work, and there are finitely many without a cycle, there is none
   pub none_live : (q : K) → s.live q ≡ true → ⊥
   none_live q v = climbs (length all) q [] (λ e g. elim g as (λ _. Leads s q e) [ inl i ↦ subst (Leads s q) i stays | inr b ↦ absurd b ])
       (λ e g. elim g as (λ _. s.live e ≡ true) [ inl i ↦ subst (λ y. s.live y ≡ true) i v | inr b ↦ absurd b ]) ((λ b. b), tt) (omega arith)
 
 module _ {K V : Type 0} (eq : K → K → Bool) (m : Meaning K V) (R : List (Told K V)) (v : ℕ) where
-  -- where no ask is live, nothing runs and nothing is decided, a version is at rest with no task and no ask
+  -- if no ask is live, nothing runs and nothing is decided, a version is at rest with no task and no ask
   pub nobody_rests : ((i : ℕ) (a : Asking K) → live_at R i ≡ Some a → opened_at R v a.opened ≡ false) → ((k : K) → is_running eq R v k ≡ false) → (0 < open_count R v → (k : K) → decided eq R v k ≡ None) → IsAtRest eq m R v nobody (λ q. None)
   nobody_rests unasked still fresh = record {
     stands = record {
@@ -76,7 +76,7 @@ module _ {K V : Type 0} (eq : K → K → Bool) (equality : IsEquality eq) (m : 
     idle q = false_from_ne_true (s.live q) (none_live eq equality s all finite h.no_cycle asked_by q)
 
 module _ {K V : Type 0} (eq : K → K → Bool) (equality : IsEquality eq) (m : Meaning K V) (law : IsLawful m) (R : List (Told K V)) (v : ℕ) where
-  -- where each task at work has an asker, the version is at rest with no task and no ask
+  -- if each task at work has an asker, the version is at rest with no task and no ask
   pub emptied : (s : Asked K) (ts : K → Option (Task K V)) → VersionStands eq m R v [] s ts → IsLawfulBack eq m R → open_count R v ≡ 0 → IsDone s → (all : List K) → ((q : K) → s.live q ≡ true → Has all q) → IsAtRest eq m R v nobody (λ q. None)
   emptied s ts h lawful empty done all finite = nobody_rests eq m R v (λ i a e. none_open v R (closes_open eq m R lawful) empty a.opened) (λ k. h.running k ∙ idle_computes (ts k) (sym (h.live k) ∙ idle eq equality m R lawful v empty s ts h done all finite k)) (λ n k. absurd (omega arith))
 

@@ -1,4 +1,4 @@
--- What holds at a version goes on to hold where the journal says no less of it.
+-- What holds at a version goes on to hold if the journal says no less of it.
 use Rattle.std.proofs.Common.{◌≡◌, ◌≢◌, ◌≤◌, ◌<◌, ℕ, Bool, true, List, [], ◌∷◌, ◌++◌, length, Option, Some, None, refl, sym, ap, ◌∙◌, subst, arith, length-append}
 use Rattle.std.specs.List.{AllZip}
 use Rattle.std.proofs.lemmas.Option.{none-some}
@@ -84,7 +84,7 @@ module _ {K V : Type 0} (eq : K → K → Bool) (m : Meaning K V) (R S : List (T
   standing_on h k (Works w p A) s = record { undecided = c.decides k ∙ s.undecided; work = work_on h k w A s.work; asks = s.asks }
   standing_on h k (Ended o) s = outcome_on h k o s
 
-  -- a task stands where it stood
+  -- a task stands if it stood before
   pub task_on : (k : K) (t : Task K V) → TaskStands eq m R v k t → TaskStands eq m S v k t
   task_on k t s = record {
     computed = s.computed;
@@ -105,7 +105,7 @@ module _ {K V : Type 0} (eq : K → K → Bool) (m : Meaning K V) (R S : List (T
         by_task None p q = absurd (none-some ks q)
         by_task (Some t) p q = (h.each k t p).within
 
-    -- all but the promises goes on where the tasks, and their asks, stay
+    -- all but the promises goes on if the tasks, and their asks, stay
     pub version_on : SameLives eq s u → ((d k : K) → u.asks d (Tasked k) ≡ s.asks d (Tasked k)) → Promises m S v u → VersionStands eq m S v W u ts
     version_on lives same p = record {
       promised = p.promised;

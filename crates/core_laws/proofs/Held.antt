@@ -31,7 +31,7 @@ module _ {K : Type 0} (eq : K → K → Bool) (equality : IsEquality eq) (s : As
             (fresh, d) (let z : length (j ∷ q ∷ path) ≡ suc (length (q ∷ path)) = refl in omega arith))
       ]
 
-  -- where each task at work has an asker, a promise holds each of them
+  -- if each task at work has an asker, a promise holds each of them
   pub climbs : (q : K) → s.live q ≡ true → Held s q
   climbs q v = rises (length all) q []
       (λ e g. elim g as (λ _. Leads s q e) [ inl i ↦ subst (Leads s q) i stays | inr b ↦ absurd b ])

@@ -103,7 +103,7 @@ module _ {K V : Type 0} (eq : K → K → Bool) (m : Meaning K V) (R : List (Tol
 -- ---- tasks that are made
 
 module _ {K V : Type 0} (eq : K → K → Bool) (equality : IsEquality eq) (m : Meaning K V) (law : IsLawful m) (R : List (Told K V)) (v : ℕ) where
-  -- what a version has for a task that is put where none is at work
+  -- what a version has for a task that is put if none is at work
   made_shape : (W : List K) (s u : Asked K) (ts us : K → Option (Task K V)) (k : K) (t : Task K V) → VersionStands eq m R v W s ts → decided eq R v k ≡ None → is_going (ts k) ≡ false → batch_of (Some t) ≡ None
       → Puts eq k (Some t) ts us → Lives eq k (goes_on t.standing) s u → SameAsks eq s u → Shape m W u us
   made_shape W s u ts us k t h undecided idle ready put lives same = eased eq equality m W s u ts us k t (shape_of eq m R v W s ts h) put lives
@@ -151,7 +151,7 @@ module _ {K V : Type 0} (eq : K → K → Bool) (equality : IsEquality eq) (m : 
         },
       )
 
-  -- likewise, where the value that was looked at is the key's value here: its task has ended with it
+  -- likewise, if the value that was looked at is the key's value here: its task has ended with it
   pub matches : (W : List K) (s u : Asked K) (ts us : K → Option (Task K V)) (k : K) (n b : ℕ) → VersionStands eq m R v W s ts → m.kind k ≢ Injected → IsWanted eq m R v k → v ≤ length (commits_of R)
       → (once : K) → asked_in_epoch eq R v once ≡ true → Reaches eq m (commits_of R) v once k → decided eq R v k ≡ None → is_going (ts k) ≡ false → (kept : KeepsValue eq m R v k b) → n ≤ length R
       → Puts eq k (Some (record { born = n; standing = Ended (WithValue kept.value) })) ts us → Lives eq k false s u → SameAsks eq s u
@@ -188,7 +188,7 @@ module _ {K V : Type 0} (eq : K → K → Bool) (equality : IsEquality eq) (m : 
         },
       )
 
-  -- likewise, where an earlier value has to be checked: its task checks it
+  -- likewise, if an earlier value has to be checked: its task checks it
   pub checks : (W : List K) (s u : Asked K) (ts us : K → Option (Task K V)) (k : K) (n : ℕ) (x : V) (T : List (Answered K V)) (b : ℕ) → VersionStands eq m R v W s ts → m.kind k ≢ Injected → v ≤ length (commits_of R)
       → (once : K) → asked_in_epoch eq R v once ≡ true → Reaches eq m (commits_of R) v once k → decided eq R v k ≡ None → is_going (ts k) ≡ false → WasSeen eq m R k x T b → n ≤ length R
       → Puts eq k (Some (record { born = n; standing = Works (Checks x T b) IsReady [] })) ts us → Lives eq k true s u → SameAsks eq s u

@@ -162,7 +162,7 @@ module _ {K V : Type 0} (eq : K → K → Bool) (m : Meaning K V) (R S : List (T
   standing_on q n (Works w p A) h = record { undecided = f.decides q n ∙ h.undecided; work = work_on q w A h.work; asks = h.asks }
   standing_on q n (Ended o) h = outcome_on q n o h
 
-  -- where a task stands but for how
+  -- all that holds of a task but for its standing
   pub task_with : (q : K) (t : Task K V) (d : Standing K V) → TaskStands eq m R v q t → IsStanding eq m S v q d → TaskStands eq m S v q (record { born = t.born; standing = d })
   task_with q t d h i = record {
     computed = h.computed;

@@ -1,4 +1,4 @@
--- An Open leaves all versions at rest. Where it begins an epoch there is no task, and nobody asks.
+-- An Open leaves all versions at rest. If it begins an epoch there is no task, and nobody asks.
 use Rattle.std.proofs.Common.{◌≡◌, ◌<◌, ◌+◌, ℕ, Bool, true, false, eqb, List, [], ◌∷◌, Option, refl, sym, ap, ◌∙◌, arith, append-nil, ◌≤◌, cond, length, length-append, Some, None}
 use Rattle.std.proofs.lemmas.Bool.{both_ways, eqb-true, eqb-false, and_parts, eq-eqb}
 use Rattle.std.proofs.lemmas.Option.{same_Some, none-some}
@@ -32,7 +32,7 @@ module _ {K V : Type 0} (eq : K → K → Bool) (m : Meaning K V) (R : List (Tol
       bases = λ b k h. h;
     }
       where
-        -- it adds to the transactions at v only where there is one
+        -- it adds to the transactions at v only if there is one
         by_version : (b : Bool) → eqb w v ≡ b → 0 < open_count R v + one_if b → 0 < open_count R v
         by_version true e h = let z : eqb (open_count R v) 0 ≡ false = rw e at n in let y = eqb-false (open_count R v) 0 z in omega arith
         by_version false e h = omega arith

@@ -69,7 +69,7 @@ module _ {K : Type 0} (eq : K → K → Bool) (k : K) (ds : List K) (s u : Asked
     | inr n ↦ (let same : i ≡ k = (let t : Tasked i ≡ Tasked k = n.1 in cc) in inr (c, n.0, l, subst (Leads u i) same stays))
   ]
 
-  -- where no key that is asked leads to k, no cycle is closed
+  -- if no key that is asked leads to k, no cycle is closed
   pub parks_no_cycle : HasNoCycle s → ((d : K) → Has ds d → Leads s d k → ⊥) → HasNoCycle u
   parks_no_cycle free apart a i e l = elim (parks.only i (Tasked a) e) as (λ _. ⊥) [
     | inl o ↦ elim (parked_split i a l) as (λ _. ⊥) [
@@ -82,7 +82,7 @@ module _ {K : Type 0} (eq : K → K → Bool) (k : K) (ds : List K) (s u : Asked
 -- ---- the task waits
 
 module _ {K V : Type 0} (eq : K → K → Bool) (equality : IsEquality eq) (m : Meaning K V) (law : IsLawful m) (R : List (Told K V)) (v : ℕ) where
-  -- a task that was taken comes to wait for its next batch: it asks for one or more keys of it, at which tasks are at work that do not wait for
+  -- a task that was taken comes to wait for its next batch: it asks for one or more keys of it, whose tasks are at work and do not wait for
   -- it; each other key of the batch is injected or has ended with a value
   pub parks : (W : List K) (s u : Asked K) (ts us : K → Option (Task K V)) (k : K) (t : Task K V) (w : Work K V) (A : List (Answered K V)) (ks ds : List K) → VersionStands eq m R v W s ts → ts k ≡ Some t → t.standing ≡ Works w IsOut A
       → AsksNext eq m v k w A (IsWaiting ks) → (some : K) → Has ds some → ((d : K) → Has ds d → Has ks d) → ((d : K) → Has ds d → AsksFor eq m (commits_of R) v k d × (s.live d ≡ true) × (Leads s d k → ⊥))

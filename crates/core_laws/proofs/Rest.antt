@@ -1,4 +1,4 @@
--- Between the engine's calls; and where nothing can be taken and nothing is out, nothing is at work.
+-- Between the engine's calls; and if nothing can be taken and nothing is out, nothing is at work.
 use Rattle.std.proofs.Common.{◌≡◌, ◌≢◌, ◌<◌, ◌+◌, ◌⊎◌, inl, inr, ℕ, zero, suc, Bool, true, false, not, ◌&&◌, ◌||◌, List, [], ◌∷◌, length, Option, Some, None, refl, sym, ap, ◌∙◌, subst, arith}
 use Rattle.std.proofs.lemmas.Bool.{and_parts, and_from, and_left, or_left, or_right, not_from_false, cases_Bool, eq-eqb}
 use Rattle.dice_key.specs.Meaning.{Meaning, Answered}
@@ -35,7 +35,7 @@ module _ {K V : Type 0} (eq : K → K → Bool) (equality : IsEquality eq) (s u 
     | inr n ↦ (r, put_other eq equality k (Some t) ts us p q n ∙ e)
   ]
 
-  -- a task is put there, and there are no more asks than before: as where one ends, computes, or is told an answer
+  -- a task is put there, and there are no more asks than before: as when one ends, computes, or is told an answer
   pub tasked_on_put : (t : Task K V) → Puts eq k (Some t) ts us → ((q : K) (b : By K) → u.asks q b ≡ true → s.asks q b ≡ true) → AreTasked u us
   tasked_on_put t p fewer q b e = let r = a q b (fewer q b e) in put_tasked t p q r.0 r.1
 
@@ -142,12 +142,12 @@ module _ {K : Type 0} where
               (fresh, d) (let z : length (w.0 ∷ q ∷ path) ≡ suc (length (q ∷ path)) = refl in omega arith)
         ]
 
-    -- where each task at work waits for one at work, none is at work
+    -- if each task at work waits for one at work, none is at work
     pub stands_still : (q : K) → s.live q ≡ true → ⊥
     stands_still q v = descends (length all) q [] (λ e g. elim g as (λ _. Leads s e q) [ inl i ↦ subst (λ y. Leads s y q) i stays | inr b ↦ absurd b ])
         (λ e g. elim g as (λ _. s.live e ≡ true) [ inl i ↦ subst (λ y. s.live y ≡ true) i v | inr b ↦ absurd b ]) ((λ b. b), tt) (let z : length (q ∷ []) ≡ 1 = refl in omega arith)
 
--- where no task can be taken and none is out, none is at work
+-- if no task can be taken and none is out, none is at work
 pub quiet : {K V : Type 0} (eq : K → K → Bool) (equality : IsEquality eq) (m : Meaning K V) (R : List (Told K V)) (v : ℕ) (s : Asked K) (ts : K → Option (Task K V)) → VersionStands eq m R v [] s ts
     → ((k : K) (t : Task K V) (w : Work K V) (A : List (Answered K V)) → ts k ≡ Some t → t.standing ≡ Works w IsReady A → ⊥) → ((k : K) (t : Task K V) (w : Work K V) (A : List (Answered K V)) → ts k ≡ Some t → t.standing ≡ Works w IsOut A → ⊥)
     → (all : List K) → ((q : K) → s.live q ≡ true → Has all q) → (k : K) → s.live k ≡ true → ⊥

@@ -24,7 +24,7 @@ module _ {K V : Type 0} where
   along_next (a ∷ A) later batch b e = (refl, along_next A later batch b e)
 
 module _ {K : Type 0} (eq : K → K → Bool) (equality : IsEquality eq) where
-  -- where the same keys live and k does, k goes on
+  -- if the same keys live and k does, k goes on
   pub lives_on : (k : K) (s u : Asked K) → SameLives eq s u → s.live k ≡ true → Lives eq k true s u
   lives_on k s u same l q = elim (same_or_other eq equality k q) as (λ _. u.live q ≡ cond (eq k q) true (s.live q)) [
     | inl i ↦ same q ∙ (subst (λ y. s.live y ≡ true) i l ∙ ap (λ c. cond c true (s.live q)) (sym (subst (λ y. eq k y ≡ true) i (equality.itself k))))
@@ -81,7 +81,7 @@ module _ {K V : Type 0} (eq : K → K → Bool) (equality : IsEquality eq) (m : 
       same_computes Computes = refl
       same_computes (Checks x T b) = refl
 
-  -- likewise where all asks stay and it waited for nothing before
+  -- likewise if all asks stay and it waited for nothing before
   unasked_turn : (W : List K) (s u : Asked K) (ts us : K → Option (Task K V)) (k : K) (t : Task K V) (w : Work K V) (p o : Phase K) (A B : List (Answered K V)) → VersionStands eq m R v W s ts → ts k ≡ Some t → t.standing ≡ Works w p A
       → AtWork eq m R v k w o B → waits_for (Works w p A) ≡ None → waits_for (Works w o B) ≡ None → Puts eq k (Some (record { born = t.born; standing = Works w o B })) ts us → SameLives eq s u → SameAsks eq s u → VersionStands eq m R v W u us
   unasked_turn W s u ts us k t w p o A B h e st work idle ready put same asks = turned W s u ts us k t w p o A B h e st work ready put same

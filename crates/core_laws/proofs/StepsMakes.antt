@@ -31,7 +31,7 @@ module _ {K V : Type 0} (eq : K → K → Bool) (equality : IsEquality eq) (m : 
       let r = starts eq equality m law R v W s u ts us k b c (stands_here eq equality m R v W s ts w d owed st) computed wanted within once asked reached undecided idle cause born put lives same in
       (r.0, event_on eq equality m law R v w W s u ts us k d e owed owed2 _ st put turns room W (Start v k c) (λ n f. f) r.0 r.1)
 
-  -- likewise, where the value that was looked at is the key's value here: its task has ended with it
+  -- likewise, if the value that was looked at is the key's value here: its task has ended with it
   pub matches_stand : (w : World K V) (W : List K) (s u : Asked K) (ts us : K → Option (Task K V)) (k : K) (n b : ℕ) (d e : Desk K) (owed owed2 : ℕ) → Stand eq m R v W (with_version v s ts w) d owed
       → m.kind k ≢ Injected → IsWanted eq m R v k → v ≤ length (commits_of R)
       → (once : K) → asked_in_epoch eq R v once ≡ true → Reaches eq m (commits_of R) v once k → decided eq R v k ≡ None → is_going (ts k) ≡ false → (kept : KeepsValue eq m R v k b) → n ≤ length R
@@ -42,7 +42,7 @@ module _ {K V : Type 0} (eq : K → K → Bool) (equality : IsEquality eq) (m : 
       let r = matches eq equality m law R v W s u ts us k n b (stands_here eq equality m R v W s ts w d owed st) computed wanted within once asked reached undecided idle kept born put lives same in
       (r.0, event_on eq equality m law R v w W s u ts us k d e owed owed2 _ st put turns room W (Keep v k b) (λ i f. f) r.0 r.1)
 
-  -- likewise, where an earlier value has to be checked: its task checks it
+  -- likewise, if an earlier value has to be checked: its task checks it
   pub checks_stand : (w : World K V) (W : List K) (s u : Asked K) (ts us : K → Option (Task K V)) (k : K) (n : ℕ) (x : V) (T : List (Answered K V)) (b : ℕ) (d e : Desk K) (owed owed2 : ℕ) → Stand eq m R v W (with_version v s ts w) d owed
       → m.kind k ≢ Injected → v ≤ length (commits_of R)
       → (once : K) → asked_in_epoch eq R v once ≡ true → Reaches eq m (commits_of R) v once k → decided eq R v k ≡ None → is_going (ts k) ≡ false → WasSeen eq m R k x T b → n ≤ length R

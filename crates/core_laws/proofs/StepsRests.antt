@@ -1,4 +1,4 @@
--- From rest to work on one version and back; what is wanted; what an Open and a Commit leave; and where nothing can be taken.
+-- From rest to work on one version and back; what is wanted; what an Open and a Commit leave; and what holds if nothing can be taken.
 use Rattle.std.proofs.Common.{◌≡◌, ◌≤◌, ◌+◌, ◌*◌, inl, inr, ℕ, suc, Bool, true, false, cond, eqb, List, [], ◌∷◌, length, map, Option, Some, None, refl, sym, ap, ◌∙◌, subst, arith}
 use Rattle.std.proofs.lemmas.Bool.{eqb-true, eq-eqb}
 use Rattle.dice_key.specs.Meaning.{Meaning, Answered}
@@ -52,7 +52,7 @@ module _ {K V : Type 0} where
       of_standing (Works w p A) f = let h : true ≡ false = f in cc
       of_standing (Ended o) f = refl
 
-  -- a version put in where it is
+  -- a version put in at its own place
   pub same_world : (v : ℕ) (w : World K V) → with_version v (w.asked v) (w.tasks v) w ≡ w
   same_world v w = λ i. record { asked = λ n. same_asked n i; tasks = λ n. same_tasks n i }
     where
@@ -100,14 +100,14 @@ module _ {K V : Type 0} (eq : K → K → Bool) (equality : IsEquality eq) (m : 
         let a = live_keys (with_version v s ts w) d.live st.live v in
         (a.0, (λ q e. a.1 q (ap (λ (f : K → Option (Task K V)). is_going (f q)) same ∙ (sym (here.live q) ∙ e))))
 
-    -- likewise in the midst of a call, where each of them has an asker
+    -- likewise in the middle of a call, if each of them has an asker
     pub wanted_stand : IsDone s → (k : K) → s.live k ≡ true → IsWanted eq m R v k
     wanted_stand done k l = held_wanted eq m R v W s ts here k (climbs eq equality s done here.no_cycle (askers_live eq m R v W s ts here) live_stand.0 live_stand.1 k l)
 
   -- ---- from work on v to rest
 
   module _ (w : World K V) (s : Asked K) (ts : K → Option (Task K V)) (d : Desk K) (owed : ℕ) (st : Stand eq m R v [] (with_version v s ts w) d owed) (done : IsDone s) where
-    -- all versions are at rest where v is, with these asks and tasks or others
+    -- all versions are at rest if v is, with these asks and tasks or others
     each_of : (u : Asked K) (us : K → Option (Task K V)) → IsAtRest eq m R v u us → (n : ℕ) → IsAtRest eq m R n ((with_version v u us w).asked n) ((with_version v u us w).tasks n)
     each_of u us h n = by_number (eqb n v) refl
       where
@@ -165,7 +165,7 @@ module _ {K V : Type 0} (eq : K → K → Bool) (equality : IsEquality eq) (m : 
     room = room;
   }
 
-  -- the room is another
+  -- the room changes
   pub rests_room : Rests eq m R w e owed2
   rests_room = rests_on R r.lawful (λ n a bs h. h)
 
@@ -191,7 +191,7 @@ rests_first {K} {V} eq m spare owed room = record {
     none : AreAll (λ (p : ℕ × K). false) []
     none = record { passes = λ x h. absurd h; found = λ x e. (let h : false ≡ true = e in cc); distinct = tt }
 
--- ---- where nothing can be taken and nothing is out
+-- ---- if nothing can be taken and nothing is out
 
 module _ {K V : Type 0} (eq : K → K → Bool) (equality : IsEquality eq) (m : Meaning K V) (law : IsLawful m) (R : List (Told K V)) (w : World K V) (d : Desk K) (owed : ℕ) (r : Rests eq m R w d owed) (none_ready : d.ready ≡ []) (none_out : d.out ≡ 0) where
   nothing : {X : Type 0} (xs : List X) (x : X) → length xs ≡ 0 → Has xs x → ⊥

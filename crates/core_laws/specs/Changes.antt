@@ -41,8 +41,8 @@ module _ {K : Type 0} (eq : K → K → Bool) where
     pub asked : (d : K) → Has ds d → u.asks d (Tasked k) ≡ true
     pub only : (q : K) (a : By K) → u.asks q a ≡ true → (s.asks q a ≡ true) ⊎ (Has ds q × (a ≡ Tasked k))
 
--- A has answers to the first batches of the trace T: those before the last batch are as in T, and in the last d is the first key whose
--- answer is another
+-- A has answers to the first batches of the trace T: those before the last batch are as in T, and in the last batch d is the first key whose
+-- answer differs
 pub record ChangesFirst {K V : Type 0} (T A : List (Answered K V)) (d : K) : Type 0 where
   pub before : List (Answered K V)
   pub batch : Answered K V

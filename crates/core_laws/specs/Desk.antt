@@ -99,7 +99,7 @@ CountTurns true true n l = l ≡ n
 CountTurns false true n l = l ≡ n + 1
 CountTurns true false n l = l + 1 ≡ n
 
--- what becomes of the desk where the task of k at v becomes o
+-- what becomes of the desk when the task of k at v becomes o
 pub record DeskTurns {K V : Type 0} (v : ℕ) (k : K) (was is : Option (Task K V)) (d e : Desk K) : Type 0 where
   pub ready : ListTurns (is_ready was) (is_ready is) (v, k) d.ready e.ready
   pub out : CountTurns (is_out was) (is_out is) d.out e.out

@@ -9,7 +9,7 @@ pub data Phase (K : Type 0) : Type 0 where
   IsOut : Phase K
   IsWaiting : List K → Phase K
 
--- how a task ended: with the value of its key, with a cycle that its key reaches, or given up for want of memory
+-- how a task ended: with the value of its key, with a cycle that its key reaches, or given up since no memory was left
 pub data Outcome (K V : Type 0) : Type 0 where
   WithValue : V → Outcome K V
   WithCycle : List K → Outcome K V
@@ -57,7 +57,7 @@ module _ {K V : Type 0} where
   is_computing None = false
   is_computing (Some t) = computes t.standing
 
-  -- the batch that a task waits for, where it waits
+  -- the batch that a task waits for, if it waits
   abbrev pub batch_of : Option (Task K V) → Option (List K)
   batch_of None = None
   batch_of (Some t) = waits_for t.standing

@@ -145,8 +145,8 @@ enum Act {
     Do(Call),
 }
 
-/// What is done and what it answers, then a key, which an ask is for, and what it has come to at
-/// the newest version, and the tasks that are ready and out.
+/// What is done and what it answers; then a key, which an ask is for, and what it has come to at
+/// the newest version; and the tasks that are ready and out.
 type Row = (Act, bool, Name, Seen, u64, u64);
 
 fn commit_file(alloc: Global, bench: &mut Bench<Buck>) -> Result<bool, NoMemory> {
@@ -281,8 +281,8 @@ fn lost_events(core: &Core<Buck>) -> usize {
     lost
 }
 
-/// Asks for the digest, and gives up the job behind so many that were done; how many tasks ended as
-/// lost.
+/// Asks for the digest, and gives up the job that follows so many that were done; how many tasks
+/// ended as lost.
 fn lost_behind(alloc: Global, bench: &mut Bench<Buck>, before: usize) -> Result<usize, NoMemory> {
     commit_file(alloc, bench)?;
     for call in [Call::Open, Call::Ask] {

@@ -26,8 +26,8 @@ enum Act {
     Do(Call),
 }
 
-/// What is done, then a version and a key, which an ask is for, what the key has come to there, and
-/// the tasks that are ready and out.
+/// What is done; then a version and a key, which an ask is for, and what the key has come to there;
+/// and the tasks that are ready and out.
 type Row = (Act, u64, Place, Seen, u64, u64);
 
 const CELL: Place = Place::Cell(1);

@@ -8,7 +8,7 @@ abbrev pub IsRound : {K : Type 0} → (K → K → Type 0) → K → K → List 
 IsRound W first k [] = W k first
 IsRound W first k (j ∷ js) = W k j × IsRound W first j js
 
--- the second of a cycle is `to`; where there is no second one, the first is
+-- the second of a cycle is `to`; if there is no second one, the first is
 abbrev pub IsSecond : {K : Type 0} → K → K → List K → Type 0
 IsSecond first to [] = to ≡ first
 IsSecond first to (k ∷ ks) = k ≡ to
@@ -18,7 +18,8 @@ module _ {K : Type 0} (s : Asked K) (from to : K) where
   abbrev pub WouldWait : K → K → Type 0
   WouldWait a b = (s.asks b (Tasked a) ≡ true) ⊎ ((a ≡ from) × (b ≡ to))
 
-  -- distinct keys that begin with `from`, then `to`; each would wait for the next, and the last for the first
+  -- distinct keys that begin with `from`, then `to`; each would wait for the next, and the last for
+  -- the first
   pub record IsWaitCycle (path : List K) : Type 0 where
     pub rest : List K
     pub begins : path ≡ from ∷ rest

@@ -13,11 +13,11 @@ use std::hash::Hash;
 use std::sync::Arc;
 use task_share::{Table, table_in_order};
 
-/// The cycle that would be closed if the task of `from` waited for that of `to`: a path exactly
-/// where `to` leads to `from` by waits, or is `from`. It begins with `from`, then `to`; each key
-/// waits for the next, and the last for the first.
+/// The cycle that would be closed if the task of `from` waited for that of `to`: a path exactly if
+/// `to` leads to `from` by waits, or is `from`. It begins with `from`, then `to`; each key waits
+/// for the next, and the last for the first.
 ///
-/// Each key is looked up once, and each task that `to` leads to is passed at most once. Where `to`
+/// Each key is looked up once, and each task that `to` leads to is passed at most once. If `to`
 /// waits for nothing the answer takes no memory.
 pub fn would_close<K: Eq + Hash + Drop, T: Drop>(
     alloc: Global,

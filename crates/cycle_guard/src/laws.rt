@@ -3,8 +3,8 @@ ghost use Rattle.std.specs.Prelude.{◌≡◌, ◌||◌, ◌&&◌, true};
 ghost use Rattle.dice_key.specs.Lawful.{IsEquality};
 ghost use Rattle.task_share.specs.Asked.{Asked, By, Tasked, is_by, Leads, HasNoCycle};
 
-/// Where the asks of tasks form no cycle, they form none with one more wait that `would_close`
-/// finds no cycle for, and none where some were withdrawn.
+/// If the asks of tasks form no cycle, they form none with one more wait for which `would_close`
+/// finds no cycle, and none after some were withdrawn.
 ///
 /// It does no work: it says what follows from the calls' contracts.
 pub fn no_cycle_stays<K: Eq>()

@@ -45,7 +45,7 @@ module _ {K V : Type 0} (ks more : List K) (xs plus : List V) where
       length-dropped (suc n) [] = omega arith
       length-dropped (suc n) (y ∷ ys) = let h = length-dropped n ys in omega arith
 
-  -- what is added behind the last end is no part yet
+  -- what is added after the last end is no part yet
   parted_same : (s n : ℕ) (es : List ℕ) → RiseTo s es n → n ≡ length ks → n ≡ length xs → parted (ks ++ more) (xs ++ plus) s es ≡ parted ks xs s es
   parted_same s n [] r p q = refl
   parted_same s n (e ∷ es) r p q =
@@ -98,7 +98,7 @@ part_of {K} {V} {A} {B} ps qs part es fs at T v p f e h =
     mapped : {X : Type 0} (f : Arc K A × Arc V B → X) → part ≡ take (begins 0 es (at + 1) - begins 0 es at) (drop (begins 0 es at) ps) → map f part ≡ take (begins 0 es (at + 1) - begins 0 es at) (drop (begins 0 es at) (map f ps))
     mapped f b = ap (map f) b ∙ (sym (take-map f (begins 0 es (at + 1) - begins 0 es at) (drop (begins 0 es at) ps)) ∙ ap (take (begins 0 es (at + 1) - begins 0 es at)) (sym (drop-map f (begins 0 es at) ps)))
 
--- a batch that is added behind the pairs
+-- a batch that is added after the pairs
 module _ {K V A B : Type 0} (ps qs : List (Arc K A × Arc V B)) where
   pub pushed_rise : (more : List K) (es fs : List ℕ) (n : ℕ) → RiseTo 0 es (length ps) → fs ≡ es ++ n ∷ [] → n ≡ length qs → keys_in qs ≡ keys_in ps ++ more → 0 < length more → RiseTo 0 fs (length qs)
   pushed_rise more es fs n r f l k h =

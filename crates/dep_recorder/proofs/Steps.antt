@@ -30,7 +30,7 @@ module _ {X Y : Type 0} (f : Y → X) (from : List Y) (i : ℕ) (y : Y) (h : i <
   pub added : (before after whole : List X) → after ≡ before ++ f y ∷ [] → before ++ map f (drop i from) ≡ whole → after ++ map f (drop (i + 1) from) ≡ whole
   added before after whole a w = ap (λ xs. xs ++ map f (drop (i + 1) from)) a ∙ (append_assoc before (f y ∷ []) (map f (drop (i + 1) from)) ∙ (ap (λ ys. before ++ map f ys) (sym at_place) ∙ w))
 
-  -- those so far, behind what was there, and one more
+  -- those so far, after what was there, and one more
   pub grown : (old before after : List X) → after ≡ before ++ f y ∷ [] → before ≡ old ++ map f (take i from) → after ≡ old ++ map f (take (i + 1) from)
   grown old before after a b =
       let t : take (i + 1) from ≡ take i from ++ y ∷ [] = take_one i from y (drop (i + 1) from) at_place in

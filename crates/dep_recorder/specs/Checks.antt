@@ -11,7 +11,8 @@ pub record Checked (K V : Type 0) : Type 0 where
   pub trace : List (Answered K V)
   pub fed : List (List V)
 
--- what it finds: it wants these keys answered; all answers are the same; or a key's answer was one value and is another now
+-- what it finds: it wants these keys answered; all answers are the same; or a key's answer was one
+-- value and is another now
 pub data Finding (K V : Type 0) : Type 0 where
   Wants : List K → Finding K V
   IsSame : Finding K V
@@ -35,7 +36,8 @@ module _ {K V : Type 0} (eq : V → V → Bool) where
   change_or f None = f
   change_or f (Some d) = HasChanged d.0 d.1 d.2
 
-  -- batch after batch, the first change decides; without one, the first batch that was not fed is wanted
+  -- batch after batch, the first change decides; without one, the first batch that was not fed is
+  -- wanted
   abbrev pub finding : List (Answered K V) → List (List V) → Finding K V
   finding [] fed = IsSame
   finding (b ∷ bs) [] = Wants b.keys
@@ -51,7 +53,8 @@ IsWantingOf n (HasChanged d x y) = ⊥
 abbrev pub values_of : {K V : Type 0} → List (Answered K V) → List (List V)
 values_of bs = map (λ b. b.values) bs
 
--- the first answer that has changed stands in the last batch that was fed, and all before it are as they were
+-- the first answer that has changed stands in the last batch that was fed, and all before it are as
+-- they were
 pub record IsFirstChange {K V : Type 0} (trace : List (Answered K V)) (fed : List (List V)) (key : K) (was now : V) : Type 0 where
   pub before : List (Answered K V)
   pub batch : Answered K V

@@ -1,4 +1,4 @@
--- Traces and recordings, without where they lie in memory.
+-- Traces and recordings, without their places in memory.
 use Rattle.std.specs.Prelude.{◌≡◌, Bool, true, false, ◌&&◌, ◌<◌, ◌-◌, ℕ, List, [], ◌∷◌, ◌++◌, map, take, drop, length, Option, Some, None}
 use Rattle.std.proofs.Common.{zero, suc}
 use Rattle.std.specs.Arc.{arc_value}
@@ -22,7 +22,8 @@ same_pairs f g [] (q ∷ qs) = false
 same_pairs f g (p ∷ ps) [] = false
 same_pairs f g (p ∷ ps) (q ∷ qs) = (f (arc_value p.0) (arc_value q.0) && g (arc_value p.1) (arc_value q.1)) && same_pairs f g ps qs
 
--- keys and values in one row each are parted into batches: the first begins at `start`, each ends where the next begins
+-- keys in one row and values in another are parted into batches: the first begins at `start`, each
+-- ends where the next begins
 abbrev pub parted : {K V : Type 0} → List K → List V → ℕ → List ℕ → List (Answered K V)
 parted ks xs start [] = []
 parted ks xs start (e ∷ es) = record { keys = take (e - start) (drop start ks); values = take (e - start) (drop start xs) } ∷ parted ks xs e es
@@ -38,7 +39,7 @@ begins start ends zero = start
 begins start [] (suc i) = start
 begins start (e ∷ es) (suc i) = begins e es i
 
--- what a run has asked so far: the batches that are answered, and the last one where it is not
+-- what a run has asked so far: the batches that are answered, and the last one if it is not
 pub record Recording (K V : Type 0) : Type 0 where
   pub answered : List (Answered K V)
   pub asked : Option (List K)

@@ -119,7 +119,7 @@ impl<U: Universe> Check<U> {
     }
 }
 
-/// The first place at which the answer to a key is another one now.
+/// The first place at which the answer to a key has changed.
 fn first_change<K, V: Eq>(was: &[(Arc<K>, Arc<V>)], now: &[Arc<V>]) -> Option<usize>
     requires { length was.now ≡ length now.now }
     ensures none { IfNone result

@@ -137,7 +137,7 @@ module _ {K V : Type 0} (eq : K → K → Bool) (m : Meaning K V) where
   commit_lawful by (p ∷ c) J I e a l = subst (IsLawfulBack eq m) (sym (ap reverse e ∙ backwards J (Commit by (p ∷ c)))) (a.0, l)
 
 module _ {K V : Type 0} (eq : K → K → Bool) (m : Meaning K V) where
-  -- where there are changes, the entries are cut
+  -- if there are changes, the entries are cut
   pub cuts_entries : (c : List (K × V)) (v : ℕ) (es fs : List (K × Stored K V)) → 0 < length c
       → IsCut eq es (keys_of c) v fs × ((C : List (List (K × V))) (d : List (K × V)) → v ≡ suc (length C) → ((k : K) → Has (keys_of d) k → Has (keys_of c) k) → AreTrue eq m C es → AreTrue eq m (C ++ d ∷ []) fs)
       → CommitsEntries eq m c v es fs

@@ -106,7 +106,7 @@ module _ {K V : Type 0} (v : ℕ) where
   all_both Q [] E a b = b
   all_both Q (d ∷ D) E a b = (a.0, all_both Q D E a.1 b)
 
-  -- ends that come of a cycle or of want of memory
+  -- ends by a cycle, or since no memory was left
   module _ (path : Option (List K)) where
     tells_so : (k : K) (o : Outcome K V) → ComesOf path o → EndsSo (told_end v k o)
     tells_so k o h = by_path path h

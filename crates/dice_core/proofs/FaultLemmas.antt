@@ -14,7 +14,7 @@ module _ {K V : Type 0} (m : Meaning K V) where
   no_fault ks (NotInjected k) s h = h.fault (all_middle (λ q. m.kind q ≡ Injected) h.before h.later k (subst (AllByRecursion (λ q. m.kind q ≡ Injected)) h.all s.injected))
   no_fault ks (Twice k) s h = distinct_before h.before h.later k (subst AreDistinct h.all s.distinct) h.fault.1
 
--- where no fault is possible none is named
+-- if no fault is possible none is named
 pub none_named : {T E F : Type 0} (r : Result T E) (f : E → Option F) (P : F → Type 0) → IfErr r (λ e. IfSome (f e) P) → ((x : F) → P x → ⊥) → IfErr r (λ e. f e ≡ None)
 none_named (Ok t) f P h none = tt
 none_named {T} {E} {F} (Err e) f P h none = by_name (f e) h

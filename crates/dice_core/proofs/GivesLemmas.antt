@@ -22,7 +22,7 @@ use Rattle.dice_tasks.specs.Waitings.{IsTurned}
 use Rattle.dice_core.specs.Cores.{IsWorkAt}
 use Rattle.dice_core.proofs.EventLemmas.{GivesUp, all_tell, all_given_up, all_drops, all_both, all_works}
 
--- what stands anyway stands where a result is Ok
+-- what stands anyway stands if a result is Ok
 pub always_ok : {X E : Type 0} (r : Result X E) (P : Type 0) → P → OnOk r P
 always_ok (Ok x) P p = p
 always_ok (Err e) P p = tt

@@ -1,4 +1,4 @@
--- What is told where tasks are given up together, and the cascade after them.
+-- What is told when tasks are given up together, and the cascade after them.
 use Rattle.std.specs.List.{AllByRecursion}
 use Rattle.std.proofs.Common.{◌≡◌, ℕ, Bool, List, ◌++◌, map, Option, ap, ◌∙◌, append_assoc}
 use Rattle.dice_key.specs.Meaning.{Meaning}

@@ -63,7 +63,7 @@ has_there None h = absurd h
 has_there (Some x) h = (x, refl)
 
 module _ {K V : Type 0} (eq : K → K → Bool) where
-  -- nothing is another yet
+  -- nothing has changed yet
   pub kept_self : (ps : List (K × Share K (Held K V))) (d : DeskSeen K V) → KeepsAtHand eq ps ps d d
   kept_self ps d = record {
     hands = record { events = refl; ready = refl; out = refl; live = refl; ended = refl };
@@ -100,7 +100,7 @@ module _ {K V : Type 0} (eq : K → K → Bool) (equality : IsEquality eq) (m : 
       st : Stand eq m (reverse d.events) v [] (seen_world eq v ps w) (desk_of d) owed
       st = work.stand
 
-  -- a key is asked for: one event more, and one promise more where the key is not injected
+  -- a key is asked for: one event more, and one promise more if the key is not injected
   pub asked_works : (w : World K V) (owed less : ℕ) (ps qs : List (K × Share K (Held K V))) (d : DeskSeen K V) (by t : ℕ) (k : K) → IsOpenAt (reverse d.events) v t → KeepsTasks eq ps qs
       → (m.kind k ≡ Injected → SameAsks eq (asked_of eq ps) (asked_of eq qs)) → (m.kind k ≢ Injected → Joins eq k (Promised (length (reverse d.events))) (asked_of eq ps) (asked_of eq qs))
       → 2 * d.live + less ≤ d.spare - 1 → Working eq m v [] w owed ps d → Working eq m v [] w less qs (with_event d (Ask by t k))
@@ -124,7 +124,7 @@ module _ {K V : Type 0} (eq : K → K → Bool) (equality : IsEquality eq) (m : 
       alike : tasks_of eq qs ≡ tasks_of eq ps
       alike = same_tasks eq ps qs keeps
 
-  -- the same tasks, where all that is seen is as before
+  -- the same tasks, if all that is seen is as before
   pub working_kept : (w : World K V) (W : List K) (owed : ℕ) (ps qs : List (K × Share K (Held K V))) (d : DeskSeen K V) → KeepsTasks eq ps qs → KeepsAsks eq ps qs → Working eq m v W w owed ps d → Working eq m v W w owed qs d
   working_kept w W owed ps qs d t a h = record {
     stand = subst (λ (y : World K V). Stand eq m (reverse d.events) v W y (desk_of d) owed) same h.stand;
@@ -393,7 +393,7 @@ module _ {U K V A : Type 0} (eq : K → K → Bool) (equality : IsEquality eq) (
       pub asks_made : (w : World K V) (owed : ℕ) → Working eq m v [] w owed ps c → AsksForKey eq m v by t k ps rs es fs c e
       asks_made w owed work = asks_joined (subst (λ z. IsMade eq v k qs z es p rs e fs) told made) (subst (λ z. MakesAlone eq v k qs z es rs e fs) told alone) w owed work
 
--- no job that is out is another then
+-- no job that is out changes then
 module _ {K V : Type 0} (eq : K → K → Bool) (equality : IsEquality eq) (m : Meaning K V) (v by t : ℕ) (k : K) (ps qs : List (K × Share K (Held K V))) (es fs : List (K × Stored K V)) (d e : DeskSeen K V) (asked : AsksForKey eq m v by t k ps qs es fs d e) (a : Assigned K V) where
   new_home : (born : ℕ) (made : List (Told K V)) (h : Held K V) (o : Look K V) → IsMadeBy eq v k born es fs h made o → h ≡ held_of a IsOut → ⊥
   new_home born made h (Matches x b) n i = let z : work_of a IsOut ≡ Ended (WithValue x) = ap (λ (x : Held K V). x.standing) (sym i ∙ n.0) in cc

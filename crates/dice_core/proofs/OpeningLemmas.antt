@@ -112,7 +112,7 @@ module _ {K V : Type 0} (eq : K → K → Bool) (equality : IsEquality eq) (m : 
         works : WorksOn v (d.events ++ Leave by i ∷ []) e.events
         works = (map (Drop v) ks, drops.events ∙ sym (append_assoc d.events (Leave by i ∷ []) (map (Drop v) ks)), all_works v (map (Drop v) ks) (all_drops V v ks))
 
--- an empty table was put where there was none
+-- an empty table was put if there was none
 module _ {K V : Type 0} (ts us : List (ℕ × List (K × Share K (Held K V)))) (n : ℕ) (t : List (K × Share K (Held K V))) (empty : t ≡ []) (none : is_some (lookup (nat_eq n) ts) ≡ false) (put : (q : ℕ) → lookup (nat_eq q) us ≡ cond (nat_eq n q) (Some t) (lookup (nat_eq q) ts)) where
   none_is : (o : Option (List (K × Share K (Held K V)))) → is_some o ≡ false → unwrap_or o [] ≡ []
   none_is None e = refl
@@ -152,11 +152,11 @@ module _ {K V : Type 0} where
       let version : w.0.version ≡ v = session_version y a.opened w.0 z w.1 (subst (λ n. session_at y n ≡ Some z) same found) ∙ sym at in
       (w.0, w.3, w.2, version, there_open R v a.opened w.0 w.2 version)
 
-  -- where no session is found nothing was asked
+  -- if no session is found nothing was asked
   pub leave_none : (R : List (Told K V)) (i : ℕ) (a : Asking K) (x y : SessionsSeen K) (t : ℕ) → SessionsStand R x → ask_at x i ≡ Some a → Leaves i a x y → t ≡ a.opened → session_at y t ≡ None → ⊥
   leave_none R i a x y t st e l same none = let w = left_session R i a x y st e l in no_session y a.opened w.0 w.1 (subst (λ n. session_at y n ≡ None) same none)
 
--- what is told where an ask is left
+-- what is told when an ask is left
 pub left_log : {K V : Type 0} (eq : K → K → Bool) (m : Meaning K V) (R : List (Told K V)) (v by i : ℕ) (a : Asking K) (o : Opened) (ks : List K) (d e : DeskSeen K V) (ts us : List (ℕ × List (K × Share K (Held K V)))) (ps qs : List (K × Share K (Held K V)))
     → live_at R i ≡ Some a → open_at R a.opened ≡ Some o → o.version ≡ v → by ≡ a.by → table_at ts v ≡ ps → PutsTable v qs ts us → DropsAfter eq v (Leave by i ∷ []) ks ps qs d e
     → (b : Asking K) × (p : Opened) × (ls : List K) × (live_at R i ≡ Some b) × (open_at R b.opened ≡ Some p) × Turned eq m p.version ts us (λ x y. DropsAfter eq p.version (Leave b.by i ∷ []) ls x y d e)

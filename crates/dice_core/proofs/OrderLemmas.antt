@@ -38,7 +38,7 @@ module _ {K V : Type 0} (eq : K → K → Bool) (m : Meaning K V) (d e : DeskSee
   })
 
   module _ (f : DeskSeen K V) (us : List (ℕ × List (K × Share K (Held K V)))) (r : Option (Assigned K V)) where
-    -- where none is ready, nothing was moved
+    -- if none is ready, nothing was moved
     pub none_moved : IfNone r ((e.ready ≡ []) × (f ≡ e) × (us ≡ ts)) → IfNone r ((d.ready ≡ []) × (core_of f us es s x ≡ core_of d ts es s x))
     none_moved = by_result r
       where

@@ -32,7 +32,7 @@ module _ {K V : Type 0} where
   by_task Computed n x o h = refl
   by_task Projection n x o h = refl
 
-  -- else it is either its value or what its task has come to
+  -- otherwise it is either its value or what its task has come to
   by_kind : (P : Came K V → Type 0) (i : Kind) (n : ℕ) (x : V) (o : Came K V) → (i ≡ Injected → P (ToValue x)) → P o → P (injected_to i n x o)
   by_kind P Injected n x o h p = by_test (nat_eq n 0)
     where
@@ -42,7 +42,7 @@ module _ {K V : Type 0} where
   by_kind P Computed n x o h p = p
   by_kind P Projection n x o h p = p
 
-  -- and where a transaction is open, an injected key has its value
+  -- and if a transaction is open, an injected key has its value
   not_absent : (i : Kind) (n : ℕ) (x : V) (o : Came K V) → 0 < n → (i ≢ Injected → o ≢ Absent) → injected_to i n x o ≢ Absent
   not_absent Injected n x o l h = by_test (nat_eq n 0) refl
     where
@@ -120,7 +120,7 @@ module _ {K V : Type 0} (eq : K → K → Bool) (equality : IsEquality eq) (m : 
       by_held None e = (st.rests.each v).stands.fresh k (ap (option_map task_of) e) some
       by_held (Some h) e = by_standing h.standing (stood h e).standing
 
-  -- where nothing is ready and nothing out, no task is at work
+  -- if nothing is ready and nothing out, no task is at work
   settles : c.desk.ready ≡ [] → c.desk.out ≡ [] → held_to (held_in eq c v k) ≢ Pending
   settles ready out = by_held (held_in eq c v k) refl
     where

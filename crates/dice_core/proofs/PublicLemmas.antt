@@ -95,12 +95,12 @@ module _ {K V : Type 0} (eq : K → K → Bool) (equality : IsEquality eq) (m : 
         by_drop true j e = let z : Some (held_of a IsOut) ≡ None = j in cc
         by_drop false j e = let z : held_of a IsOut ≡ held_ended (g.ended.ended (k, g.ended.first.0) g.ended.first.1).0.name g.ended.first.0 = same_Some _ _ (j ∙ e) in let w : true ≡ false = ap (λ (h : Held K V). out_in h.standing) z in cc
 
--- a test that is true exactly where P holds
+-- a test that is true exactly if P holds
 pub named_iff : (b : Bool) (P : Type 0) → (b ≡ false → P → ⊥) → (b ≡ true → P) → IsTrue b ↔ P
 named_iff true P n y = (λ i. y refl, λ p. refl)
 named_iff false P n y = (λ i. (let c : false ≡ true = i in cc), λ p. absurd (n refl p))
 
--- what holds of a result where there is one
+-- what holds of a result if there is one
 pub some_map : {Y : Type 0} (o : Option Y) (P Q : Y → Type 0) → IfSome o P → ((y : Y) → P y → Q y) → IfSome o Q
 some_map None P Q h f = tt
 some_map (Some y) P Q h f = f y h

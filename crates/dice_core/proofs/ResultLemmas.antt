@@ -81,7 +81,7 @@ module _ {K V : Type 0} (eq : K → K → Bool) (equality : IsEquality eq) (m : 
     rooms : KeepsDeskRoom d e
     rooms = record { spare = keeps.spare; ready = keeps.ready_room; live = keeps.live_room }
 
-    -- where nothing was committed all is as before
+    -- if nothing was committed all is as before
     pub uncommitted : e.events ≡ d.events → SameSets eq s t → t.last ≡ s.last → IsAsBefore eq (core_of d ts es s x) (core_of e ts es t x)
     uncommitted h sets last = record {
       hands = same_hands h;

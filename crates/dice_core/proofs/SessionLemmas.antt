@@ -339,7 +339,7 @@ module _ {K V : Type 0} where
   pub closing_end : (R : List (Told K V)) (by t : ℕ) (s : SessionsSeen K) → Closing R by t [] s → SessionsStand (Close by t ∷ R) s
   closing_end R by t s c = record { transactions = c.transactions; asks = c.asks; counts = c.counts; among = c.among; epochs = λ v. (let h = c.epochs v in omega arith) }
 
--- the same where an ask may have been taken out
+-- the same if an ask may have been taken out
 pub takes_closing_if : {K A : Type 0} (V : Type 0) (r : Option A) (index : ℕ) (s u : SessionsSeen K) → IfSome r (λ _. Takes index s u)
     → IfSome r (λ _. (R : List (Told K V)) (by t : ℕ) (rest left : List ℕ) → Closing R by t rest s → has_ask rest index ≡ true → ((q : ℕ) → has_ask left q ≡ cond (nat_eq index q) false (has_ask rest q)) → Closing R by t left u)
 takes_closing_if V None n s u h = tt

@@ -1,4 +1,4 @@
--- Those that still ask are answered as before, where tasks go that nobody asks for; where a job is lost, but for those that waited for it.
+-- Those that still ask are answered as before if tasks go that nobody asks for; so they are if a job is lost, except those that waited for it.
 use Rattle.std.proofs.Common.{◌≡◌, ◌≢◌, ◌<◌, ◌+◌, ◌-◌, ◌&&◌, ◌||◌, ◌++◌, ◌⊎◌, inl, inr, ℕ, zero, suc, Bool, true, false, cond, nat_eq, eqb, eq-eqb, List, [], ◌∷◌, length, map, reverse, Option, Some, None, refl, sym, ap, ◌∙◌, subst, append_assoc, arith}
 use Rattle.std.specs.List.{list_any}
 use Rattle.std.proofs.lemmas.Bool.{eqb-true}
@@ -33,7 +33,7 @@ use Rattle.lists.specs.Lists.{AreDistinct, Has}
 -- ---- polls
 
 module _ {K V : Type 0} where
-  -- where a transaction is open an injected key has its value
+  -- if a transaction is open an injected key has its value
   its_value : (n : ℕ) (x : V) (o : Came K V) → 0 < n → injected_to Injected n x o ≡ ToValue x
   its_value n x o l = by_test (nat_eq n 0) refl
     where
@@ -41,7 +41,7 @@ module _ {K V : Type 0} where
       by_test true e = absurd (let w : n ≡ 0 = eqb-true n 0 e in let y : ⊥ = omega arith in y)
       by_test false e = refl
 
-  -- a key has come to the same where its cell and its task have
+  -- a key has come to the same if its cell and its task have
   same_poll : (j : Kind) (n l : ℕ) (x y : V) (o p : Came K V) → 0 < n → 0 < l → x ≡ y → (j ≢ Injected → o ≡ p) → injected_to j n x o ≡ injected_to j l y p
   same_poll Injected n l x y o p a b e h = its_value n x o a ∙ (ap ToValue e ∙ sym (its_value l y p b))
   same_poll Computed n l x y o p a b e h = h (λ i. (let z : Computed ≡ Injected = i in cc))

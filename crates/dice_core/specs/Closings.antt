@@ -16,7 +16,7 @@ use Rattle.dice_steps.specs.Cells.{CellsStand}
 use Rattle.dice_core.specs.Sessions.{SessionsSeen, has_ask, Closing}
 
 module _ {K V : Type 0} (eq : K → K → Bool) (m : Meaning K V) where
-  -- the same as `AtHand`, where no transaction need be open at v any more
+  -- the same as `AtHand`, but no transaction need be open at v any more
   pub record LeftHand (v : ℕ) (w : World K V) (owed : ℕ) (ps : List (K × Share K (Held K V))) (d : DeskSeen K V) (es : List (K × Stored K V)) (s : Seen K V) : Type 0 where
     pub working : Working eq m v [] w owed ps d
     pub told : d.ended ≡ []

@@ -51,7 +51,7 @@ module _ {K V : Type 0} (m : Meaning K V) where
     pub fault : IsFault before f
 
 module _ {K V : Type 0} (eq : K → K → Bool) (veq : V → V → Bool) (m : Meaning K V) (s : Seen K V) where
-  -- whether the value is another than the newest one of the key
+  -- whether the value is not the newest one of the key
   abbrev pub differs : K × V → Bool
   differs p = not (veq (newest_at eq m s p.0) p.1)
 
@@ -92,7 +92,7 @@ module _ {K V : Type 0} (eq : K → K → Bool) (m : Meaning K V) where
     pub cut : IsCut eq es (keys_of c) v fs
     pub kept : (C : List (List (K × V))) → v ≡ suc (length C) → AreTrue eq m C es → AreTrue eq m (C ++ c ∷ []) fs
 
-  -- so they do where there are changes; without any they stay
+  -- so they do if there are changes; without any they stay
   abbrev pub CommitsEntries : List (K × V) → ℕ → List (K × Stored K V) → List (K × Stored K V) → Type 0
   CommitsEntries [] v es fs = fs ≡ es
   CommitsEntries (p ∷ c) v es fs = CutsEntries (p ∷ c) v es fs

@@ -60,7 +60,7 @@ module _ {K V : Type 0} where
   abbrev pub past_of : CoreSeen K V → List (Told K V)
   past_of c = reverse c.desk.events
 
-  -- the table of a version; no tasks, where there is none
+  -- the table of a version; no tasks, if there is none
   abbrev pub table_at : List (ℕ × List (K × Share K (Held K V))) → ℕ → List (K × Share K (Held K V))
   table_at ts v = unwrap_or (lookup (nat_eq v) ts) []
 
@@ -87,7 +87,7 @@ module _ {K V : Type 0} where
   decision_of Pending = None
   decision_of Absent = None
 
-  -- an injected key has its value where a transaction is open at the version
+  -- an injected key has its value if a transaction is open at the version
   abbrev pub injected_to : Kind → ℕ → V → Came K V → Came K V
   injected_to Injected n x o = cond (nat_eq n 0) o (ToValue x)
   injected_to Computed n x o = o
@@ -190,7 +190,7 @@ module _ {K V : Type 0} (eq : K → K → Bool) where
     pub ready : d.desk.ready ≡ c.desk.ready
     pub out : d.desk.out ≡ c.desk.out
 
-  -- these tasks of v, each named once, are gone, which were at work, and where it says so all tasks of v are; all other tasks, of all versions, are as before
+  -- these tasks of v, each named once, are gone, which were at work, and if it says so all tasks of v are; all other tasks, of all versions, are as before
   pub record DropsThese (v : ℕ) (all : Bool) (ks : List K) (ts us : List (ℕ × List (K × Share K (Held K V)))) : Type 0 where
     pub distinct : AreDistinct ks
     pub at_work : (q : K) → Has ks q → is_live eq (table_at ts v) q ≡ true
@@ -200,7 +200,7 @@ module _ {K V : Type 0} (eq : K → K → Bool) where
   abbrev pub IsJobOut : CoreSeen K V → Assigned K V → Type 0
   IsJobOut c j = held_in eq c j.name.version j.name.key ≡ Some (held_of j IsOut)
 
-  -- this job, which was ready in c, is out in d; nothing else is another
+  -- this job, which was ready in c, is out in d; nothing else changes
   pub record TakesOut (j : Assigned K V) (c d : CoreSeen K V) : Type 0 where
     pub was : held_in eq c j.name.version j.name.key ≡ Some (held_of j IsReady)
     pub tasks : (v : ℕ) (q : K) → held_in eq d v q ≡ cond (nat_eq j.name.version v && eq j.name.key q) (Some (held_of j IsOut)) (held_in eq c v q)
@@ -208,6 +208,6 @@ module _ {K V : Type 0} (eq : K → K → Bool) where
     pub out : length d.desk.out ≡ length c.desk.out + 1
 
 module _ {K V : Type 0} (eq : K → K → Bool) where
-  -- tasks may have gone, or ended for want of memory; all others are as before
+  -- tasks may have gone, or ended since no memory was left; all others are as before
   abbrev pub GivesUpOnly : CoreSeen K V → CoreSeen K V → Type 0
   GivesUpOnly c d = (v : ℕ) (q : K) → (held_in eq d v q ≡ None) ⊎ (held_in eq d v q ≡ held_in eq c v q) ⊎ ((h : Held K V) × (held_in eq c v q ≡ Some h) × (held_in eq d v q ≡ Some (held_ended h.name WithNothing)))

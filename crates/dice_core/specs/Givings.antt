@@ -20,7 +20,7 @@ use Rattle.dice_core.specs.Cores.{CoreSeen, Turned, IsWorkAt, IsJobOut}
 use Rattle.dice_core.specs.declared.giving.Gave.{Gave}
 use Rattle.dice_core.specs.declared.giving.Gave.TheVariants.{Taken, Stale}
 
--- the step that is handed back, where it is stale
+-- the step that is handed back, if it is stale
 abbrev pub stale_of : {U K V R : Type 0} → Gave U K V R → Option (Stepped K V)
 stale_of Taken = None
 stale_of (Stale s) = Some s

@@ -29,7 +29,7 @@ module _ {K V : Type 0} (eq : K → K → Bool) where
     pub asks : KeepsAsks eq ps qs
 
 module _ {K V : Type 0} (v : ℕ) (k : K) where
-  -- what is told where a task of k at v is made: one event, or none
+  -- what is told when a task of k at v is made: one event, or none
   abbrev pub IsToldOfMake : List (Told K V) → Type 0
   IsToldOfMake [] = Unit {0}
   IsToldOfMake (x ∷ []) = IsOfMake v k x

@@ -22,8 +22,8 @@ fn is_injected<U: Universe>(universe: &U, key: &KeyRef<U>) -> bool
     }
 }
 
-/// A seat asks for a key at a version, in an open transaction. Where the key is not injected the ask is a promise of it, and where it
-/// has no task, or one that was given up, a task is made. The result is the index of the Ask. Where memory is refused all is as
+/// A seat asks for a key at a version, in an open transaction. If the key is not injected the ask is a promise of it, and if it
+/// has no task, or one that was given up, a task is made. The result is the index of the Ask. If memory is refused all is as
 /// before.
 ///
 /// It costs a look-up or a few.

@@ -18,7 +18,7 @@ use dice_tasks::{Desk, Tasks, cascade};
 use journal::Event;
 use task_share::Asker;
 
-/// Takes out one ask of a transaction that is closed, and its promise; `false` where none is left. It takes no memory.
+/// Takes out one ask of a transaction that is closed, and its promise; `false` if none is left. It takes no memory.
 fn take_promise<U: Universe>(
     tasks: &mut Tasks<U>,
     sessions: &mut Sessions<U>,
@@ -53,7 +53,7 @@ fn take_promises<U: Universe>(
     'promises: while take_promise(tasks, sessions, session) {}
 }
 
-/// Closes a transaction at a version, which was taken out of the sessions: its asks and their promises go, its Close is written, and
+/// Closes a transaction at a version, which was taken out of the sessions. Its asks and their promises go, its Close is written, and
 /// then the tasks at work that nobody asks for any more are dropped. It takes no memory.
 ///
 /// It costs the number of the asks, and of the tasks that are dropped and of the keys that they waited for.

@@ -129,7 +129,7 @@ fn changed_keys<K: Drop, V>(
     Ok(keys)
 }
 
-/// Makes room for one set of each key; nothing that is seen changes, also where memory is refused.
+/// Makes room for one set of each key; nothing that is seen changes, even if memory is refused.
 pub(crate) fn reserve_cells<U: Universe>(
     cells: &mut Cells<U>,
     changes: &[(KeyRef<U>, ValueRef<U>)],
@@ -169,7 +169,7 @@ pub(crate) fn set_cells<U: Universe>(
     }
 }
 
-/// Commits the changes that differ, where all keys are injected and distinct. At an error all is as before.
+/// Commits the changes that differ, if all keys are injected and distinct. At an error all is as before.
 fn commit_settable<U: Universe>(
     alloc: Global,
     cells: &mut Cells<U>,

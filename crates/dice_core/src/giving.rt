@@ -32,7 +32,7 @@ pub enum Gave<U: Universe> {
     Stale(Step<U>),
 }
 
-/// Takes up a step, where it is of the job of a task that is out; else it is stale. Where memory is refused all is as before, and the
+/// Takes up a step, if it is of the job of a task that is out; otherwise it is stale. If memory is refused all is as before, and the
 /// step is handed back.
 pub(crate) fn give_in<U: Universe>(
     alloc: Global,
@@ -58,7 +58,7 @@ pub(crate) fn give_in<U: Universe>(
     take_up::<U>(alloc, universe, cells, graph, desk, versions, owed, step)
 }
 
-/// Takes up a step of the job of a task that is out. Where memory is refused all is as before, and the step is handed back.
+/// Takes up a step of the job of a task that is out. If memory is refused all is as before, and the step is handed back.
 pub(crate) fn take_up<U: Universe>(
     alloc: Global,
     universe: &U,
@@ -96,7 +96,7 @@ fn is_of_out<U: Universe>(versions: &HashMap<u64, Tasks<U>>, step: &Step<U>) -> 
     }
 }
 
-/// Whether the job of a task that is out is alike the step's.
+/// Whether the job of a task that is out is like the step's.
 pub(crate) fn is_like_out<U: Universe>(versions: &HashMap<u64, Tasks<U>>, step: &Step<U>) -> bool
     ensures { IsTrue result ↔ ((j : Assigned U.Key U.Value) × (task_at U.Key.eq (table_at versions.now.entries step.now.job.name.version) step.now.job.name.key ≡ Some (held_of j IsOut)) × AreAlike step.now.job j) }
 {

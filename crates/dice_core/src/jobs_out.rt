@@ -22,7 +22,7 @@ use dice_steps::give_up;
 use dice_tasks::{Desk, How, Tasks, put_back, take};
 use std::collections::HashMap;
 
-/// Takes the job of the ready task that is to be taken next; `None` exactly where no task is ready. It takes no memory.
+/// Takes the job of the ready task that is to be taken next; `None` exactly if no task is ready. It takes no memory.
 pub(crate) fn take_next<U: Universe>(
     desk: &mut Desk<U>,
     versions: &mut HashMap<u64, Tasks<U>>,
@@ -43,7 +43,7 @@ pub(crate) fn take_next<U: Universe>(
     take::<U>(desk, tasks)
 }
 
-/// Takes a job back, undone; another one than that which is out is handed back. It takes no memory.
+/// Takes a job back, undone; a job other than the one that is out is handed back. It takes no memory.
 pub(crate) fn bring_back<U: Universe>(
     desk: &mut Desk<U>,
     versions: &mut HashMap<u64, Tasks<U>>,
@@ -64,7 +64,7 @@ pub(crate) fn bring_back<U: Universe>(
 }
 
 /// Gives up the job of this name: its task and all that wait for it end as lost, and then the tasks at work that nobody asks for any
-/// more are dropped; `false` exactly where no job of the name is out. It takes no memory.
+/// more are dropped; `false` exactly if no job of the name is out. It takes no memory.
 pub(crate) fn fail_named<U: Universe>(
     desk: &mut Desk<U>,
     versions: &mut HashMap<u64, Tasks<U>>,

@@ -160,7 +160,7 @@ impl<U: Universe> Core<U> {
         // A key that is asked for has a task, or is injected.
         ensures asked { (i : ℕ) (a : Asking U.Key) → live_at (past_of self.now) i ≡ Some a → opened_at (past_of self.now) version a.opened ≡ true → a.key ≡ arc_value key.now → came_of result ≢ Absent }
 
-        // Where no task is ready and none is out, nothing is pending.
+        // If no task is ready and none is out, nothing is pending.
         ensures quiet { self.now.desk.ready ≡ [] → self.now.desk.out ≡ [] → came_of result ≢ Pending }
     {
         laws_of::<U>();
@@ -213,7 +213,7 @@ impl<U: Universe> Core<U> {
         )
     }
 
-    /// Opens a transaction at the newest version, and keeps room for its close; the index of its event is its name. Where memory is
+    /// Opens a transaction at the newest version, and keeps room for its close; the index of its event is its name. If memory is
     /// refused all is as before.
     pub fn open(&mut self, by: u64) -> Result<u64, NoMemory>
         ensures index { IfOk result (λ t. t ≡ length (events_of self.old)) }
@@ -234,7 +234,7 @@ impl<U: Universe> Core<U> {
     }
 
     /// Asks for a key in an open transaction, by a seat; the index of the event is the name of the ask. The key's task at the
-    /// transaction's version is joined; where there is none, or one that was given up, it is made by what is known of the key. Where
+    /// transaction's version is joined; if there is none, or one that was given up, it is made by what is known of the key. If
     /// memory is refused all is as before.
     pub fn ask(&mut self, by: u64, tx: u64, key: KeyRef<U>) -> Result<u64, NoMemory>
         requires { is_some (open_at (past_of self.old) tx) ≡ true }
@@ -284,7 +284,7 @@ impl<U: Universe> Core<U> {
         leave_ask(&mut self.desk, &mut self.versions, &mut self.sessions, ask);
     }
 
-    /// Takes the job of a ready task, which is out then; `None` exactly where no task is ready. No clause says which of the ready
+    /// Takes the job of a ready task, which is out then; `None` exactly if no task is ready. No clause says which of the ready
     /// tasks it is. It takes no memory.
     pub fn take_job(&mut self) -> Option<Job<U>>
         ensures none { IfNone result ((self.old.desk.ready ≡ []) × (self.new ≡ self.old)) }
@@ -300,7 +300,7 @@ impl<U: Universe> Core<U> {
         take_next(&mut self.desk, &mut self.versions)
     }
 
-    /// Brings a job back, undone: its task is ready again. It is handed back exactly where it is not the job of a task that is out.
+    /// Brings a job back, undone: its task is ready again. It is handed back exactly if it is not the job of a task that is out.
     /// It takes no memory.
     pub fn back(&mut self, job: Job<U>) -> Option<Job<U>>
         ensures other { IfSome result (λ j. (j ≡ job) × IsAsBefore U.Key.eq self.old self.new × (IsJobOut U.Key.eq self.old job → ⊥)) }
@@ -312,8 +312,8 @@ impl<U: Universe> Core<U> {
         bring_back(&mut self.desk, &mut self.versions, job)
     }
 
-    /// Gives up the job of this name for want of memory: its task and all that wait for it end as lost, one event each, and the tasks that
-    /// nobody asks for any more are dropped; `false` exactly where no job of the name is out. It takes no memory.
+    /// Gives up the job of this name, for which there is no memory. Its task and all that wait for it end as lost, one event each, and the tasks that
+    /// nobody asks for any more are dropped; `false` exactly if no job of the name is out. It takes no memory.
     pub fn fail(&mut self, name: &JobName<U>) -> bool
         ensures out { IsTrue result ↔ IsNameOut U.Key.eq self.old name.now }
         ensures log { result ≡ true → (ls ks : List U.Key) × Has ls name.now.key × (events_of self.new ≡ events_of self.old ++ (map (Lost name.now.version) ls ++ map (Drop name.now.version) ks)) }
@@ -321,7 +321,7 @@ impl<U: Universe> Core<U> {
         ensures home { result ≡ true → IsNameOut U.Key.eq self.new name.now → ⊥ }
         ensures tasks { result ≡ true → GivesUpOnly U.Key.eq self.old self.new }
 
-        // Of those that ask only those are hurt whose tasks waited for the lost one.
+        // Of those that ask, only those are hurt whose tasks waited for the lost one.
         ensures others { result ≡ true → LosesWaitersOnly U.Key.eq U.meaning name.now self.old self.new }
         ensures other { result ≡ false → self.new ≡ self.old }
         ensures rest { (self.new.entries ≡ self.old.entries) × (self.new.cells ≡ self.old.cells) × (self.new.sessions ≡ self.old.sessions) }
@@ -334,8 +334,8 @@ impl<U: Universe> Core<U> {
     /// change makes its key be computed; and a batch makes its task wait for those of its keys that have not come to a value, or end
     /// with the cycle that it would close.
     ///
-    /// `Stale` exactly where it is not the step of the job that is out: by its name, the batches that were answered, what is done, and
-    /// of a check the value, trace and base; then nothing changes. Where memory is refused all is as before, and the step comes back.
+    /// `Stale` exactly if it is not the step of the job that is out: by its name, the batches that were answered, what is done, and
+    /// of a check the value, trace and base; then nothing changes. If memory is refused all is as before, and the step comes back.
     pub fn give(&mut self, step: Step<U>) -> Result<Gave<U>, (NoMemory, Step<U>)>
         ensures stale { IfOk result (λ g. IfSome (stale_of g) (HandsBack U.Key.eq U.meaning U.Value.eq step self.old self.new)) }
         ensures taken { IfOk result (λ g. IfNone (stale_of g) (GivesStep U.Key.eq U.meaning U.Value.eq step self.old self.new)) }
@@ -358,7 +358,7 @@ impl<U: Universe> Core<U> {
         )
     }
 
-    /// Takes up a step of which it is known that its answers are the values at its version, as of a job that this core gave out. All is
+    /// Takes up a step whose answers are known to be the values at its version, as of a job that this core gave out. All is
     /// as by `give`; but the answers of a run are not compared, since no other answers could be as many.
     pub fn give_own(&mut self, step: Step<U>) -> Result<Gave<U>, (NoMemory, Step<U>)>
         requires { AnsweredTruly U.Key.eq U.meaning (commits_of (past_of self.old)) step.job }

@@ -22,7 +22,7 @@ use std::collections::HashMap;
 use task_share::Table;
 use versioned_graph::Graph;
 
-/// Makes a table for the tasks of a version, where there is none.
+/// Makes a table for the tasks of a version, if there is none.
 fn place_table<U: Universe>(
     alloc: Global,
     versions: &mut HashMap<u64, Tasks<U>>,
@@ -40,7 +40,7 @@ fn place_table<U: Universe>(
     Ok(())
 }
 
-/// Opens a transaction at the newest version, and keeps room for its close. Where memory is refused all is as before.
+/// Opens a transaction at the newest version, and keeps room for its close. If memory is refused all is as before.
 pub(crate) fn open_at_newest<U: Universe>(
     alloc: Global,
     desk: &mut Desk<U>,
@@ -91,7 +91,7 @@ pub(crate) fn leave_ask<U: Universe>(
     leave_promise::<U>(desk, tasks, version, asking.key(), asking.by(), ask);
 }
 
-/// A seat asks for a key in an open transaction; the index of the event is the name of the ask. Where memory is refused all is as before.
+/// A seat asks for a key in an open transaction; the index of the event is the name of the ask. If memory is refused all is as before.
 pub(crate) fn ask_in<U: Universe>(
     alloc: Global,
     universe: &U,

@@ -9,7 +9,7 @@ pub enum Polled<'a, U: Universe> {
     Value(&'a ValueRef<U>),
     /// It reaches this cycle, and so has no value.
     Cycle(&'a Arc<Path<U::Key>>),
-    /// Its task was given up for want of memory. The next ask makes it anew.
+    /// Its task was given up since no memory was left. The next ask makes it anew.
     Lost,
     /// Its task has not ended.
     Pending,

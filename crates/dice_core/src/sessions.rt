@@ -206,14 +206,14 @@ impl<U: Universe> Sessions<U> {
         self.asks.contains_key(&ask)
     }
 
-    /// The transaction of this index, where it is open.
+    /// The transaction of this index, if it is open.
     pub(crate) fn session(&self, tx: u64) -> Option<&Session>
         ensures { option_copied result ≡ session_at self.now tx }
     {
         self.transactions.get(&tx)
     }
 
-    /// The ask of this index, where it stands.
+    /// The ask of this index, if it stands.
     pub(crate) fn asking(&self, ask: u64) -> Option<&Asking<U>>
         ensures { option_copied result ≡ ask_at self.now ask }
     {
@@ -234,7 +234,7 @@ impl<U: Universe> Sessions<U> {
         self.transactions.len() + self.asks.len()
     }
 
-    /// A transaction is opened at a version, by a seat; its index is that of the Open, which is written next. Where memory is
+    /// A transaction is opened at a version, by a seat; its index is that of the Open, which is written next. If memory is
     /// refused nothing changes.
     pub(crate) fn open(&mut self, index: u64, by: u64, version: u64) -> Result<(), NoMemory>
         requires fresh { transaction_at self.old index ≡ None }
@@ -285,7 +285,7 @@ impl<U: Universe> Sessions<U> {
         list_in(&mut self.transactions, tx, index);
     }
 
-    /// An ask is left: it is taken out, where it stands. It takes no memory.
+    /// An ask is left: it is taken out, if it stands. It takes no memory.
     pub(crate) fn leave(&mut self, ask: u64) -> Option<Asking<U>>
         ensures result { result ≡ ask_at self.old ask }
         ensures some { IfSome result (λ a. Leaves ask a self.old self.new) }
@@ -297,7 +297,7 @@ impl<U: Universe> Sessions<U> {
         Some(asking)
     }
 
-    /// A transaction is closed: it is taken out, where it is open. Its asks are still to be taken out, one by one. It takes no
+    /// A transaction is closed: it is taken out, if it is open. Its asks are still to be taken out, one by one. It takes no
     /// memory.
     pub(crate) fn close(&mut self, tx: u64) -> Option<Session>
         requires { (o : Opened) → transaction_at self.old tx ≡ Some o → 0 < open_count_of self.old.epochs o.version }

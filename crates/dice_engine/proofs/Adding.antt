@@ -86,7 +86,7 @@ module _ {K V : Type 0} (eq : K → K → Bool) (m : Meaning K V) (J I : List (T
   leaves_live n i t v a o ks in_t by at_v h e =
       leaves n i t v o ks (subst (λ x. open_at (reverse J) x ≡ Some o) in_t h) (e ∙ (λ j. J ++ (Leave (by j) i ∷ map (Drop (at_v j)) ks)))
 
-  -- where an ask is not live its transaction is closed
+  -- if an ask is not live its transaction is closed
   pub leaves_gone : (n i t v : ℕ) → ((o : Opened) → open_at (reverse J) t ≡ Some o → (a : Asking K) × (live_at (reverse J) i ≡ Some a) × (a.opened ≡ t) × (o.version ≡ v)) → is_some (live_at (reverse J) i) ≡ false → I ≡ J
       → Adds eq m n J I (Leaves n i t v J)
   leaves_gone n i t v f none e = leaves_nothing n i t v (none_of (open_at (reverse J) t) (λ o h. (let a = f o h in let x : is_some (live_at (reverse J) i) ≡ true = ap is_some a.1 in cc))) e

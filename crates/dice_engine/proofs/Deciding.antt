@@ -25,7 +25,7 @@ use Rattle.lists.proofs.Members.{reverse_has}
 use Rattle.lists.specs.Lists.{Has}
 
 module _ {K V : Type 0} where
-  -- what is open after an event was open before it, where its Open stands there
+  -- what is open after an event was open before it, if its Open stands there
   open_before : (e : Told K V) (R : List (Told K V)) (t : ℕ) (o : Opened) → t < length R → open_at (e ∷ R) t ≡ Some o → open_at R t ≡ Some o
   open_before (Open by w) R t o l h = sym (ap (λ b. cond b (Some (record { by = by; version = w })) (open_at R t)) (ne_eqb (length R) t (λ q. omega arith))) ∙ h
   open_before (Close by u) R t o l h = by_index (eqb u t) h
@@ -48,7 +48,7 @@ module _ {K V : Type 0} where
   opened_so R v t o h e = ap (is_for (λ (x : Opened). eqb x.version v)) h ∙ eq-eqb o.version v e
 
 module _ {K V : Type 0} (eq : K → K → Bool) (equality : IsEquality eq) (m : Meaning K V) where
-  -- where a key is decided it is not decided again
+  -- if a key is decided it is not decided again
   not_twice : (R : List (Told K V)) (v w : ℕ) (k q : K) (d x : Decision) → decided eq R w q ≡ None → decided eq R v k ≡ Some d → cond (names_by eq w q v k) (Some x) (decided eq R v k) ≡ Some d
   not_twice R v w k q d x fresh h = by_name (names_by eq w q v k) refl
     where
@@ -59,7 +59,7 @@ module _ {K V : Type 0} (eq : K → K → Bool) (equality : IsEquality eq) (m : 
           absurd (none-some d (sym here ∙ h))
       by_name false e = h
 
-  -- with one more event, where a transaction was open at the version
+  -- with one more event, if a transaction was open at the version
   decided_more : (e : Told K V) (R : List (Told K V)) (v t : ℕ) (k : K) (d : Decision) → IsLawfulBack eq m (e ∷ R) → opened_at R v t ≡ true → decided eq R v k ≡ Some d → decided eq (e ∷ R) v k ≡ Some d
   decided_more (Open by w) R v t k d l o h = ap (λ b. cond b None (decided eq R v k)) (begins_none eq m R w v t l.1 o) ∙ h
   decided_more (Keep w q b) R v t k d l o h = not_twice R v w k q d ByValue l.0.1.0 h
@@ -120,7 +120,7 @@ module _ {E : Type 0} where
       by_rest (inr (inr q)) = inr (inr (inr q))
 
 module _ {K V : Type 0} (eq : K → K → Bool) (m : Meaning K V) where
-  -- a transaction was open where its Close stands, and had no Close before it
+  -- a transaction was open when its Close came, and had no Close before it
   unclosed_before : (J before after : List (Told K V)) (n p t : ℕ) → IsLawfulJournal eq m J → J ≡ before ++ (Close n t ∷ after) → Has before (Close p t) → ⊥
   unclosed_before J before after n p t l e h =
       let whole : before ++ (Close n t ∷ after) ≡ (before ++ Close n t ∷ []) ++ after = sym (append_assoc before (Close n t ∷ []) after) in

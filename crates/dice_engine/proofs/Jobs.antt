@@ -43,7 +43,7 @@ module _ {K V : Type 0} (eq : K → K → Bool) (m : Meaning K V) (veq : V → V
   name_of_job : (c : CoreSeen K V) (j : Assigned K V) → IsJobOut eq c j → IsNameOut eq c j.name
   name_of_job c j o = (j, o, refl)
 
-  -- from what the core says of a step that it was given: it is handed back where it is stale
+  -- from what the core says of a step that it was given: it is handed back if it is stale
   pub given_step : (o : Option (Stepped K V)) (s : Stepped K V) (c d : CoreSeen K V) → IfSome o (λ x. (x ≡ s) × (IsJobOut eq c s.job → ⊥) × (d ≡ c))
       → IfNone o (Turned eq m s.job.name.version c.tables d.tables (λ ps qs. Gives eq s.job.name.version s ps qs c.desk d.desk))
       → IfNone o (Turned eq m s.job.name.version c.tables d.tables (λ ps qs. IsTakenUp eq m veq s.job.name.version s c.cells ps qs c.entries d.entries c.desk d.desk s.outcome))
@@ -59,7 +59,7 @@ module _ {K V : Type 0} (eq : K → K → Bool) (m : Meaning K V) (veq : V → V
       by_case (gives_up g) = lost (record { was = out; refused = b; as_before = before; given_up = g })
       by_case (not_out none same) = absurd (none (name_of_job b s.job (before.tasks s.job.name.version s.job.name.key ∙ out)))
 
-  -- where a step was taken, its job is out no more
+  -- if a step was taken, its job is out no more
   taken_home : (s : Stepped K V) (c d : CoreSeen K V) → Turned eq m s.job.name.version c.tables d.tables (λ ps qs. Gives eq s.job.name.version s ps qs c.desk d.desk) → IsJobOut eq d s.job → ⊥
   taken_home s c d t out =
       let v = s.job.name.version in

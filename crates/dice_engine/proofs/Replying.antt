@@ -16,7 +16,7 @@ use Rattle.dice_engine.specs.Replies.{Reply, TheCycle, NoRoom, Tells, IsLiveIn, 
 use Rattle.std.proofs.lemmas.List.{nil_from_length}
 
 module _ {K V : Type 0} where
-  -- where a transaction is open an injected key has its value
+  -- if a transaction is open an injected key has its value
   pub injected_value : (q : Kind) (n : ℕ) (x : V) (o : Came K V) → q ≡ Injected → 0 < n → injected_to q n x o ≡ ToValue x
   injected_value q n x o e some = ap (λ k. injected_to k n x o) e ∙ by_count n some
     where

@@ -60,7 +60,7 @@ module _ {K V : Type 0} (eq : K → K → Bool) (m : Meaning K V) where
   pub grows_by_tasks : (n w z : ℕ) (J I : List (Told K V)) (P : List (Told K V) → List (Told K V) → Type 0) → (a : Adds eq m z J I P) → a.own ≡ [] → Grows event_by n w J I
   grows_by_tasks n w z J I P a none = (a.work, a.journal ∙ ap (λ l. J ++ (l ++ a.work)) none, tasks_are_own n w a.of_tasks.0 a.work a.of_tasks.1)
 
-  -- where no event of its own is added, it does not matter whose turn it is
+  -- if no event of its own is added, it does not matter whose turn it is
   pub of_any : (n z : ℕ) (J I : List (Told K V)) (P : List (Told K V) → List (Told K V) → Type 0) → (a : Adds eq m z J I P) → a.own ≡ [] → Adds eq m n J I P
   of_any n z J I P a none = record {
     own = a.own;

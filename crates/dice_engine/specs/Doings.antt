@@ -45,7 +45,7 @@ module _ {K V : Type 0} (eq : K → K → Bool) (m : Meaning K V) where
   FindsNothing old new = TurnOver old new (GoesOut eq None)
 
 module _ {U K V R : Type 0} (eq : K → K → Bool) (m : Meaning K V) (p : Promise U K V R) where
-  -- a turn that changed nothing; and where the promise's ask is live, the reply is what its key has
+  -- a turn that changed nothing; and if the promise's ask is live, the reply is what its key has
   -- come to in the core
   abbrev pub TellsOfCore : Reply K V → SeatView (Told K V) → SeatView (Told K V) → Type 0
   TellsOfCore r old new = TurnOver eq m old new (λ c d. (d ≡ c)
@@ -57,7 +57,7 @@ module _ {K V : Type 0} (eq : K → K → Bool) (m : Meaning K V) (veq : V → V
       → Type 0
   TakesIn came old new = TurnOver eq m old new (ComesHome eq m veq came)
 
-  -- a job is done: in one turn it goes out, whose task was ready; in the next one what came of it
+  -- a job whose task was ready is done: in one turn it goes out; in the next one what came of it
   -- outside comes home; and it is out no more in the core that this one leaves
   pub record DoesJob (old new : SeatView (Told K V)) : Type 0 where
     pub mid : SeatView (Told K V)
@@ -75,7 +75,7 @@ module _ {K V : Type 0} (eq : K → K → Bool) (m : Meaning K V) (veq : V → V
     does : {mid new : SeatView (Told K V)} → WaitsOn old mid → DoesJob mid new → WaitsOn old new
 
 module _ {U K V R : Type 0} (eq : K → K → Bool) (m : Meaning K V) (veq : V → V → Bool) where
-  -- and then one look more, in which what the promise settles to is told
+  -- and then one look more, which tells what the promise settles to
   pub record WaitsFor (p : Promise U K V R) (r : Result (Settled U K V R) NoMemory)
       (old new : SeatView (Told K V)) : Type 0 where
     pub mid : SeatView (Told K V)

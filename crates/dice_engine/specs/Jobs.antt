@@ -7,7 +7,7 @@ use Rattle.dice_core.specs.Cores.{CoreSeen, Turned, IsAsBefore, IsJobOut, IsName
 use Rattle.dice_core.specs.Givings.{GivesStep, DoesStep}
 
 module _ {K V : Type 0} (eq : K → K → Bool) where
-  -- a job that was ready goes out, and nothing else is another; or none was, and nothing changes
+  -- a job that was ready goes out, and nothing else changes; or none was, and nothing changes
   abbrev pub GoesOut : Option (Assigned K V) → CoreSeen K V → CoreSeen K V → Type 0
   GoesOut None c d = (c.desk.ready ≡ []) × (d ≡ c)
   GoesOut (Some j) c d = TakesOut eq j c d
@@ -51,7 +51,7 @@ module _ {K V : Type 0} (eq : K → K → Bool) (m : Meaning K V) (veq : V → V
     stale : (IsJobOut eq c s.job → ⊥) → d ≡ c → TakesUpStep s c d
     lost : IsStepLost s c d → TakesUpStep s c d
 
-  -- what came of a job comes home: its step is taken up; or its name alone, where there was no
+  -- what came of a job comes home: its step is taken up; or its name alone, if there was no
   -- memory for the work; and the job is out no more
   abbrev pub ComesHome : Result (Stepped K V) (Name K) → CoreSeen K V → CoreSeen K V → Type 0
   ComesHome (Ok s) c d = TakesUpStep s c d × (IsJobOut eq d s.job → ⊥)

@@ -8,7 +8,7 @@ use Rattle.journal.specs.Tell.{told}
 use Rattle.journal.specs.Texts.{IsLine}
 
 module _ {K V : Type 0} (m : Meaning K V) where
-  -- the texts are the lines of the journal's events: one an event, in order
+  -- the texts are the lines of the journal's events: one for each event, in order
   abbrev pub AreLines : List (Told K V) → List (List ℕ) → Type 0
   AreLines J texts = AllZip (IsLine m) J texts
 

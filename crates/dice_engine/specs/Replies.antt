@@ -44,8 +44,8 @@ module _ {U K V R : Type 0} where
   settled_of (Ok a) = settled_to a
   settled_of (Err e) = NoRoom
 
--- what a key has come to in the core is told; of memory there may be none where something is told, and is none where the key was
--- given up for want of memory
+-- what a key has come to in the core is told; memory may be refused if a value or a cycle is told, and it is refused if the key was
+-- given up since no memory was left
 module _ {K V : Type 0} where
   abbrev pub Tells : Came K V → Reply K V → Type 0
   Tells (ToValue x) r = (r ≡ TheValue x) ⊎ (r ≡ NoRoom)
@@ -71,7 +71,7 @@ module _ {K V : Type 0} (eq : K → K → Bool) (m : Meaning K V) (J : List (Tol
   abbrev pub IsValued : Type 0
   IsValued = (m.kind k ≡ Injected) ⊎ (decision ≡ Some ByValue)
 
-  -- memory may be wanted: for the answer, where the key is injected or decided; or it was, and the key was given up
+  -- memory may be refused: for the answer, if the key is injected or decided; or it was refused before, and the key was given up
   abbrev pub MayRefuse : Type 0
   MayRefuse = (m.kind k ≡ Injected) ⊎ ((d : Decision) × (decision ≡ Some d)) ⊎ (lost_in_epoch eq (reverse J) v k ≡ true)
 

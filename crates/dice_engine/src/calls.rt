@@ -52,7 +52,7 @@ impl<U: Universe> Engine<U> {
         result
     }
 
-    /// Opens a transaction at the newest version. Where memory is refused nothing is added.
+    /// Opens a transaction at the newest version. If memory is refused nothing is added.
     pub fn open<R: Wait>(&self, rt: &R, seat: &mut Seat<U>) -> Result<Transaction, NoMemory>
         requires seat { IsSeatOf self.now seat.old × IsWriter seat.old }
         ensures ok { IfOk result (λ t. Turn U.Key.eq U.meaning seat.old seat.new (λ found own work. Opens seat.old.number found own work × (t.version ≡ newest_in found) × (t.opened ≡ length found))) }
@@ -81,7 +81,7 @@ impl<U: Universe> Engine<U> {
         self.stile.leave(turn);
     }
 
-    /// Asks for a key in a transaction. Where memory is refused nothing is added.
+    /// Asks for a key in a transaction. If memory is refused nothing is added.
     pub fn ask<R: Wait>(
         &self,
         rt: &R,
@@ -105,7 +105,7 @@ impl<U: Universe> Engine<U> {
         promise
     }
 
-    /// Leaves an ask, and drops the tasks that nobody asks for any more; where its transaction was closed, nothing. It takes no memory.
+    /// Leaves an ask, and drops the tasks that nobody asks for any more; if its transaction was closed, nothing. It takes no memory.
     pub fn leave<R: Wait>(&self, rt: &R, seat: &mut Seat<U>, promise: Promise<U>)
         requires seat { IsSeatOf self.now seat.old × IsWriter seat.old }
         requires ask { HasAsk seat.old promise.ask promise.opened promise.version (arc_value promise.key) }
@@ -118,8 +118,8 @@ impl<U: Universe> Engine<U> {
         self.stile.leave(turn);
     }
 
-    /// What a promise has come to. It adds nothing. Memory is wanted for an answer alone; and for a task that was given up for want
-    /// of it, none is told for good.
+    /// What a promise has come to. It adds nothing. It takes memory for an answer alone. Of a task that was given up since no memory
+    /// was left, it answers `NoMemory` for good.
     pub fn poll<R: Wait>(
         &self,
         rt: &R,
@@ -140,7 +140,7 @@ impl<U: Universe> Engine<U> {
         answer
     }
 
-    /// The lines of the journal, one an event, in order. It adds nothing, and takes as long as the journal and its lines are.
+    /// The lines of the journal, one for each event, in order. It adds nothing, and takes as long as the journal and its lines are.
     pub fn log<R: Wait>(
         &self,
         rt: &R,

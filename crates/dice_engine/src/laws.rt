@@ -35,7 +35,7 @@ pub fn conditions_stay<U: Universe>()
     ensures left { (i : ℕ) (xs ys : List (Told U.Key U.Value)) → NotLeft i xs → NotLeft i ys → NotLeft i (xs ++ ys) }
 {}
 
-/// In what a seat has seen after a turn, its own transactions that it has not closed are open, and its own asks that it has not left,
+/// In what a seat has seen after a turn, its own transactions that it has not closed are open; and its own asks that it has not left,
 /// in transactions that it has not closed, are live.
 pub fn own_asks_are_live<U: Universe>()
     ensures open { (s : SeatView (Told U.Key U.Value)) (t v : ℕ) → IsLawfulJournal U.Key.eq U.meaning s.seen → events_by event_by s.number s.seen ≡ s.mine → HasOpen s t v → open_at (reverse s.seen) t ≡ Some (record { by = s.number; version = v }) }
@@ -51,7 +51,7 @@ pub fn decisions_stay<U: Universe>()
     laws_of::<U>();
 }
 
-/// A transaction is closed once; and how a key was decided when a seat closed its transaction, it was decided before the Close, in
+/// A transaction is closed once; and as a key was decided when a seat closed its transaction, so it was decided before the Close, in
 /// each lawful journal that begins with what the seat saw then.
 pub fn decided_when_closed<U: Universe>()
     ensures once { (J before after front back : List (Told U.Key U.Value)) (n p t : ℕ) → IsLawfulJournal U.Key.eq U.meaning J → J ≡ before ++ (Close n t ∷ after) → J ≡ front ++ (Close p t ∷ back) → front ≡ before }
@@ -60,14 +60,14 @@ pub fn decided_when_closed<U: Universe>()
     laws_of::<U>();
 }
 
-/// Where there is one writer, every event that tells a number tells 0, and the commits are those of the seat with this number.
+/// If there is one writer, every event that tells a number tells 0, and the commits are those of the seat with this number.
 pub fn one_writer_knows_all<U: Universe>()
     ensures by { (J : List (Told U.Key U.Value)) (e : Told U.Key U.Value) (n : ℕ) → AllBelow event_by 1 J → Has J e → event_by e ≡ Some n → event_by e ≡ Some 0 }
     ensures log { (J : List (Told U.Key U.Value)) → AllBelow event_by 1 J → log_of (events_by event_by 0 J) ≡ log_of J }
 {}
 
-/// What a reply must be: of a live ask whose key is injected or was decided to have a value, that value or want of memory; of one
-/// whose key was found to reach a cycle, a cycle or want of memory.
+/// What a reply must be: of a live ask whose key is injected or was decided to have a value, that value or `NoMemory`; of one
+/// whose key was found to reach a cycle, a cycle or `NoMemory`.
 pub fn replies_are_exact<U: Universe>()
     ensures value { (J : List (Told U.Key U.Value)) (v : ℕ) (k : U.Key) (ask : ℕ) (left : ℕ × ℕ × ℕ) (r : Reply U.Key U.Value) → IsReply U.Key.eq U.meaning J v k ask left r → IsLiveIn J ask → IsValued U.Key.eq U.meaning J v k → ((x : U.Value) × (r ≡ TheValue x)) ⊎ (r ≡ NoRoom) }
     ensures cycle { (J : List (Told U.Key U.Value)) (v : ℕ) (k : U.Key) (ask : ℕ) (left : ℕ × ℕ × ℕ) (r : Reply U.Key U.Value) → IsReply U.Key.eq U.meaning J v k ask left r → IsLiveIn J ask → U.meaning.kind k ≢ Injected → decided U.Key.eq (reverse J) v k ≡ Some ByCycle → ((p : List U.Key) × (r ≡ TheCycle p)) ⊎ (r ≡ NoRoom) }

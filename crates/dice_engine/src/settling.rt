@@ -27,7 +27,7 @@ pub fn pending_is_exact<U: Universe>(promise: &Promise<U>)
     let _ = promise;
 }
 
-/// By a Close or a Leave, and by the drops after it, no key is decided and none is lost; and who asks then asked before.
+/// By a Close or a Leave, and by the drops after it, no key is decided and none is lost; and whoever asks then asked before.
 pub fn leaving_decides_nothing<U: Universe>()
     ensures close { (J I own work : List (Told U.Key U.Value)) (n t v : ℕ) → Closes n t v own work → I ≡ J ++ (own ++ work) → DecidesNothing U.Key.eq J I }
     ensures leave { (J I own work : List (Told U.Key U.Value)) (n ask t v : ℕ) → Leaves n ask t v J own work → I ≡ J ++ (own ++ work) → DecidesNothing U.Key.eq J I }

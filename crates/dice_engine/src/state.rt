@@ -167,7 +167,7 @@ impl<U: Universe> State<U> {
         })
     }
 
-    /// Leaves an ask, where its transaction is still open.
+    /// Leaves an ask, if its transaction is still open.
     pub(crate) fn leave(&mut self, promise: Promise<U>)
         requires open { IsLawfulJournal U.Key.eq U.meaning (events_of self.old.core.value) → (o : Opened) → open_at (reverse (events_of self.old.core.value)) promise.opened ≡ Some o → (a : Asking U.Key) × (live_at (reverse (events_of self.old.core.value)) promise.ask ≡ Some a) × (a.opened ≡ promise.opened) × (o.version ≡ promise.version) }
         requires closed { IsLawfulJournal U.Key.eq U.meaning (events_of self.old.core.value) → (a : Asking U.Key) → live_at (reverse (events_of self.old.core.value)) promise.ask ≡ Some a → (a.opened ≡ promise.opened) × ((o : Opened) × (open_at (reverse (events_of self.old.core.value)) promise.opened ≡ Some o)) }
@@ -188,7 +188,7 @@ impl<U: Universe> State<U> {
         requires { IsLawfulJournal U.Key.eq U.meaning (events_of self.now.core.value) → (a : Asking U.Key) → live_at (reverse (events_of self.now.core.value)) promise.now.ask ≡ Some a → (a.opened ≡ promise.now.opened) × (a.key ≡ arc_value promise.now.key) × ((o : Opened) → open_at (reverse (events_of self.now.core.value)) a.opened ≡ Some o → o.version ≡ promise.now.version) }
         ensures reply { IsReply U.Key.eq U.meaning (events_of self.now.core.value) promise.now.version (arc_value promise.now.key) promise.now.ask (left_of self.now.core.value) (reply_of result) }
 
-        // Where the ask is live, what is answered is what the core has come to.
+        // If the ask is live, what is answered is what the core has come to.
         ensures exact { IsLiveIn (events_of self.now.core.value) promise.now.ask → Tells (poll_of U.Key.eq U.meaning self.now.core.value promise.now.version (arc_value promise.now.key)) (reply_of result) }
         ensures lawful { IsLawfulJournal U.Key.eq U.meaning (events_of self.now.core.value) }
         ensures rests { RestsByJournal U.Key.eq U.meaning self.now.core.value }
@@ -201,7 +201,7 @@ impl<U: Universe> State<U> {
         answer_of(core.poll(promise.version, &promise.key))
     }
 
-    /// The lines of the journal, one an event, in order.
+    /// The lines of the journal, one for each event, in order.
     pub(crate) fn lines(&self, alloc: Global, universe: &U) -> Result<Vec<Line>, NoMemory>
         ensures lines { IfOk result (λ ls. AreLines U.meaning (events_of self.now.core.value) ls.items) }
         ensures lawful { IsLawfulJournal U.Key.eq U.meaning (events_of self.now.core.value) }
@@ -235,7 +235,7 @@ impl<U: Universe> State<U> {
         events_since(alloc, core.journal(), start)
     }
 
-    /// Takes the job of a task that is ready; it is out then, and nothing else is another. `None` exactly where no task is ready.
+    /// Takes the job of a task that is ready; it is out then, and nothing else changes. `None` exactly if no task is ready.
     pub(crate) fn take_job(&mut self) -> Option<Job<U>>
         ensures adds { Adds U.Key.eq U.meaning 0 (events_of self.old.core.value) (events_of self.new.core.value) AddsNothing }
         ensures goes { GoesOut U.Key.eq result self.old.core.value self.new.core.value }
@@ -251,7 +251,7 @@ impl<U: Universe> State<U> {
         job
     }
 
-    /// Takes up what came of a job that was taken here: a step, or the name of the job, where there was no memory for it. The job is
+    /// Takes up what came of a job that was taken here: a step, or the name of the job, if there was no memory for it. The job is
     /// out no more then.
     pub(crate) fn take_up(&mut self, came: Result<Step<U>, JobName<U>>)
         requires { IfOk came (λ s. AnsweredTruly U.Key.eq U.meaning (log_of (events_of self.old.core.value)) s.job) }
@@ -267,7 +267,7 @@ impl<U: Universe> State<U> {
     }
 }
 
-/// Asks for a key, of which the caller keeps the reference.
+/// Asks for a key; the caller keeps its reference to it.
 fn ask_again<U: Universe>(
     core: &mut Core<U>,
     by: u64,
@@ -321,7 +321,7 @@ fn give<U: Universe>(core: &mut Core<U>, step: Step<U>)
     }
 }
 
-/// Gives up the job of this name, where it is out; else nothing changes.
+/// Gives up the job of this name, if it is out; otherwise nothing changes.
 fn fail<U: Universe>(core: &mut Core<U>, name: &JobName<U>)
     ensures works { WorksOn (events_of core.old) (events_of core.new) }
     ensures gives_up { GivesUpJob U.Key.eq U.meaning name.now core.old core.new }

@@ -21,7 +21,7 @@ use dice_key::{NoMemory, Universe};
 use std::sync::Wait;
 
 impl<U: Universe> Engine<U> {
-    /// Does one job, where a task is ready: it is taken in one turn, done outside, and given in another one. Where there is no memory
+    /// Does one job, if a task is ready: it is taken in one turn, done outside, and given in another one. If there is no memory
     /// for it, it is given up.
     pub fn work<R: Wait, G: Gate>(
         &self,
@@ -78,7 +78,7 @@ impl<U: Universe> Engine<U> {
         self.stile.leave(turn);
     }
 
-    /// Waits until a promise has come to something, and does jobs meanwhile. It owes no return: jobs that others have taken have to
+    /// Waits until a promise has come to something, and does jobs meanwhile. It need not return: jobs that others have taken have to
     /// be given.
     pub fn wait<R: Wait, G: Gate>(
         &self,
@@ -111,7 +111,7 @@ impl<U: Universe> Engine<U> {
     }
 }
 
-/// What a promise has come to, where it is not pending.
+/// What a promise has come to, if it is not pending.
 fn settled<U: Universe>(answer: Result<Answer<U>, NoMemory>) -> Option<Result<Settled<U>, NoMemory>>
     ensures { IfSome result (λ s. settled_of s ≡ reply_of answer) }
 {

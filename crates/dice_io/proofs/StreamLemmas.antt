@@ -53,7 +53,8 @@ at_end (Some xs) rest a e = sym (same_Some _ _ e) ∙ a
 none_of_none : (got rest all : List ℕ) → length got ≡ 0 → rest ≡ [] → all ≡ got ++ rest → all ≡ []
 none_of_none got rest all g r e = grind (arith, common_steps)
 
--- a buffer that was made longer, then filled from `start` on, where it had ended, then cut behind the n bytes that were read
+-- a buffer that was made longer, then filled from `start` on, where it had ended, then cut after
+-- the n bytes that were read
 pub reads_from : (left left' : Option (List ℕ)) (into grown filled into' : List ℕ) (start most n : ℕ) → n ≤ most
     → take start grown ≡ into → take start filled ≡ take start grown → start < length filled → start + n ≤ length filled
     → Consumes left left' (take n (drop start filled)) × (n ≡ 0 → 0 < length (drop start filled) → IsAtEnd left') → into' ≡ take (start + n) filled → Reads left left' into into' most n

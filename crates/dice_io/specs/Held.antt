@@ -2,7 +2,8 @@
 use Rattle.std.specs.Prelude.{◌==◌, ℕ, Bool, List, Option, Some, None, if◌then◌else◌}
 use Rattle.std.specs.List.{list_any}
 
--- a sink that never fails: the bytes that it kept, the room for them, and whether none went beyond it
+-- a sink that never fails: the bytes that it kept, the room for them, and whether none went beyond
+-- it
 pub record Sure : Type 0 where
   pub bytes : List ℕ
   pub room : ℕ
@@ -12,8 +13,8 @@ pub record Sure : Type 0 where
 abbrev pub told : Sure → Option (List ℕ)
 told s = if s.is_whole then Some s.bytes else None
 
--- a source that fails at the calls whose numbers stand in `fails`: the bytes that are left, the most bytes of one call, and how
--- many calls and faults there were
+-- a source that fails at the calls whose numbers stand in `fails`: the bytes that are left, the
+-- most bytes of one call, and how many calls and faults there were
 pub record Feed : Type 0 where
   pub left : List ℕ
   pub piece : ℕ

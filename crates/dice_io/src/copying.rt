@@ -8,11 +8,11 @@ use std::alloc::Global;
 /// The most bytes that one call asks a source for.
 const PIECE: usize = 65_536;
 
-/// Reads to the end of the input, or `limit` bytes where it is longer.
+/// Reads to the end of the input, or `limit` bytes if it is longer.
 ///
 /// Each call asks for the smaller of 65,536 bytes and what is left to the limit. At an error the
-/// bytes that were read are lost: of a source that tells its bytes they are a beginning of what was
-/// left, at most `limit` of them. The source counts no fault but where `Failed` is answered.
+/// bytes that were read are lost. If the source tells its bytes, they are a beginning of what was
+/// left, at most `limit` of them. The source counts a fault only if `Failed` is answered.
 pub fn read_all<S: Source>(alloc: Global, source: &mut S, limit: usize) -> Result<Vec<u8>, ReadFail>
     ensures read { IfOk result
         (λ bytes. ReadTo (S.left source.old) (S.left source.new) bytes.items limit) }
@@ -37,7 +37,7 @@ pub fn read_all<S: Source>(alloc: Global, source: &mut S, limit: usize) -> Resul
 /// Writes all of the bytes; it takes no memory.
 ///
 /// Each call hands the sink the whole rest. At an error the sink has gained a beginning of the
-/// bytes. It counts no fault but at an error.
+/// bytes. It counts a fault only at an error.
 pub fn write_all<K: Sink>(sink: &mut K, bytes: &[u8]) -> Result<(), Failed>
     ensures whole { OnOk result (Gained (K.taken sink.old) (K.taken sink.new) bytes.now) }
     ensures part { OnErr result (GainedPart (K.taken sink.old) (K.taken sink.new) bytes.now) }

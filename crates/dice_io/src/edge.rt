@@ -80,15 +80,15 @@ impl Error for Failed {}
 /// counts its faults: a call that answers `Failed` counts one, up to the greatest number that the
 /// count can hold, and no other call counts any.
 pub trait Source {
-    /// The bytes that are left, where they are told.
+    /// The bytes that are left, if they are told.
     ghost left: { Self → Option (List ℕ) };
 
     /// How many faults there were.
     ghost faults: { Self → ℕ };
 
     /// Reads at most `most` bytes to the end of `into`, and says how many. A source that tells its
-    /// bytes before the call tells them after it, and answers 0 only where none are left. At an
-    /// error nothing is appended, and of bytes that are told none is used up.
+    /// bytes before the call tells them after it, and answers 0 only if none are left. At an error
+    /// nothing is appended; if the bytes are told, none is used up.
     fn read(&mut self, into: &mut Vec<u8>, most: usize) -> Result<usize, ReadFail>
         requires { 1 ≤ most }
         ensures reads { IfOk result
@@ -108,15 +108,15 @@ pub trait Source {
 /// its faults: a call that fails counts one, up to the greatest number that the count can hold, and
 /// no other call counts any.
 pub trait Sink {
-    /// The bytes that were taken, where they are told.
+    /// The bytes that were taken, if they are told.
     ghost taken: { Self → Option (List ℕ) };
 
     /// How many faults there were.
     ghost faults: { Self → ℕ };
 
-    /// Takes some of the bytes from the front, and says how many; of a piece that is not empty at
-    /// least one. A sink that tells its bytes after the call told them before it. At an error a
-    /// sink that tells its bytes took none.
+    /// Takes some of the bytes from the front, and says how many: at least one, if the piece is not
+    /// empty. A sink that tells its bytes after the call told them before it. At an error a sink
+    /// that tells its bytes took none.
     fn write(&mut self, bytes: &[u8]) -> Result<usize, Failed>
         ensures takes { IfOk result (λ n. Takes (taken self.old) (taken self.new) bytes.now n) }
         ensures some { IfOk result (λ n. 0 < length bytes.now → 0 < n) }

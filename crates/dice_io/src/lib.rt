@@ -1,5 +1,6 @@
-//! Where the bytes of a run come from and go to: the traits of a source and a sink, those in memory
-//! and those of the process, and the two loops that read a whole input and write a whole output.
+//! Where the bytes of a run come from and go to. There are the traits of a source and a sink, those
+//! in memory and those of the process, and two loops: one reads a whole input, and one writes a
+//! whole output.
 #![tactic(auto)]
 
 mod copying;

@@ -9,7 +9,7 @@ use crate::sure::SureSource;
 use std::alloc::Global;
 use std::marker::Model;
 
-/// Bytes in memory, of which each call reads at most a piece, and the calls with chosen numbers
+/// Bytes in memory. Each call reads at most a piece of them, and the calls with chosen numbers
 /// fail.
 pub struct MemorySource {
     bytes: SureSource,
@@ -111,7 +111,7 @@ impl Source for MemorySource {
 }
 
 /// Keeps what it takes, at most a piece a call, in room that is made ahead. The calls with chosen
-/// numbers fail, and so does each call with a byte where no room is left.
+/// numbers fail, and so does each call with a byte if no room is left.
 pub struct MemorySink {
     bytes: Vec<u8>,
     room: usize,
@@ -213,8 +213,8 @@ impl Sink for MemorySink {
         ensures counted { self.old.faults ≤ self.new.faults }
         ensures steady { OnOk result (self.new.faults ≡ self.old.faults) }
         ensures failed { IsErr result → self.new.faults ≡ one_more self.old.faults }
-        // It fails exactly at the calls that it was given and where no room is left, and moves as
-        // much as it may.
+        // It fails exactly at the calls that it was given and if no room is left for a byte, and
+        // moves as much as it may.
         ensures chosen { is_err result
             ≡ (is_among self.old.calls self.old.fails
             || (nat_lt 0 (length bytes.now) && (length self.old.taken == self.old.room))) }

@@ -53,7 +53,7 @@ impl<R: Input> Source for RealSource<R> {
     }
 }
 
-// One read into what stands behind `start`. Where the bytes that the reader has left are known, it
+// One read into what stands from `start` on. If the bytes that the reader has left are known, it
 // loses those that were read.
 fn read_behind<R: Read>(reader: &mut R, bytes: &mut [u8], start: usize) -> io::Result<usize>
     requires { start < length bytes.old }
@@ -94,7 +94,7 @@ impl<P: Print> Sink for RealSink<'_, P> {
     }
 }
 
-// One write of bytes from the front, which counts its fault. Where the bytes that the writer holds
+// One write of bytes from the front, which counts its fault. If the bytes that the writer holds
 // are known, they gain those that were written.
 fn write_once<W: Write>(out: &mut W, bytes: &[u8], faults: &mut u64) -> Result<usize, Failed>
     ensures few { IfOk result (λ n. n ≤ length bytes.now) }

@@ -91,7 +91,7 @@ impl SureSink {
         })
     }
 
-    /// All that was taken; `None` where bytes went beyond the room.
+    /// All that was taken; `None` if bytes went beyond the room.
     pub fn bytes(&self) -> Option<&[u8]>
         ensures { option_copied result ≡ told self.now }
     {

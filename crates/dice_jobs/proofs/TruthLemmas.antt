@@ -46,7 +46,7 @@ module _ {K V : Type 0} (eq : K → K → Bool) (m : Meaning K V) (law : IsLawfu
       subst (λ B. Follows T (B ++ record { keys = ks; values = xs } ∷ [])) (sym s) (subst (λ js. Follows T (n.before ++ record { keys = js; values = xs } ∷ [])) (sym n.keys_are) p)
 
   module _ (veq : V → V → Bool) (n : Name K) where
-    -- where keys are wanted, the job's answers are what the key asks, and it asks those keys next
+    -- if keys are wanted, the job's answers are what the key asks, and it asks those keys next
     goes_on : (W : Work K V) (A : List (Answered K V)) (o : Outcome K V) (ks : List K) → AreAnswers eq m C n.key n.version W A → o ≡ comes m veq W n A → IsExplained W A o → o ≡ Wanting ks → Goes eq m C n.version n.key [] A × (m.next n.key A n.version ≡ Asks ks)
     goes_on Computes A o ks a e x w = (a, asked (m.next n.key A n.version) ks (sym e ∙ w))
     goes_on (Checks y T b) A o ks a e x w =

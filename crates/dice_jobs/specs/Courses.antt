@@ -58,7 +58,7 @@ module _ {U K V R : Type 0} (m : Meaning K V) (eq : V → V → Bool) (running :
   GoesWith a ks (Run r) = (a.work ≡ Computes) × (running r.value ≡ stand_of a) × (m.next a.name.key a.answered a.name.version ≡ Asks ks)
   GoesWith a ks (Check c) = HasTrace a.work c.value.trace × (c.value.fed ≡ values_of a.answered) × (finding eq c.value.trace c.value.fed ≡ Wants ks)
 
-  -- what the job goes on with is ready for it: where a run begins, which asks the batches that are answered; or when the answers to the batch last asked are at hand, which
+  -- what the job goes on with is ready for it: a run begins, and asks the batches that are answered; or the answers to the batch last asked are at hand, which
   -- are the last that the job was answered
   abbrev pub IsReady : Assigned K V → Ready U K V R → Type 0
   IsReady a ready.Begin = (a.work ≡ Computes) × (m.kind a.name.key ≢ Injected) × AsksThese m a.name.key a.name.version a.answered

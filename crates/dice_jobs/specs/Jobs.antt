@@ -1,4 +1,4 @@
--- What a job is for, and what a step reports, without where it lies in memory.
+-- What a job is for, and what a step reports, without their places in memory.
 use Rattle.std.specs.Prelude.{◌≡◌, ◌<◌, ℕ, Bool, List, [], ◌∷◌, ◌++◌, length, Option, Some, None}
 use Rattle.dice_key.specs.Meaning.{Meaning, Answered, Running, Step, Asks, Ends}
 use Rattle.dep_recorder.specs.Checks.{Finding, Wants, IsSame, HasChanged, finding, values_of, IsNextBatch, IsFirstChange}
@@ -65,7 +65,7 @@ module _ {K V : Type 0} where
   abbrev pub checking : Assigned K V → V → List (Answered K V) → ℕ → Assigned K V
   checking a x T b = record { name = a.name; answered = a.answered; work = Checks x T b }
 
-  -- the job that a step leaves waiting, where it wants keys
+  -- the job that a step leaves waiting, if it wants keys
   abbrev pub waiting_after : Assigned K V → Outcome K V → Option (Waits K V)
   waiting_after a (Wanting ks) = Some (record { job = a; keys = ks })
   waiting_after a (Valued x) = None
@@ -80,7 +80,7 @@ module _ {K V : Type 0} where
   Explains T fed Unchanged = fed ≡ values_of T
   Explains T fed (Changed d) = (x : V) × (y : V) × IsFirstChange T fed d x y
 
-  -- so it is where the work is a check
+  -- so it is if the work is a check
   abbrev pub IsExplained : Work K V → List (Answered K V) → Outcome K V → Type 0
   IsExplained Computes A o = Unit {0}
   IsExplained (Checks x T b) A o = Explains T (values_of A) o

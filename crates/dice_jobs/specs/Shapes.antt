@@ -8,12 +8,12 @@ use Rattle.dice_jobs.specs.declared.assignment.Earlier.{Earlier}
 use Rattle.dice_jobs.specs.declared.assignment.Progress.{Progress}
 use Rattle.dice_jobs.specs.declared.assignment.Progress.TheVariants as progress
 
--- the batches of a trace; none where there is no trace
+-- the batches of a trace; none if there is no trace
 abbrev pub batches_in : {K V A : Type 0} → Option (Arc (List (Answered K V)) A) → List (Answered K V)
 batches_in None = []
 batches_in (Some t) = arc_value t
 
--- where there is an earlier value, it is checked
+-- if there is an earlier value, it is checked
 abbrev pub work_of : {U K V R : Type 0} → Option (Earlier U K V R) → Work K V
 work_of None = Computes
 work_of (Some e) = Checks (arc_value e.value) (arc_value e.trace) e.base

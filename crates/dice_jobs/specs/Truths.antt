@@ -33,7 +33,7 @@ module _ {K V : Type 0} (eq : K → K → Bool) (m : Meaning K V) (C : List (Lis
     pub within : a.name.version ≤ length C
     pub answers : AreAnswers a.name.key a.name.version a.work a.answered
 
-  -- of the keys of T, in order, d is the first whose value at v is another than its answer
+  -- of the keys of T, in order, d is the first whose value at v is not its answer
   pub record ChangesFirst (v : ℕ) (T : List (Answered K V)) (d : K) : Type 0 where
     pub before : List (Answered K V)
     pub batch : Answered K V

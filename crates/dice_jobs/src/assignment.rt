@@ -122,7 +122,7 @@ impl<U: Universe> Assignment<U> {
         name
     }
 
-    /// The earlier value that is checked; `None` where the value is computed.
+    /// The earlier value that is checked; `None` if the value is computed.
     pub fn earlier(&self) -> Option<&Earlier<U>>
         ensures { work_of (option_copied result) ≡ self.now.work }
     {
@@ -139,7 +139,7 @@ impl<U: Universe> Assignment<U> {
         }
     }
 
-    /// The answered batches, where there are any.
+    /// The answered batches, if there are any.
     pub(crate) fn batches(&self) -> Option<&Arc<Trace<U>>>
         ensures { batches_in (option_copied result) ≡ self.now.answered }
     {
@@ -218,7 +218,7 @@ impl<U: Universe> Assignment<U> {
             && are_same_work(&self.progress, &other.progress)
     }
 
-    /// Whether the two have the same name and work, and are as far: of computations equally many batches are answered, of checks the
+    /// Whether the two have the same name and work, and are equally far: of computations equally many batches are answered, of checks the
     /// same ones. For computations it costs no more than a comparison of their keys.
     pub fn is_alike(&self, other: &Assignment<U>) -> bool
         ensures { IsTrue result ↔ AreAlike self.now other.now }
@@ -281,7 +281,7 @@ fn run_after<U: Universe>(progress: &Progress<U>) -> Result<Progress<U>, NoMemor
     }
 }
 
-/// The answered batches, where there are any.
+/// The answered batches, if there are any.
 fn answers_of<U: Universe>(progress: &Progress<U>) -> Option<&Arc<Trace<U>>>
     ensures { batches_in (option_copied result) ≡ answers_in progress.now }
 {
@@ -315,7 +315,7 @@ impl<U: Universe> Earlier<U> {
     }
 }
 
-/// The earlier value that is checked, where one is.
+/// The earlier value that is checked, if one is.
 fn earlier_of<U: Universe>(progress: &Progress<U>) -> Option<&Earlier<U>>
     ensures { work_of (option_copied result) ≡ work_in progress.now }
 {

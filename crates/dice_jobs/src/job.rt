@@ -113,7 +113,7 @@ impl<U: Universe> Job<U> {
         self.assignment.name()
     }
 
-    /// Does the work, up to the next batch that is wanted or to the end. Where memory is refused the job is given up, and its name
+    /// Does the work, up to the next batch that is wanted or to the end. If memory is refused the job is given up, and its name
     /// is handed back.
     ///
     /// It costs what the universe's move costs, or, for a check, a comparison of each answer.

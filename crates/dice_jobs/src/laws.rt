@@ -12,8 +12,8 @@ ghost use Rattle.lists.specs.Lists.{Has};
 
 use dice_key::{Universe, laws_of};
 
-/// A job whose answers are the values at its version stays so: at its beginning, over every log that goes on, when the keys that
-/// its step wants are answered with their values, and where a check that found a change goes on as a computation with the answers
+/// A job whose answers are the values at its version stays so: at its beginning; over every log that goes on; when the keys that
+/// its step wants are answered with their values; and when a check that found a change goes on as a computation with the answers
 /// that it has. Such a computation asks the batches that it was answered.
 pub fn jobs_stay_true<U: Universe>()
     ensures begun { (C : List (List (U.Key × U.Value))) (n : Name U.Key) → U.meaning.kind n.key ≢ Injected → n.version ≤ length C → IsTrueJob U.Key.eq U.meaning C (record { name = n; answered = []; work = Computes }) }
@@ -27,8 +27,8 @@ pub fn jobs_stay_true<U: Universe>()
 }
 
 /// What the step of such a job says of its key at its version: each key that it wants is asked there; a value that it has come to
-/// is the key's, by the trace of its answers; where a check finds all as it was, the value is the key's by the trace that was
-/// checked; and where it finds a change, it is the first.
+/// is the key's, by the trace of its answers; if a check finds all as it was, the value is the key's by the trace that was
+/// checked; and if it finds a change, it is the first.
 pub fn steps_tell_the_truth<U: Universe>()
     ensures asks { (C : List (List (U.Key × U.Value))) (a : Assigned U.Key U.Value) (s : Stepped U.Key U.Value) (ks : List U.Key) (j : U.Key) → IsTrueJob U.Key.eq U.meaning C a → IsStepOf U.meaning U.Value.eq s a → s.outcome ≡ Wanting ks → Has ks j → AsksFor U.Key.eq U.meaning C a.name.version a.name.key j }
     ensures value { (C : List (List (U.Key × U.Value))) (a : Assigned U.Key U.Value) (s : Stepped U.Key U.Value) (x : U.Value) → IsTrueJob U.Key.eq U.meaning C a → IsStepOf U.meaning U.Value.eq s a → s.outcome ≡ Valued x → (a.work ≡ Computes) × IsTrace U.Key.eq U.meaning C a.name.version a.name.key a.answered x }

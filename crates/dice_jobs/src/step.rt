@@ -77,7 +77,7 @@ impl<U: Universe> Step<U> {
         self.assignment.is_same(assignment)
     }
 
-    /// Whether its job is alike this assignment: of its name and work, and as far. For a computation it costs no more than a
+    /// Whether its job is like this assignment: of its name and work, and equally far. For a computation it costs no more than a
     /// comparison of their keys.
     pub fn is_like(&self, assignment: &Assignment<U>) -> bool
         ensures { IsTrue result ↔ AreAlike self.now.job assignment.now }
@@ -99,7 +99,7 @@ impl<U: Universe> Step<U> {
         }
     }
 
-    /// The job that waits, where it asks a batch; else `None`. It takes no memory.
+    /// The job that waits, if it asks a batch; otherwise `None`. It takes no memory.
     pub fn into_parked(self) -> Option<Parked<U>>
         ensures { result ≡ waiting_after self.job self.outcome }
     {

@@ -24,12 +24,13 @@ SameKeys {K} cmp = (x y : K) → cmp x y ≡ Equal → x ≡ y
 abbrev pub AreSame : {X : Type 0} → (X → X → Bool) → Type 0
 AreSame {X} eq = (x y : X) → eq x y ≡ true → x ≡ y
 
--- things are equal exactly where they are the same
+-- things are equal exactly if they are the same
 pub record IsEquality {X : Type 0} (eq : X → X → Bool) : Type 0 where
   pub same : AreSame eq
   pub itself : (x : X) → eq x x ≡ true
 
--- the moves of a universe end, depend on the version in a transient end alone, and those of a projection are its base and `project`
+-- the moves of a universe end, depend on the version only in a transient end, and those of a
+-- projection are its base and `project`
 pub record IsLawful {K V : Type 0} (m : Meaning K V) : Type 0 where
   pub ends : (k : K) (A : List (Answered K V)) (v : ℕ) → m.most k ≤ length A → (x : V) × (m.next k A v ≡ Ends x)
   pub asks_alike : (k : K) (A : List (Answered K V)) (v w : ℕ) (ks : List K) → m.next k A v ≡ Asks ks → m.next k A w ≡ Asks ks

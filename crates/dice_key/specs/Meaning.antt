@@ -1,4 +1,5 @@
--- What a universe means: moves, kinds and values, as functions that are the same for every value of its type.
+-- What a universe means: moves, kinds and values, as functions that are the same for every value of
+-- its type.
 use Rattle.std.specs.Prelude.{◌≡◌, ℕ, Bool, List, [], ◌∷◌, ◌++◌, length}
 use Rattle.dice_key.specs.declared.universe.Kind.{Kind}
 
@@ -12,9 +13,10 @@ pub data Step (K V : Type 0) : Type 0 where
   Asks : List K → Step K V
   Ends : V → Step K V
 
--- the calls of a universe, as functions: the kind of a key; the value of an injected key that was never set; the next move after
--- these answered batches at this version; the validity test, negated; a bound on the batches of a run; the base of a projection,
--- and its value from its base's; the text of a key, long or short
+-- the calls of a universe, as functions: the kind of a key; the value of an injected key that was
+-- never set; the next move after these answered batches at this version; the validity test,
+-- negated; a bound on the batches of a run; the base of a projection, and its value from its
+-- base's; the text of a key, long or short
 pub record Meaning (K V : Type 0) : Type 0 where
   pub kind : K → Kind
   pub absent : K → V

@@ -1,4 +1,5 @@
--- What equality and order say of the things that keys and values are made of: those that are equal, or compare equal, are the same.
+-- What equality and order say of the things that keys and values are made of: those that are equal,
+-- or compare equal, are the same.
 use Rattle.std.specs.Prelude.{◌≡◌, ℕ, Bool, true, false, nat_eq, Some, None, Ok, Err, refl}
 use Rattle.std.specs.Ordering.{nat_cmp, bool_cmp, ordering_then}
 use Rattle.std.specs.Option.{option_eq}

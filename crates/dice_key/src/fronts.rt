@@ -14,14 +14,14 @@ pub trait TypedKey<U: Universe> {
     /// The key of the universe.
     ghost wrapped: { Self → U.Key };
 
-    /// What a value holds, where it is of this kind.
+    /// What a value holds, if it is of this kind.
     ghost reads: { U.Value → Option Self.Out };
 
     /// The key of the universe that this one stands for.
     fn wrap(self) -> U::Key
         ensures { result ≡ wrapped self };
 
-    /// What the value holds; `None` exactly where it is of another kind.
+    /// What the value holds; `None` exactly if it is of another kind.
     fn read(value: &U::Value) -> Option<&Self::Out>
         ensures { option_copied result ≡ reads value.now };
 

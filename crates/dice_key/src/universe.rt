@@ -125,8 +125,8 @@ pub trait Universe: Send + Sync + Drop {
     fn print(&self, key: &Self::Key, short: bool) -> Result<Line, NoMemory>
         ensures { IfOk result (λ t. t ≡ meaning.text key.now short) };
 
-    /// Moves end, depend on the version in a transient end alone, and are those of a projection
-    /// where the key is one.
+    /// Moves end, depend on the version only in a transient end, and are those of a projection if
+    /// the key is one.
     ghost lawful: { IsLawful meaning };
 
     /// Keys that compare equal are the same. (So are keys that are equal, since `==` and the order

@@ -88,7 +88,7 @@ module _ {K V : Type 0} (f : K → Option V) where
       let r = mapped (λ ys. a.0 ∷ ys) (answers f ks) xs a.2 in
       elim h as (λ _. (y : V) × (f j ≡ Some y)) [ inl p ↦ (a.0, rw (sym p) a.1) | inr q ↦ answers_has ks r.0 j r.1 q ]
 
-  -- the answers of f are the ones that R allows, where R allows one
+  -- the answers of f are the ones that R allows, if R allows one
   pub answers_are : (R : K → V → Type 0) → ((k : K) (x y : V) → f k ≡ Some x → R k y → x ≡ y) → (ks : List K) (xs ys : List V) → answers f ks ≡ Some xs → AllZip R ks ys → xs ≡ ys
   answers_are R u [] xs [] e z = sym (same_Some _ _ e)
   answers_are R u [] xs (y ∷ ys) e z = absurd z

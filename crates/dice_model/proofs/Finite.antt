@@ -1,4 +1,4 @@
--- Where finitely many keys are reached, a key has a value or reaches a cycle.
+-- If finitely many keys are reached, a key has a value or reaches a cycle.
 use Rattle.std.proofs.Common.{◌≡◌, ◌≢◌, ◌≤◌, ◌<◌, ◌+◌, ◌⊎◌, inl, inr, ℕ, Bool, zero, suc, List, [], ◌∷◌, ◌++◌, length, Option, Some, None, refl, sym, ap, ◌∙◌, subst, arith, append_assoc, append-nil, length-append}
 use Rattle.std.specs.Option.{option_and_then}
 use Rattle.std.specs.List.{AllZip}

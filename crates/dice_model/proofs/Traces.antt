@@ -20,7 +20,7 @@ not_le zero b h = absurd (h (omega arith))
 not_le (suc a) zero h = omega arith
 not_le (suc a) (suc b) h = let r = not_le a b (λ l. h (omega arith)) in omega arith
 
--- where R is kept by each answer, so is it by all
+-- if R is kept by each answer, so is it by all
 pub zip_map : {A B : Type 0} (P Q : A → B → Type 0) (xs : List A) (ys : List B) → ((x : A) (y : B) → Has xs x → P x y → Q x y) → AllZip P xs ys → AllZip Q xs ys
 zip_map P Q [] [] f z = tt
 zip_map P Q [] (y ∷ ys) f z = z

@@ -14,7 +14,7 @@ by_kind Computed a b = b
 by_kind Projection a b = b
 
 module _ {K V : Type 0} where
-  -- a value for each key, where each has one
+  -- a value for each key, if each has one
   abbrev pub answers : (K → Option V) → List K → Option (List V)
   answers f [] = Some []
   answers f (k ∷ ks) = option_and_then (λ x. option_map (λ xs. x ∷ xs) (answers f ks)) (f k)
@@ -24,7 +24,7 @@ module _ {K V : Type 0} where
   on_step g (Asks ks) = g ks
   on_step g (Ends x) = Some x
 
-  -- the value that is reached from here where each batch is answered by f, within n batches
+  -- the value that is reached from here if each batch is answered by f, within n batches
   abbrev pub reached : (K → Option V) → (List (Answered K V) → Step K V) → ℕ → List (Answered K V) → Option V
   reached f next zero A = on_step (λ ks. None) (next A)
   reached f next (suc n) A = on_step (λ ks. option_and_then (λ xs. reached f next n (A ++ record { keys = ks; values = xs } ∷ [])) (answers f ks)) (next A)

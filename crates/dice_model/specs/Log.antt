@@ -9,14 +9,15 @@ use Rattle.dice_key.specs.Meaning.{Meaning}
 use Rattle.dice_key.specs.declared.universe.Kind.TheVariants.{Injected}
 use Rattle.lists.specs.Lists.{AreDistinct}
 
--- a log of commits, each a list of pairs of an injected key and its value; version v is what its first v commits make
+-- a log of commits, each a list of pairs of an injected key and its value; version v is what its
+-- first v commits make
 abbrev pub Log : Type 0 → Type 0 → Type 0
 Log K V = List (List (K × V))
 
 abbrev pub version_of : {K V : Type 0} → Log K V → ℕ → Log K V
 version_of C v = take v C
 
--- a pair, without where it lies in memory
+-- a pair, without its place in memory
 abbrev pub pair_of : {K V A B : Type 0} → Arc K A × Arc V B → K × V
 pair_of p = (arc_value p.0, arc_value p.1)
 
@@ -26,13 +27,14 @@ pairs_of ps = map pair_of ps
 abbrev pub commits_of : {K V A B C : Type 0} → List (Vec (Arc K A × Arc V B) C) → List (List (K × V))
 commits_of cs = map (λ c. pairs_of c.items) cs
 
--- the value in the last commit that has one, else x
+-- the value in the last commit that has one, otherwise x
 abbrev pub last_value_of : {K V : Type 0} → (K → Bool) → V → List (List (K × V)) → V
 last_value_of test x [] = x
 last_value_of test x (c ∷ cs) = last_value_of test (unwrap_or (lookup test c) x) cs
 
 module _ {K V : Type 0} (eq : K → K → Bool) (m : Meaning K V) where
-  -- the input of an injected key at version v: its value in the last of the first v commits that has one, else the absent one
+  -- the input of an injected key at version v: its value in the last of the first v commits that
+  -- has one, otherwise the absent one
   abbrev pub input : List (List (K × V)) → ℕ → K → V
   input C v k = last_value_of (eq k) (m.absent k) (version_of C v)
 

@@ -55,8 +55,8 @@ impl<U: Universe> Commits<U> {
         self.commits.len()
     }
 
-    /// The input at a version: the value in the last of its commits that has one, else the absent
-    /// one. It looks through all commits up to the version.
+    /// The input at a version: the value in the last of its commits that has one, otherwise the
+    /// absent one. It looks through all commits up to the version.
     #[tactic(auto, using(crate::proofs::Firsts::mapped_first))]
     pub fn input(&self, universe: &U, version: u64, key: &U::Key) -> Result<Arc<U::Value>, NoMemory>
         ensures { IfOk result
@@ -68,7 +68,7 @@ impl<U: Universe> Commits<U> {
     }
 }
 
-/// The value in the last commit that has one, else the absent one.
+/// The value in the last commit that has one, otherwise the absent one.
 fn last_value<'a, K: Eq, V>(
     commits: &'a [Vec<(Arc<K>, Arc<V>)>],
     key: &K,

@@ -9,7 +9,7 @@ use dice_key::{Answers, Batch, Kind, Move, NoMemory, Universe};
 use std::alloc::Global;
 use std::sync::Arc;
 
-/// The value of the key at the version, by evaluation from nothing; `None` where this depth is not
+/// The value of the key at the version, by evaluation from nothing; `None` if this depth is not
 /// enough. An injected key needs depth 1, another key one more than the keys that it asks. Nothing
 /// is kept, so the time is exponential in the depth.
 #[cycle(plain)]

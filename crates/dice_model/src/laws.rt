@@ -10,7 +10,7 @@ ghost use Rattle.lists.specs.Lists.{Has};
 
 use dice_key::{Universe, laws_of};
 
-/// The input of a key at a version is its value in the last commit by then that has one; where none
+/// The input of a key at a version is its value in the last commit by then that has one; if none
 /// has one, it is the absent value; one of the two is the case. The value of an injected key is its
 /// input.
 pub fn inputs_are_settled<U: Universe>()
@@ -28,7 +28,7 @@ pub fn inputs_are_settled<U: Universe>()
 }
 
 /// A key has at most one value; more depth keeps it; it is the same over each log that goes on from
-/// this one, for versions up to its length; a key that reaches a cycle has none; and where finitely
+/// this one, for versions up to its length; a key that reaches a cycle has none; and if finitely
 /// many keys are reached, a key has a value or reaches a cycle.
 pub fn values_are_settled<U: Universe>()
     ensures one { (C : List (List (U.Key × U.Value))) (v : ℕ) (k : U.Key) (x y : U.Value)

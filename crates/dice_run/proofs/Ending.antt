@@ -31,7 +31,7 @@ use Rattle.lists.proofs.Options.{none_some, some_same}
 
 -- ---- the lines
 
--- the driver stands behind some lines, and before the rest
+-- the driver stands after some lines, and before the rest
 pub record Going (id : TableId) (ls rest : List Line) (d : Driver) : Type 0 where
   pub plan : Plan
   pub past : Past

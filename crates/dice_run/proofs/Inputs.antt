@@ -15,7 +15,7 @@ read_whole left after bytes r h all l =
     let none : p.0 ≡ [] = elim p.3 as (λ _. p.0 ≡ []) [ inl e ↦ e | inr e ↦ absurd (omega arith) ] in
     (p.2 ∙ (ap (λ (x : List ℕ). bytes ++ x) none ∙ append-nil bytes), p.1 ∙ ap Some none)
 
--- a script is not refused, where it was read as far as scripts are
+-- a script is not refused, if it was read as far as scripts are
 pub not_refused : ((text : List ℕ) (ls : List Line) (n : ℕ) (w : Word) → IsScript text ls → IsFirstFault text n w → ⊥) → (left after : Option (List ℕ)) (text bytes out : List ℕ) (ls : List Line) → left ≡ Some text → IsScript text ls → ReadTo left after bytes 4194305 → Refuses bytes out → ⊥
 not_refused not_both left after text bytes out ls told s r f =
     let p = r text told in

@@ -394,7 +394,7 @@ module _ (id : TableId) (d e : Driver) (p : Plan) (past : Past) (q : List ℕ) (
       let b = waits_begin did in
       records_on ls rest (line.Wait q) d e p past r b.0 [] r.indices (λ J s. (refl, refl)) (b.1 ∙ sym (append-nil d.seat.mine)) (knows_waited r.indices did r.knows)
 
-  -- behind the last line
+  -- after the last line
   pub wait_at_end : (ls : List Line) → DidWait id q d e → Records ls [] d p past → Records ls [] e p waits
   wait_at_end ls did r =
       let b = waits_begin did in

@@ -445,7 +445,7 @@ module _ (id : TableId) (d : Driver) (p : Plan) (past : Past) (m : Matches id d 
   pub has_transaction : (t : List ℕ) → past.opened t ≡ Some true → HasTransaction d t
   has_transaction t k = (let x = m.known t k in record { transaction = x.0; held = x.1; has = (m.open_ t x.0 x.1).0 })
 
-  -- of a request that was not given up: it is live, where it is still to be answered
+  -- of a request that was not given up: it is live, if it is still to be answered
   may_wait_at : (q : List ℕ) (r : Planned) (f : Fate) → r.name ≡ q → f ≢ fate.Cancelled → IsAt d r f → MayWait d q
   may_wait_at q r fate.Pending n c i = λ x h.
       let s : i.pledge ≡ x = some_same (sym i.held ∙ (ap (pledge_of d) n ∙ h)) in
@@ -506,7 +506,7 @@ module _ (id : TableId) (ends : Ends) (d e : Driver) (p : Plan) (past : Past) (q
   not_cancelled : (r : Planned) → r.name ≡ q → (i : IsMade d past r) → i.asked.fate ≢ fate.Cancelled
   not_cancelled r n i c = alive (ap (fate_of past) (sym n) ∙ (ap (option_map (λ (b : Asked). b.fate)) i.made ∙ ap Some c))
 
-  -- what is made of it, where it is answered in e
+  -- what is made of it, if it is answered in e
   waits_made : (r : Planned) → r.name ≡ q → (i : IsMade d past r) → r.version ≤ length (log_in e.seat) → (pledge_of e r.name ≡ None) → IsTold e r → IsMade e waits r
   waits_made r n i h none told = record {
     asked = record { transaction = i.asked.transaction; fate = fate.Answered };

@@ -160,7 +160,7 @@ pub either_ours : {A E : Type 0} (id : TableId) (s u : Place) → IsOurs id s �
 either_ours id s u o (Ok a) P Q p q = later_ours id s u o p.later
 either_ours id s u o (Err e) P Q p q = later_ours id s u o q.later
 
--- ---- a refusal of distinct sources is want of memory
+-- ---- a refusal of distinct sources is `NoMemory`
 
 all_keys : (P : Key → Type 0) (ps : List (Key × Value)) → AllByRecursion (λ (p : Key × Value). P p.0) ps → AllByRecursion P (keys_of ps)
 all_keys P [] a = tt

@@ -10,7 +10,7 @@ use Rattle.action_digest.specs.Buck.{buck}
 use Rattle.action_digest.specs.Same.{key_equal, value_equal}
 use Rattle.lists.specs.Lists.{AreDistinct}
 
--- whether a pair's value is another than the newest
+-- whether a pair's value is not the newest one
 abbrev pub differs_from : List (List (Key × Value)) → Key × Value → Bool
 differs_from C q = not (value_equal (input key_equal buck C (length C) q.0) q.1)
 

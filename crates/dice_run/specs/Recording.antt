@@ -24,7 +24,7 @@ pub record WasDecided (J : Events) (transaction v : ℕ) (k : Key) : Type 0 wher
   pub open_ : NotClosed transaction earlier
   pub decided : IsDecidedIn earlier v k
 
--- the index of the request's transaction is known, and, where the request was answered, its key was decided
+-- the index of the request's transaction is known, and, if the request was answered, its key was decided
 pub record IsRecorded (J : Events) (n : Indices) (past : Past) (r : Planned) : Type 0 where
   pub transaction : ℕ
   pub opened : n.opened r.transaction ≡ Some transaction

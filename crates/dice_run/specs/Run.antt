@@ -26,7 +26,7 @@ code_of ScriptRefused = 5
 code_of NoMemory = 6
 
 -- the input is a script; what is left is an engine with the driver's seat, whose seen journal is one of the script; and what is written
--- is the script's output, with the trace of that journal behind it where it is asked for
+-- is the script's output, with the trace of that journal after it if it is asked for
 pub record Answers (trace : Bool) (input out : List ℕ) (k : Option Kept) : Type 0 where
   pub lines : List Line
   pub script : IsScript input lines
@@ -42,7 +42,7 @@ pub data Refuses (input : List ℕ) : List ℕ → Type 0 where
 abbrev pub IsWritten : Bool → List ℕ → List ℕ → Type 0
 IsWritten trace input out = ((k : Option Kept) × Answers trace input out k) ⊎ Refuses input out
 
--- the one line that the bulk script of n targets is summed up by, where its output is this text
+-- the one line that the bulk script of n targets is summed up by, if its output is this text
 abbrev pub summary : ℕ → List ℕ → List ℕ
 summary n text = line (codes "bulk " ++ decimal n ++ codes " requests " ++ decimal (requests n) ++ codes " output " ++ decimal (length text)
     ++ codes " digest " ++ encode_lower (sha256 text))
@@ -53,7 +53,7 @@ pub record Sums (n : ℕ) (out : List ℕ) (k : Option Kept) : Type 0 where
   pub answers : Answers false (bulk n) text k
   pub is : out ≡ summary n text
 
--- the source gave these bytes, which go to its end: so they are all that it told to be left, where it tells that
+-- the source gave these bytes, which go to its end: so they are all that it told to be left, if it tells that
 abbrev pub ReadWhole : Option (List ℕ) → Option (List ℕ) → List ℕ → Type 0
 ReadWhole left after read = (all : List ℕ) → left ≡ Some all → (all ≡ read) × (after ≡ Some [])
 

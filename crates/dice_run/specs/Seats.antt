@@ -50,7 +50,7 @@ Rests id s u = IsOurs id u × StartsWith u.seen s.seen × (u.mine ≡ s.mine)
 abbrev pub Commits : TableId → Place → Place → List (Key × Value) → Type 0
 Commits id s u ps = Goes id s u (event_of 0 (differing_from key_equal value_equal buck (log_in s) ps))
 
--- a transaction was opened, at the newest version; no earlier event has its index, and the own events before that are those of before
+-- a transaction was opened, at the newest version; no earlier event has its index, and the seat's own events before that are those of before
 pub record Opens (id : TableId) (s u : Place) (opened version : ℕ) : Type 0 where
   pub goes : Goes id s u (Open 0 version ∷ [])
   pub newest : version ≡ length (log_in s)

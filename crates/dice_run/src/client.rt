@@ -31,7 +31,7 @@ pub(crate) enum Came {
     Cycle(Arc<Path<Key>>),
 }
 
-/// Commits those changes whose value is another than the newest, if there are any. It answers the newest version then.
+/// Commits those changes whose value is not the newest one, if there are any. It answers the newest version then.
 pub(crate) fn commit<R: Wait>(
     rt: &R,
     engine: &Engine<Buck>,
@@ -109,7 +109,7 @@ pub(crate) fn wait<R: Wait, G: Gate>(
     }
 }
 
-/// The lines of the journal, one an event, in order.
+/// The lines of the journal, one for each event, in order.
 pub(crate) fn log<R: Wait>(
     rt: &R,
     alloc: Global,

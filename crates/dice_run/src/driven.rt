@@ -68,7 +68,7 @@ impl Driver {
         self.seat
     }
 
-    /// Carries out a script, and answers its output, with the trace behind it where it is wanted.
+    /// Carries out a script, and answers its output, with the trace after it if it is wanted.
     fn script<R: Wait, G: Gate>(
         &mut self,
         rt: &R,
@@ -92,7 +92,7 @@ impl Driver {
         Ok(output)
     }
 
-    /// The output, and behind it the trace of the engine's journal.
+    /// The output, and after it the trace of the engine's journal.
     fn with_trace<R: Wait>(
         &mut self,
         rt: &R,

@@ -9,7 +9,7 @@ use script::Name;
 use std::alloc::Global;
 use std::collections::HashMap;
 
-/// Nothing has a name yet. There is room for so many names, if there is memory for it; else it is made as they come.
+/// Nothing has a name yet. There is room for so many names, if there is memory for it; otherwise it is made as they come.
 pub(crate) fn with_room<V: Drop>(alloc: Global, count: usize) -> HashMap<Text, V>
     ensures { (q : List ℕ) → get (pointwise nat_eq) result q ≡ None }
 {

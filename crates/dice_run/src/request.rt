@@ -87,7 +87,7 @@ pub(crate) fn value_lines(out: &mut Vec<u8>, value: &Value) -> Result<(), NoMemo
     }
 }
 
-/// How a request is answered, behind its name and version: by what its key has come to.
+/// How a request is answered, after its name and version: by what its key has come to.
 pub(crate) fn came_lines(alloc: Global, came: &Came) -> Result<Vec<u8>, NoMemory>
     ensures { IfOk result (λ text. (C : List (List (Key × Value))) (v : ℕ) (k : Key) → IsCome C v k came.now → IsToldOf C v k text.items) }
 {
@@ -116,7 +116,7 @@ fn line_of_cycle(alloc: Global, path: &Path<Key>) -> Result<Vec<u8>, NoMemory>
     Ok(out)
 }
 
-/// Appends labels, each behind a space.
+/// Appends labels, each with a space before it.
 fn labels(out: &mut Vec<u8>, labels: &[Label]) -> Result<(), NoMemory>
     ensures { OnOk result (out.new.items ≡ out.old.items ++ labels_text labels.now) }
 {

@@ -24,17 +24,17 @@ use std::thread::Threads;
 const MOST: usize = 4_194_305;
 
 /// Reads the words of the command line, of which the first is the program's name, and does what they say. `run` reads a script
-/// from the source to its end, checks the whole of it, carries it out, and writes its output to the sink, with the trace of what
-/// the engine did behind it where the words ask for it. `bulk` makes a large script by itself, carries it out, and writes one line
+/// from the source to its end, checks the whole of it, carries it out, and writes its output to the sink, and after it the trace of what
+/// the engine did, if the words ask for it. `bulk` makes a large script by itself, carries it out, and writes one line
 /// of summary; it reads nothing.
 ///
-/// The status says how it ended, and is tested in this order: words, reading, length, grammar, running, writing; want of memory
-/// comes where it is met, before anything is written. At most 4,194,305 bytes are read, and at most 65,536 asked for in one
+/// The status says how it ended, and is tested in this order: words, reading, length, grammar, running, writing; `NoMemory`
+/// may come at any of these points, before anything is written. At most 4,194,305 bytes are read, and at most 65,536 asked for in one
 /// call; the whole rest of the output is handed to the sink in each call, and no memory is taken once it is built. The gate is
-/// told of each job before a worker does it. Of these no clause speaks but of the bytes that are read.
+/// told of each job before a worker does it. Of these, clauses speak only of the bytes that are read.
 ///
 /// With status 0 `kept` gets the engine and the driver's seat at it, whose seen journal is one of the script;
-/// else it stays empty.
+/// otherwise it stays empty.
 pub fn run<R: Threads + Wait + Sync, S: Source, K: Sink, G: Gate>(
     rt: &R,
     alloc: Global,

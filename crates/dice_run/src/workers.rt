@@ -16,10 +16,10 @@ use std::thread::Threads;
 
 /// Drives a script on an engine whose one writer this seat is, with so many workers beside it, and answers its output: what each
 /// line prints, in the order of the lines. A request that the script cancels has the line `cancelled`; each other one is waited for,
-/// at its `wait` or at the end, in the order of asking. Where it is wanted the trace of the journal stands behind it. The seat comes
+/// at its `wait` or at the end, in the order of asking. If it is wanted, the trace of the journal follows the output. The seat comes
 /// back.
 ///
-/// Each worker has a seat that is split off from this one, and does jobs in a thread of its own until the script is done; where no
+/// Each worker has a seat that is split off from this one, and does jobs in a thread of its own until the script is done; if no
 /// thread can be made, waiting does all jobs. With no workers no thread is made.
 pub fn drive<R: Threads + Wait + Sync, G: Gate>(
     rt: &R,

@@ -14,8 +14,8 @@ use Rattle.dice_session.specs.declared.refusal.CommitError.TheVariants as error
 use Rattle.dice_session.specs.declared.session.Found.{Found}
 use Rattle.dice_session.specs.declared.session.Found.TheVariants as found
 
--- A session as its caller sees it: its commits, in order; the changes that were set since the last one; and the events that it has
--- seen of its engine's journal.
+-- A session as its caller sees it: its commits, in order; the changes that were set since the last
+-- one; and the events that it has seen of its engine's journal.
 pub record SessionView (K V : Type 0) : Type 0 where
   pub commits : List (List (K × V))
   pub changes : List (K × V)
@@ -26,7 +26,7 @@ module _ {K V : Type 0} where
   abbrev pub IsNew : SessionView K V → Type 0
   IsNew s = (s.commits ≡ []) × (s.changes ≡ []) × (s.events ≡ [])
 
-  -- a key was set, and nothing else is another
+  -- a key was set, and nothing else changes
   abbrev pub Sets : SessionView K V → K → V → SessionView K V → Type 0
   Sets s k x u = u ≡ record s { changes = s.changes ++ (k, x) ∷ [] }
 
@@ -60,20 +60,23 @@ module _ {U K V R : Type 0} where
   still_set (Err (error.Twice k)) ps = []
   still_set (Err error.NoMemory) ps = ps
 
-  -- the session's result tells of the engine's: the same version, or the same fault, or that memory was refused
+  -- the session's result tells of the engine's: the same version, or the same fault, or that memory
+  -- was refused
   abbrev pub IsOwned : Result ℕ (CommitRefusal U K V R) → Result ℕ (CommitError U K V R) → Type 0
   IsOwned (Ok v) (Ok w) = w ≡ v
   IsOwned (Ok v) (Err e) = ⊥
   IsOwned (Err e) (Ok w) = ⊥
   IsOwned (Err e) (Err f) = IfSome (fault_in f) (λ a. fault_of e ≡ Some a)
 
--- what a key came to: its value from nothing at the newest version, or a cycle that it reaches there
+-- what a key came to: its value from nothing at the newest version, or a cycle that it reaches
+-- there
 module _ {U K V R : Type 0} (eq : K → K → Bool) (m : Meaning K V) (C : List (List (K × V))) (k : K) where
   abbrev pub IsFound : Found U K V R → Type 0
   IsFound (found.Value x) = HasValue eq m C (length C) k (arc_value x)
   IsFound (found.Cycle p) = CycleStands eq m C (length C) k (arc_value p)
 
--- what was read of a key: what its value from nothing holds; or nothing, since it reaches a cycle or its value is of another kind
+-- what was read of a key: what its value from nothing holds; or nothing, since it reaches a cycle
+-- or its value is of another kind
 module _ {K V Out : Type 0} (eq : K → K → Bool) (m : Meaning K V) (C : List (List (K × V))) (k : K) (reads : V → Option Out) where
   abbrev pub IsRead : Option Out → Type 0
   IsRead (Some y) = (x : V) × HasValue eq m C (length C) k x × (reads x ≡ Some y)

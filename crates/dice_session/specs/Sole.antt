@@ -1,4 +1,5 @@
--- What the seat of a session knows: it is the one writer, so it knows of all commits, and of its transactions and asks whether they are open.
+-- What the seat of a session knows: it is the one writer, so it knows of all commits, and of its
+-- transactions and asks whether they are open.
 use Rattle.std.specs.Prelude.{◌≡◌, ℕ, List, Option, IfSome}
 use Rattle.std.specs.Arc.{arc_value}
 use Rattle.std.specs.List.{AllByRecursion}
@@ -13,7 +14,8 @@ use Rattle.dice_engine.specs.declared.promise.Promise.{Promise}
 use Rattle.dice_engine.specs.declared.promise.Transaction.{Transaction}
 
 module _ {K V : Type 0} where
-  -- the seat is the first of this engine, and the one writer: it knows of all events that tell a number
+  -- the seat is the first of this engine, and the one writer: it knows of all events that tell a
+  -- number
   pub record IsSole (id : TableId) (s : SeatView (Told K V)) : Type 0 where
     pub seat : IsSeatOf id s
     pub number : s.number ≡ 0
@@ -32,7 +34,8 @@ module _ {K V : Type 0} where
     pub has : HasOpen s opened version
     pub newest : version ≡ newest_in s.seen
 
-  -- between two calls: it is the one writer, and has open the transaction that is kept for the next call, if any
+  -- between two calls: it is the one writer, and has open the transaction that is kept for the next
+  -- call, if any
   pub record IsReady (id : TableId) (s : SeatView (Told K V)) (kept : Option Transaction) : Type 0 where
     pub sole : IsSole id s
     pub still : IfSome kept (λ t. IsOpen s t.opened t.version)

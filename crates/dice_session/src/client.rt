@@ -20,8 +20,8 @@ use std::sync::{Arc, Wait};
 /// The worker that the session is.
 const SESSION: u32 = 0;
 
-/// Commits those of the changes whose value is another than the key's newest one, if there are any.
-/// The transaction that is kept is closed if the version is a new one.
+/// Commits those changes whose value is not the key's newest one, if there are any. The transaction
+/// that is kept is closed if the version is a new one.
 pub(crate) fn commit<U: Universe, R: Wait>(
     rt: &R,
     engine: &Engine<U>,
@@ -49,8 +49,7 @@ pub(crate) fn commit<U: Universe, R: Wait>(
     }
 }
 
-/// Applies the changes whose value is another than the key's newest one, as one commit, if there
-/// are any.
+/// Applies the changes whose value is not the key's newest one, as one commit, if there are any.
 fn apply<U: Universe, R: Wait>(
     rt: &R,
     engine: &Engine<U>,

@@ -158,7 +158,7 @@ impl<U: Universe> Session<U> {
         }
     }
 
-    /// The lines of the journal, one an event, in order.
+    /// The lines of the journal, one for each event, in order.
     pub fn log<R: Wait>(&mut self, rt: &R) -> Result<Vec<Line>, NoMemory>
         ensures rests { Rests self.old self.new }
         ensures lines { IfOk result (λ ls. AreLines U.meaning self.new.events ls.items) }

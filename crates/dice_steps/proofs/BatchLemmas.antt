@@ -1,4 +1,4 @@
--- What holds between calls holds again where the batch of a task was taken up.
+-- What holds between calls holds again after the batch of a task was taken up.
 use Rattle.std.proofs.Common.{◌≡◌, ◌⊎◌, inl, inr, ◌<◌, ◌≤◌, ◌+◌, ◌*◌, ℕ, suc, Bool, true, false, cond, ◌||◌, List, [], ◌∷◌, ◌++◌, length, map, reverse, Option, Some, None, refl, sym, ap, ◌∙◌, subst, arith}
 use Rattle.std.proofs.lemmas.List.{length-reverse}
 use Rattle.std.specs.List.{AllByRecursion, AllZip}
@@ -197,7 +197,7 @@ module _ {U K V R : Type 0} (eq : K → K → Bool) (equality : IsEquality eq) (
   pub same_commits : commits_of (reverse e.events) ≡ commits_of (reverse d.events)
   same_commits = ap (λ (z : List (Told K V)). commits_of (reverse z)) makes.told ∙ commits_after d.events makes.events told_tasks
 
-  -- what holds of the whole, where one more step on the tasks alone follows
+  -- what holds of the whole, if one more step on the tasks alone follows
   at_hand_so : f.events ≡ e.events → f.ended ≡ e.ended → Working eq m v [] w owed rs f → AreTasked eq rs → IsDone (asked_of eq rs) → AtHand eq m v w owed rs f fs s
   at_hand_so told ended work tasked done =
       let all : f.events ≡ d.events ++ makes.events = told ∙ makes.told in record {
@@ -210,7 +210,7 @@ module _ {U K V R : Type 0} (eq : K → K → Bool) (equality : IsEquality eq) (
         cells = cells_after eq s d.events f.events makes.events all told_tasks hand.cells;
       }
 
-  -- the other tasks that are out, where the task of k turns to one that is not
+  -- the other tasks that are out, if the task of k turns to one that is not
   out_so : (g : Held K V) → out_in g.standing ≡ false → ((q : K) → task_at eq rs q ≡ cond (eq a.name.key q) (Some g) (task_at eq qs q)) → LeavesOut eq a.name.key ps rs
   out_so g home turned = record {
     stay = λ q b n was. inl (turned q ∙ (ap (λ c. cond c (Some g) (task_at eq qs q)) n ∙ makes.out q b was));

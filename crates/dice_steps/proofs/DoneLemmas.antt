@@ -50,7 +50,7 @@ waits_are {K} eq k q b (x ∷ ws) own =
     ∙ (ap (λ z. (eq x.key q && is_by eq (Tasked k) b) || z) (waits_are eq k q b ws (λ y h. own y (inr h)))
     ∙ or_and (eq x.key q) (list_any (λ j. eq j q) (map (λ (x : WaitOf K). x.key) ws)) (is_by eq (Tasked k) b))
 
--- two lists place by place, where the first has its elements among others
+-- two lists place by place, if the first has its elements among others
 zip_among : {A B : Type 0} (P Q : A → B → Type 0) (all : List A) → ((x : A) (y : B) → Has all x → P x y → Q x y) → (xs : List A) (ys : List B) → ((x : A) → Has xs x → Has all x) → AllZip P xs ys → AllZip Q xs ys
 zip_among P Q all f [] [] h z = tt
 zip_among P Q all f [] (b ∷ ys) h z = absurd z

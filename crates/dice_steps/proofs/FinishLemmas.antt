@@ -153,7 +153,7 @@ module _ {K V : Type 0} (eq : K → K → Bool) (equality : IsEquality eq) (m : 
     pub computed : m.kind k ≢ Injected
     computed = (stands.each k (task_of (held_of a IsOut)) (ap (option_map task_of) out)).computed
 
-    -- where a check found a change, the key asks the batches that the check was answered
+    -- if a check found a change, the key asks the batches that the check was answered
     pub turned_asks : (x : V) (T : List (Answered K V)) (b : ℕ) (d : K) → a.work ≡ Checks x T b → ChangesFirst T a.answered d → AsksThese m k v a.answered
     turned_asks x T b d work f =
         let C = commits_of R in

@@ -144,7 +144,7 @@ module _ {U K V R : Type 0} (eq : K → K → Bool) (equality : IsEquality eq) (
     | inr n ↦ sym (alone.tasks q n) ∙ is
   ]
 
-  -- the room for its askers is still there where it is waited for
+  -- the room for its askers is still there if it is waited for
   askers_made : p.awaited ≡ true → asker_room eq ps k ≤ asker_room eq qs k
   askers_made on = by_making p.making part.awaited made
     where
@@ -184,7 +184,7 @@ makes_tasks {K} {V} v ks (x ∷ xs) a = (by_event x a.0, makes_tasks v ks xs a.1
     by_event _ i = absurd i
 
 module _ {U K V R : Type 0} (eq : K → K → Bool) (v : ℕ) where
-  -- where there is no part nothing is made
+  -- if there is no part nothing is made
   pub makes_none : (ps : List (K × Share K (Held K V))) (d : DeskSeen K V) → MakesParts {U = U} {R = R} eq [] v ps d ps d
   makes_none ps d = record {
     asks = λ q a. refl;

@@ -1,4 +1,4 @@
--- The parts of a batch: one after the other, turned round, and over a table where nothing but room has changed.
+-- The parts of a batch: one after the other, turned round, and over a table in which nothing but room has changed.
 use Rattle.std.proofs.Common.{◌≡◌, ◌⊎◌, inl, inr, ◌<◌, ◌+◌, ℕ, Bool, true, false, cond, List, [], ◌∷◌, ◌++◌, length, map, filter, reverse, take, get_or, Option, refl, sym, ap, ◌∙◌, subst, arith}
 use Rattle.std.specs.Arc.{arc_value}
 use Rattle.std.specs.declared.sync.Arc.{Arc}

@@ -65,7 +65,7 @@ module _ {U K V R : Type 0} (eq : K → K → Bool) (ps qs : List (K × Share K 
   }
 
 module _ {K T : Type 0} (eq : K → K → Bool) (ps : List (K × Share K T)) (k : K) where
-  -- where there is room for an asker there is a place
+  -- if there is room for an asker there is a place
   pub place_of_asker : 0 < asker_room eq ps k → has_place eq ps k ≡ true
   place_of_asker h = by_share (lookup (eq k) ps) h
     where

@@ -97,7 +97,7 @@ module _ {K V : Type 0} (eq : K → K → Bool) (m : Meaning K V) (v : ℕ) (ps 
     of_batch = h.of_batch;
   }
 
-  -- the same of what becomes of the batch, where tasks were made
+  -- the same of what becomes of the batch, if tasks were made
   module _ (a : Assigned K V) (ks : List K) (s : Seen K V) (es : List (K × Stored K V)) (rs : List (K × Share K (Held K V))) (f : DeskSeen K V) (fs : List (K × Stored K V)) where
     needs_from : (q : K) → NeedsTask eq m v a ks s qs e es rs f fs q → NeedsTask eq m v a ks s ps d es rs f fs q
     needs_from q n = record { among = n.among; computed = n.computed; free = subst IsFree (tasks.tasks q) n.free }

@@ -21,7 +21,7 @@ use Rattle.lists.proofs.Distinct.{apart, distinct_left}
 use Rattle.lists.proofs.Members.{has_last, has_left, has_right}
 use Rattle.lists.specs.Lists.{AreDistinct, Has}
 
--- the asks of the one that is taken away, where it asked for this key alone
+-- the asks of the one that is taken away, if it asked for this key alone
 none_other : (a b c : Bool) → (a ≡ true → b ≡ true) → c ≡ true → (a && not (b && c)) ≡ false
 none_other true true true f e = refl
 none_other true false c f e = let x : false ≡ true = f refl in cc
@@ -52,7 +52,7 @@ module _ {K V : Type 0} (eq : K → K → Bool) (equality : IsEquality eq) where
     desk = readies;
   }
 
-  -- the task still waits where an ask was taken away
+  -- the task still waits if an ask was taken away
   pub waits_still : (y z : Wakes K V) → z ≡ y → (ps rs : List (K × Share K (Held K V))) → KeepsTasks eq ps rs → (h : Held K V) × (task_at eq ps y.place.1 ≡ Some h) × FollowsOn h y.ahead → (h : Held K V) × (task_at eq rs z.place.1 ≡ Some h) × FollowsOn h z.ahead
   waits_still y z e ps rs kept r = subst (λ (x : Wakes K V). (h : Held K V) × (task_at eq rs x.place.1 ≡ Some h) × FollowsOn h x.ahead) (sym e) (r.0, kept.tasks y.place.1 ∙ r.1, r.2)
 
@@ -191,7 +191,7 @@ module _ {K V : Type 0} (eq : K → K → Bool) (equality : IsEquality eq) where
       wanted = λ q on. work.wanted q (sym (kept.live q) ∙ on);
     }
 
-  -- where none is still to be woken, whoever asks waits on
+  -- if none is still to be woken, whoever asks waits on
   pub all_woken : (m : Meaning K V) (R : List (Told K V)) (v : ℕ) (k : K) (ps : List (K × Share K (Held K V))) (ys : List (Wakes K V)) → ys ≡ [] → MayWake eq m R v k ys ps → WaitsOn eq k ps
   all_woken m R v k ps ys e may = record {
     others = λ j on. elim (may.others j on) as (λ _. (q : K) × (eq k q ≡ false) × (asks eq ps q (Tasked j) ≡ true)) [

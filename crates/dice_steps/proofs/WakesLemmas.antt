@@ -56,7 +56,7 @@ module _ {K V : Type 0} (eq : K → K → Bool) (equality : IsEquality eq) (k : 
     desk = record { events = refl; live = refl; ended = refl; spare = refl; live_room = refl };
   }
 
-  -- where nothing is to come, all came
+  -- if nothing is to come, all came
   pub all_came : (ys rest all : List (Wakes K V)) (ps qs : List (K × Share K (Held K V))) (d e : DeskSeen K V) → all ≡ rest ++ ys → rest ≡ [] → WakesSo eq k ys ps qs d e → WakesSo eq k all ps qs d e
   all_came ys rest all ps qs d e is none so = subst (λ zs. WakesSo eq k zs ps qs d e) (sym (is ∙ ap (λ zs. zs ++ ys) none)) so
 

@@ -61,7 +61,7 @@ all_taken f xs i l = ap (map f) (take_all i xs l)
 -- ---- whether a task asks for one key alone
 
 module _ {K : Type 0} (eq : K → K → Bool) (equality : IsEquality eq) where
-  -- where each of these is k, nothing else is among them
+  -- if each of these is k, nothing else is among them
   only_this : (k : K) (ws : List K) → AllByRecursion (λ x. x ≡ k) ws → (q : K) → list_any (eq q) ws ≡ true → eq k q ≡ true
   only_this k [] a q e = let c : false ≡ true = e in cc
   only_this k (w ∷ ws) a q e = by_test (only_this k ws a.1 q) (eq q w) refl e
@@ -165,7 +165,7 @@ module _ {K V : Type 0} where
       by_standing (Works w IsOut A) i f = absurd (none-some ks f)
       by_standing (Ended o) i f = absurd (none-some ks f)
 
-  -- what it goes on with, where all is answered
+  -- what it goes on with, if all is answered
   pub answered_so : (eq : K → K → Bool) (m : Meaning K V) (cells : Seen K V) (v : ℕ) (k : K) (x : V) (ps : List (K × Share K (Held K V))) (j : K) (h : Held K V) (w : Waits K V) (n : Ahead K V) (ys : List V) → task_at eq ps j ≡ Some h → h ≡ held_of w.job (IsWaiting w.keys) → FollowsOn h n → n.values ≡ ys
       → AllZip (IsAnswer eq m cells v k x ps) w.keys ys → IsAnswered eq m cells v k x ps j n
   answered_so eq m cells v k x ps j h w n ys was is f values z = record {

@@ -1,4 +1,4 @@
--- What is done where the task of a key asks a batch: tasks are made for its keys, and it waits or goes on; or it ends with a cycle.
+-- What is done when the task of a key asks a batch: tasks are made for its keys, and it waits or goes on; or it ends with a cycle.
 use Rattle.std.specs.Prelude.{◌≡◌, ◌⊎◌, ◌≤◌, ◌+◌, ◌*◌, ℕ, Bool, true, false, List, ◌++◌, length, map, reverse, Option, Some}
 use Rattle.std.specs.List.{AllZip, AllByRecursion}
 use Rattle.dice_key.specs.Meaning.{Meaning}
@@ -112,13 +112,13 @@ module _ {K V : Type 0} (eq : K → K → Bool) (v : ℕ) (path : Option (List K
 
 module _ {K V : Type 0} (eq : K → K → Bool) (m : Meaning K V) (v : ℕ) (a : Assigned K V) (ks : List K) where
   -- the task of a's key, which was out with the job a and asked the batch ks: it goes on with the keys' values, waits for them, or has ended with a
-  -- cycle that one of them comes to, or for want of memory
+  -- cycle that one of them comes to, or since no memory was left
   abbrev pub IsGiven : List (Told K V) → List (K × Share K (Held K V)) → Type 0
   IsGiven R qs = ((xs : List V) × (task_at eq qs a.name.key ≡ Some (held_of (answered_more a ks xs) IsReady)) × AllZip (HasValue eq m (commits_of R) v) ks xs)
       ⊎ (task_at eq qs a.name.key ≡ Some (held_of a (IsWaiting ks)))
       ⊎ ((path : List K) × (o : Outcome K V) × ComesOf (Some path) o × (task_at eq qs a.name.key ≡ Some (held_ended a.name o)))
 
-  -- what the step tells: keys of the batch are started or kept; or tasks end with a cycle, or for want of memory, and others are dropped
+  -- what the step tells: keys of the batch are started or kept; or tasks end with a cycle, or since no memory was left, and others are dropped
   abbrev pub IsToldOf : List (Told K V) → Type 0
   IsToldOf xs = AllByRecursion (IsOfMakes v ks) xs ⊎ ((path : List K) × (os : List (K × Outcome K V)) × (ds : List K) × ((p : K × Outcome K V) → Has os p → ComesOf (Some path) p.1) × (xs ≡ ending_events v os ds))
 

@@ -20,7 +20,7 @@ module _ {K V : Type 0} where
   EndsWith v k s x e = ((s.outcome ≡ Valued x) × (e ≡ End v k)) ⊎ ((s.outcome ≡ Unchanged) × (T : List (Answered K V)) × (b : ℕ) × (s.job.work ≡ Checks x T b) × (e ≡ Keep v k b))
 
 module _ {K V : Type 0} (eq : K → K → Bool) (m : Meaning K V) (veq : V → V → Bool) where
-  -- the value x of k at v was finished with the trace A, and no other entry changed; and where by this the entry of k came to have a tail, an edge to k
+  -- the value x of k at v was finished with the trace A, and no other entry changed; and if by this the entry of k came to have a tail, an edge to k
   -- from each key of A was recorded, and no other
   pub record IsFinished (cells : Seen K V) (v : ℕ) (k : K) (x : V) (A : List (Answered K V)) (es fs : List (K × Stored K V)) : Type 0 where
     pub entries : (q : K) → entry_at eq fs q ≡ cond (eq k q) (Some (written m veq (entry_at eq es k) (finished m veq (cell_at eq m cells) (entry_at eq es) v x A))) (entry_at eq es q)

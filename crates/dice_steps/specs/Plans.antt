@@ -1,4 +1,4 @@
--- What the batch comes to that the task of a key asks: what is made of each of its keys, which of them are waited for, and the answers where all have
+-- What the batch that the task of a key asks comes to: what is made of each of its keys, which of them are waited for, and the answers if all have
 -- values at hand.
 use Rattle.std.specs.Prelude.{◌≡◌, ◌≢◌, ◌⊎◌, ◌<◌, ◌≤◌, ℕ, Bool, true, false, List, length, map, filter, Some, None}
 use Rattle.std.specs.Arc.{arc_value}
@@ -39,7 +39,7 @@ module _ {U K V R : Type 0} where
   waits_of k xs = map (wait_for k) (filter (λ (p : Part U K V R). p.awaited) xs)
 
 module _ {U K V R : Type 0} (eq : K → K → Bool) (ps : List (K × Share K (Held K V))) (q : K) where
-  -- whether the key is waited for, where this is made of it: a task that is at work, or comes to be
+  -- whether the key is waited for, if this is made of it: a task that is at work, or comes to be
   abbrev pub is_awaited : Making U K V R → Bool
   is_awaited Join = is_live eq ps q
   is_awaited (Match event base task) = false
@@ -47,7 +47,7 @@ module _ {U K V R : Type 0} (eq : K → K → Bool) (ps : List (K × Share K (He
   is_awaited (Check ready task) = true
 
 module _ {K V : Type 0} (eq : K → K → Bool) (m : Meaning K V) (v : ℕ) (ps : List (K × Share K (Held K V))) (es : List (K × Stored K V)) where
-  -- x is at hand as the value of q at v: it is the input of an injected key, what the task of q has ended with, or else what its entry keeps there
+  -- x is at hand as the value of q at v: it is the input of an injected key, what the task of q has ended with, or otherwise what its entry keeps there
   abbrev pub IsAtHand : Seen K V → K → V → Type 0
   IsAtHand s q x = ((m.kind q ≡ Injected) × (x ≡ cell_at eq m s v q)) ⊎ (value_of (tasks_of eq ps q) ≡ Some x) ⊎ ((b : ℕ) × (look m.is_transient (entry_at eq es q) v ≡ Matches x b) × (m.kind q ≢ Injected) × (value_of (tasks_of eq ps q) ≡ None))
 
@@ -115,13 +115,13 @@ module _ {U K V R : Type 0} (eq : K → K → Bool) (m : Meaning K V) (v owed : 
   IsPlan (plan.GoesOn xs n) = GoesOnSo xs.items n
   IsPlan (plan.Waits xs ws) = WaitsSo xs.items ws.items
 
-  -- what is done where this was planned, from the tasks ps, the desk d, the entries es and the cells s
+  -- what is done if this was planned, from the tasks ps, the desk d, the entries es and the cells s
   abbrev pub IsPlanDone : Plan U K V R → List (K × Share K (Held K V)) → DeskSeen K V → List (K × Stored K V) → Type 0
   IsPlanDone (plan.Ends path own) qs e fs = EndsByCycle eq m v a ks s ps d es qs e fs
   IsPlanDone (plan.GoesOn xs n) qs e fs = MakesTasks eq m v a ks s ps d es qs e fs × GoesOnWith eq m v a ks s ps d es qs e fs
   IsPlanDone (plan.Waits xs ws) qs e fs = MakesTasks eq m v a ks s ps d es qs e fs × WaitsFor eq m v a ks s ps d es qs e fs
 
--- P holds where the plan is an end
+-- P holds if the plan is an end
 abbrev pub IfEnds : {U K V R : Type 0} → Plan U K V R → Type 0 → Type 0
 IfEnds (plan.Ends path own) P = P
 IfEnds (plan.GoesOn xs n) P = Unit {0}

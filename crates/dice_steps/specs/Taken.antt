@@ -50,7 +50,7 @@ module _ {K V : Type 0} (eq : K → K → Bool) (m : Meaning K V) (v : ℕ) (es 
   abbrev pub says : K → Look K V
   says q = look m.is_transient (entry_at eq es q) v
 
-  -- what is told where tasks are made of these keys, one after the other
+  -- what is told when tasks are made of these keys, one after the other
   abbrev pub told_of : List K → List (Told K V)
   told_of [] = []
   told_of (q ∷ made) = told_by v q (says q) ++ told_of made
@@ -81,7 +81,7 @@ module _ {K V : Type 0} (eq : K → K → Bool) (m : Meaning K V) (v : ℕ) (a :
     pub free : IsFree (task_at eq ps q)
 
   -- so each key of the batch that is not injected has its task: one was made of each that needs one, in the order in which these first stand in the
-  -- batch, and of no other; and no task changes beside these and that which asks
+  -- batch, and of no other; and no task changes beside these and the one that asks
   pub record MakesTasks : Type 0 where
     pub made : List K
     pub distinct : AreDistinct made

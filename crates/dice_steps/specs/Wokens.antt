@@ -26,7 +26,7 @@ module _ {K V : Type 0} (eq : K → K → Bool) (m : Meaning K V) where
   abbrev pub HasAnswer : K → List (K × Share K (Held K V)) → K → Type 0
   HasAnswer k ps q = (m.kind q ≡ Injected) ⊎ (q ≡ k) ⊎ ((y : V) × (value_of (tasks_of eq ps q) ≡ Some y))
 
-  -- y is that answer at version v, where the task of k ends with x: the input of an injected key; x, for k itself; what the task of q ended with
+  -- y is that answer at version v, if the task of k ends with x: the input of an injected key; x, for k itself; what the task of q ended with
   abbrev pub IsAnswer : Seen K V → ℕ → K → V → List (K × Share K (Held K V)) → K → V → Type 0
   IsAnswer cells v k x ps q y = ((m.kind q ≡ Injected) × (y ≡ cell_at eq m cells v q)) ⊎ ((q ≡ k) × (y ≡ x)) ⊎ (value_of (tasks_of eq ps q) ≡ Some y)
 

@@ -31,7 +31,7 @@ use versioned_graph::Graph;
 
 /// Gives up the task at work of a key: it ends as lost, or with a cycle that the key reaches, and with it all that ask for it, for
 /// one of these, and so on; and what nobody asks for then is dropped. It takes no memory: the task of the key ends with its `own`
-/// cycle, and another one for which there is no memory for a copy ends as lost.
+/// cycle, and any other one ends as lost if there is no memory for its copy.
 ///
 /// It costs the number of tasks that it ends and drops, and of the keys that they waited for.
 pub fn give_up<U: Universe>(
@@ -130,11 +130,11 @@ fn take_up<U: Universe>(
     }
 }
 
-/// Takes up the batch that a step of the job of a task asks, which is out: what its keys need is made, and the task waits for it, or
-/// goes on where all keys have values at hand. Where a key comes to a cycle nothing is made: the task ends with the cycle, and all
+/// Takes up the batch that a step asks, of the job of a task that is out: what its keys need is made, and the task waits for it, or
+/// goes on if all keys have values at hand. If a key comes to a cycle nothing is made: the task ends with the cycle, and all
 /// that ask for it.
 ///
-/// Where memory is refused the step is handed back, and all is as before, but for room; there is room for `owed` events beside then
+/// If memory is refused the step is handed back, and all is as before, but for room; there is room for `owed` events beside then
 /// as before. It costs a look-up for each key of the batch, a walk over the waits that begin there, and what `give_up` says.
 pub fn ask_batch<U: Universe>(
     alloc: Global,
@@ -153,7 +153,7 @@ pub fn ask_batch<U: Universe>(
     ensures done { OnOk result ((ks : List U.Key) → step.outcome ≡ Wanting ks → IsBatchDone U.Key.eq U.meaning step.job.name.version step.job ks cells.now tasks.old desk.old graph.old tasks.new desk.new graph.new) }
     ensures kept { (w : World U.Key U.Value) → AtHand U.Key.eq U.meaning step.job.name.version w owed tasks.old desk.old graph.old cells.now → AtHand U.Key.eq U.meaning step.job.name.version w owed tasks.new desk.new graph.new cells.now }
 
-    // Where memory is refused, all that is seen is as before.
+    // If memory is refused, all that is seen is as before.
     ensures step { IfErr result (λ e. e.1 ≡ step) }
     ensures tasks { OnErr result (KeepsTasks U.Key.eq tasks.old tasks.new) }
     ensures waits { OnErr result (KeepsAsks U.Key.eq tasks.old tasks.new) }

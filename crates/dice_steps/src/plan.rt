@@ -1,4 +1,4 @@
-//! What a batch comes to that a task asks, prepared before anything is seen of it.
+//! What the batch that a task asks comes to, prepared before anything is seen of it.
 ghost use Rattle.std.specs.Prelude.{◌≡◌, ◌≢◌, ◌<◌, ◌≤◌, ◌⊎◌, ◌&&◌, ◌||◌, ◌++◌, ◌∷◌, [], ℕ, true, false, Some, length, map, MatchBool, IfOk, IfSome, IfNone, OnOk};
 ghost use Rattle.std.specs.Arc.{arc_value};
 ghost use Rattle.std.specs.List.{list_any, AllZip};
@@ -29,7 +29,7 @@ use std::sync::Arc;
 use task_share::Wait;
 use versioned_graph::{Found, Graph};
 
-/// As many keys are compared each with each; of more than these a set is made.
+/// Up to so many keys are compared each with each; of more a set is made.
 const FEW: usize = 16;
 
 /// What is planned of a key of a batch: what is made of it, and whether it is waited for.
@@ -54,14 +54,14 @@ pub(crate) enum Survey<U: Universe> {
 pub(crate) enum Plan<U: Universe> {
     /// The task that asks it ends with this cycle, of which it has its own copy.
     Ends(Arc<Path<U::Key>>, Arc<Path<U::Key>>),
-    /// Where these are made, all keys have values, and the task goes on.
+    /// After these are made, all keys have values, and the task goes on.
     GoesOn(Vec<Part<U>>, Next<U>),
-    /// Where these are made, the task waits.
+    /// After these are made, the task waits.
     Waits(Vec<Part<U>>, Vec<Wait<U::Key>>),
 }
 
 /// Plans what comes of the batch that the job of this assignment asks, in the order of its keys. It takes all the memory for it, and
-/// makes room for `owed` events beside; nothing else changes, also where memory is refused.
+/// makes room for `owed` events beside; nothing else changes, even if memory is refused.
 ///
 /// It costs a look-up for each key, and a walk over the waits that begin there.
 pub(crate) fn plan_batch<U: Universe>(
@@ -117,7 +117,7 @@ fn told_so_far<U: Universe>(desk: &Desk<U>) -> u64
     desk.journal().len() as u64
 }
 
-/// What the keys of a batch come to, in their order: where one comes to a cycle the others are not looked at. It changes nothing.
+/// What the keys of a batch come to, in their order: if one comes to a cycle the others are not looked at. It changes nothing.
 fn look_over<U: Universe>(
     alloc: Global,
     universe: &U,
@@ -142,7 +142,7 @@ fn look_over<U: Universe>(
     }
 }
 
-/// What one key comes to that is asked alone.
+/// What a key that is asked alone comes to.
 fn look_at<U: Universe>(
     alloc: Global,
     universe: &U,
@@ -273,7 +273,7 @@ fn is_new<U: Universe>(
     }
 }
 
-/// The cycle to which a wait of the task of `own` for a key comes: that which it would close, or with which the key's task has
+/// The cycle to which a wait of the task of `own` for a key comes: the one that it would close, or the one with which the key's task has
 /// ended.
 fn cycle_at<U: Universe>(
     alloc: Global,
@@ -294,7 +294,7 @@ fn cycle_at<U: Universe>(
     }
 }
 
-/// The cycle with which the task of a key has ended, where it has.
+/// The cycle with which the task of a key has ended, if any.
 fn ended_by_cycle<'a, U: Universe>(
     tasks: &'a Tasks<U>,
     key: &KeyRef<U>,
@@ -328,7 +328,7 @@ fn part_of<U: Universe>(
     })
 }
 
-/// Whether a key is waited for where this is made of it.
+/// Whether a key is waited for if this is made of it.
 fn is_awaited<U: Universe>(tasks: &Tasks<U>, key: &KeyRef<U>, making: &Making<U>) -> bool
     ensures { result ≡ is_awaited U.Key.eq tasks.now (arc_value key.now) making.now }
 {
@@ -362,7 +362,7 @@ fn reserve_parts<U: Universe>(
     Ok(waits)
 }
 
-/// Makes room for one part, and adds its wait to these where it is waited for.
+/// Makes room for one part, and adds its wait to these if it is waited for.
 fn reserve_part<U: Universe>(
     tasks: &mut Tasks<U>,
     own: &KeyRef<U>,
@@ -384,7 +384,7 @@ fn reserve_part<U: Universe>(
     tasks.reserve_asker(&part.key)
 }
 
-/// The answers to a batch, where each of its keys has a value at hand.
+/// The answers to a batch, if each of its keys has a value at hand.
 fn answers_of<U: Universe>(
     alloc: Global,
     universe: &U,
@@ -409,7 +409,7 @@ fn answers_of<U: Universe>(
     Ok(Some(answers))
 }
 
-/// The value of a key at a version, where it is at hand.
+/// The value of a key at a version, if it is at hand.
 fn value_at_hand<'a, U: Universe>(
     universe: &U,
     cells: &'a Cells<U>,
@@ -430,14 +430,14 @@ fn value_at_hand<'a, U: Universe>(
     }
 }
 
-/// The value with which the task of a key has ended, where it has.
+/// The value with which the task of a key has ended, if any.
 fn ended_value<'a, U: Universe>(tasks: &'a Tasks<U>, key: &KeyRef<U>) -> Option<&'a ValueRef<U>>
     ensures { option_map (λ x. arc_value x.now) result ≡ value_of (tasks_of U.Key.eq tasks.now (arc_value key.now)) }
 {
     tasks.task(key)?.value()
 }
 
-/// The value that the entry of a key keeps at a version, where it does.
+/// The value that the entry of a key keeps at a version, if any.
 fn kept_value<'a, U: Universe>(
     graph: &'a Graph<U>,
     key: &KeyRef<U>,

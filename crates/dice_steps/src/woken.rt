@@ -88,7 +88,7 @@ fn next_of<U: Universe>(
 }
 
 /// The answer to a key of a batch: the input of an injected key at the version, the value with which the task of `key` ends, and of
-/// any other that with which its task has ended.
+/// any other key the value with which its task has ended.
 fn answer_of<'a, U: Universe>(
     universe: &U,
     cells: &'a Cells<U>,

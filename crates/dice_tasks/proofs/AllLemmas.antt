@@ -1,4 +1,4 @@
--- Which tasks end where one is given up, and all that ask for it.
+-- Which tasks end if one is given up, and all that ask for it.
 use Rattle.std.proofs.Common.{◌≡◌, ◌⊎◌, inl, inr, ◌+◌, ◌-◌, ℕ, Bool, true, false, cond, not, ◌&&◌, List, [], ◌∷◌, ◌++◌, map, Option, Some, None, refl, sym, ap, ◌∙◌, subst, arith, append_assoc}
 use Rattle.std.proofs.lemmas.List.{map-append}
 use Rattle.dice_key.specs.Lawful.{IsEquality}
@@ -32,11 +32,11 @@ module _ {K V : Type 0} (eq : K → K → Bool) (equality : IsEquality eq) (v : 
       let b = (quits_keeps h.standing (v, k) d left t.ends.quits).live_room in
       (ap (λ (y : DeskSeen K V). y.ready_room) same ∙ quits_room h.standing (v, k) d left t.ends.quits, omega arith)
 
-  -- where the task ends
+  -- at the key whose task ends
   ends_here : (k : K) (h : Held K V) (o : Outcome K V) (ps qs : List (K × Share K (Held K V))) (d e : DeskSeen K V) → EndsTask eq v k h o ps qs d e → task_at eq qs k ≡ Some (held_ended h.name o)
   ends_here k h o ps qs d e ends = ends.tasks k ∙ ap (λ b. cond b (Some (held_ended h.name o)) (task_at eq ps k)) (equality.itself k)
 
-  -- and where it is another
+  -- and at another key
   ends_there : (k : K) (h : Held K V) (o : Outcome K V) (ps qs : List (K × Share K (Held K V))) (d e : DeskSeen K V) → EndsTask eq v k h o ps qs d e → (q : K) → (k ≡ q → ⊥) → task_at eq qs q ≡ task_at eq ps q
   ends_there k h o ps qs d e ends q n = ends.tasks q ∙ by_test (eq k q) refl
     where
@@ -202,7 +202,7 @@ module _ {K V : Type 0} (eq : K → K → Bool) (equality : IsEquality eq) (v : 
         | inr n ↦ inr (λ j. t.asks q (Tasked j) ∙ n j)
       ]
 
-      -- where nobody is still to be told, all that asked for one of these are among them
+      -- if nobody is still to be told, all that asked for one of these are among them
       pub with_askers : AreTold es qs e → e.ended ≡ [] → EndWithAskers eq es ps
       with_askers told none q j o i on = elim (all.stays q j on) as (λ _. (r : Outcome K V) × Has es (j, r)) [
         | inl s ↦ elim (told q o i) as (λ _. (r : Outcome K V) × Has es (j, r)) [

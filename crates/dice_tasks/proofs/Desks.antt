@@ -73,7 +73,7 @@ module _ {K V : Type 0} where
         | inr y ↦ b (subst (λ (l : List (ℕ × K)). Has l p) dq y)
       ]
 
-  -- where a task is ready, some are
+  -- if a task is ready, some are
   pub some_ready : (n : ℕ) (ks : List (ReadyTask K)) (w d : DeskSeen K V) (p : ℕ × K) → w ≡ d → IsLaid n ks → w.ready ≡ ready_of n ks → Has d.ready p → (0 < n) × (n - 1 < length ks) × Has (ready_of (n - 1 + 1) ks) p
   some_ready n ks w d p v l wr h =
       let there : Has (ready_of n ks) p = subst (λ (z : List (ℕ × K)). Has z p) (sym (ap (λ (z : DeskSeen K V). z.ready) v) ∙ wr) h in

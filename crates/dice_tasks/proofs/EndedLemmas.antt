@@ -1,4 +1,4 @@
--- All that is at work stays wanted, and all versions stand, where a task ends.
+-- All that is at work stays wanted, and all versions stand, when a task ends.
 use Rattle.std.proofs.Common.{◌≡◌, ◌≤◌, ◌+◌, ◌*◌, ℕ, Bool, true, false, cond, not, ◌&&◌, List, [], ◌∷◌, ◌++◌, map, reverse, Option, Some, None, refl, sym, ap, ◌∙◌, subst, arith}
 use Rattle.std.specs.Option.{option_map}
 use Rattle.dice_key.specs.Lawful.{IsEquality, IsLawful}
@@ -61,7 +61,7 @@ module _ {K V : Type 0} (eq : K → K → Bool) (equality : IsEquality eq) (v : 
           ap (λ (x : Option (Held K V)). option_map (λ _. t) x) j ∙ ap Some is
 
   module _ (k j : K) (ps rs : List (K × Share K (Held K V))) (tasks : KeepsTasks eq ps rs) (fewer : (q : K) (a : By K) → asks eq rs q a ≡ (asks eq ps q a && not (eq k q && is_by eq (Tasked j) a))) where
-    -- the desk knows the tasks also where an asker was taken
+    -- the desk knows the tasks also if an asker was taken
     pub knows_still : (d : DeskSeen K V) → Knows eq v ps d → Knows eq v rs d
     knows_still d known = record {
       ready = λ q e. known.ready q (ap (λ (x : Option (Held K V)). is_ready (option_map task_of x)) (sym (tasks.tasks q)) ∙ e);
@@ -163,7 +163,7 @@ module _ {K V : Type 0} (eq : K → K → Bool) (equality : IsEquality eq) (m : 
         live : is_live eq ps k ≡ true
         live = known.going k ∙ (ap is_going there ∙ tells.ends.going)
 
-    -- the call goes on, where the laws have it so
+    -- the call goes on, if the laws have it so
     goes_so : IsOfTask x → Stand eq m (x ∷ reverse d.events) v (k ∷ W) (seen_world eq v qs w) (desk_of (with_event (with_ended tells.ends.left) x)) owed → Working eq m v (k ∷ W) w owed qs e
     goes_so of_task st = subst (λ (y : DeskSeen K V). Working eq m v (k ∷ W) w owed qs y) (sym desk) (record {
       stand = subst (λ z. Stand eq m z v (k ∷ W) (seen_world eq v qs w) (desk_of (with_event (with_ended tells.ends.left) x)) owed) (sym told) st;

@@ -1,4 +1,4 @@
--- What holds while a call works on a version is kept where a task ends or is dropped.
+-- What holds while a call works on a version is kept when a task ends or is dropped.
 use Rattle.std.proofs.Common.{◌≡◌, ◌≤◌, ◌<◌, inl, inr, ◌+◌, ◌-◌, ◌*◌, ℕ, Bool, true, false, cond, List, [], ◌∷◌, ◌++◌, length, reverse, Option, Some, None, refl, sym, ap, ◌∙◌, subst, arith}
 use Rattle.std.proofs.lemmas.Bool.{eq-eqb}
 use Rattle.std.proofs.lemmas.List.{reverse-append}
@@ -27,7 +27,7 @@ use Rattle.dice_tasks.specs.Endings.{Quits, Knows, DropsTask}
 pub back_more : {X : Type 0} (xs : List X) (x : X) → reverse (xs ++ x ∷ []) ≡ x ∷ reverse xs
 back_more xs x = reverse-append xs (x ∷ [])
 
--- ---- the desk, where a task is at work no more
+-- ---- the desk, when a task is at work no more
 
 module _ {K V : Type 0} where
   -- all but what is ready and out is as before
@@ -127,7 +127,7 @@ module _ {K V : Type 0} (eq : K → K → Bool) where
   pub same_table : (v : ℕ) (w : World K V) (ps qs : List (K × Share K (Held K V))) → KeepsTasks eq ps qs → KeepsAsks eq ps qs → seen_world eq v ps w ≡ seen_world eq v qs w
   same_table v w ps qs t a = λ i. with_version v (sym (same_asked ps qs t a) i) (sym (same_tasks ps qs t) i) w
 
-  -- names stay where a task was taken out
+  -- names stay if a task was taken out
   pub named_drop : (v : ℕ) (k : K) (ps qs : List (K × Share K (Held K V))) → ((q : K) → task_at eq qs q ≡ cond (eq k q) None (task_at eq ps q)) → AreNamed eq v ps → AreNamed eq v qs
   named_drop v k ps qs h named q t there = by_test (eq k q) (sym (h q) ∙ there)
     where
@@ -135,7 +135,7 @@ module _ {K V : Type 0} (eq : K → K → Bool) where
       by_test true e = let c : None ≡ Some t = e in cc
       by_test false e = named q t e
 
-  -- and where one was put in that has its name
+  -- and if one was put in that has its name
   pub named_put : IsEquality eq → (v : ℕ) (k : K) (g : Held K V) (ps qs : List (K × Share K (Held K V))) → ((q : K) → task_at eq qs q ≡ cond (eq k q) (Some g) (task_at eq ps q)) → (g.name.version ≡ v) × (g.name.key ≡ k) → AreNamed eq v ps → AreNamed eq v qs
   named_put equality v k g ps qs h own named q t there = by_test (eq k q) refl (sym (h q) ∙ there)
     where
@@ -190,7 +190,7 @@ module _ {K V : Type 0} (eq : K → K → Bool) (equality : IsEquality eq) (m : 
   pub cleaning_of : (w : World K V) (owed : ℕ) (ps : List (K × Share K (Held K V))) (d : DeskSeen K V) → Working eq m v [] w owed ps d → Cleaning eq m v w owed ps d
   cleaning_of w owed ps d h = record { stand = h.stand; outs = h.outs; named = h.named }
 
-  -- where each task at work has an asker it is wanted
+  -- if each task at work has an asker it is wanted
   pub working_of : (w : World K V) (owed : ℕ) (ps : List (K × Share K (Held K V))) (d : DeskSeen K V) → IsDone (asked_of eq ps) → Cleaning eq m v w owed ps d → Working eq m v [] w owed ps d
   working_of w owed ps d done h = record {
     stand = h.stand;

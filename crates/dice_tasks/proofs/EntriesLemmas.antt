@@ -111,7 +111,7 @@ module _ {K V : Type 0} (eq : K → K → Bool) (m : Meaning K V) (es : List (K 
   stand_on R (Drop v k) n h = stand_drop eq m R es h v k
   stand_on R (Lost v k) n h = stand_lost eq m R es h v k
 
-  -- after such events in a row, where J is the journal before them in its order
+  -- after such events in a row, if J is the journal before them in its order
   pub stand_after : (J E : List (Told K V)) → AllByRecursion LeavesEntries E → EntriesStand eq m (reverse J) es → EntriesStand eq m (reverse (J ++ E)) es
   stand_after J [] n h = subst (λ I. EntriesStand eq m (reverse I) es) (sym (append-nil J)) h
   stand_after J (e ∷ E) n h =
@@ -169,7 +169,7 @@ module _ {K V : Type 0} (eq : K → K → Bool) (m : Meaning K V) (S : List (Tol
       by_max (inr i) = record { finished = h.finished; below = let l = h.below in let j = i.0 in let w = i.1 in omega arith; traced = h.traced; finished_base = h.finished_base; base = subst (λ n. is_base eq S n k ≡ true) (sym i.0) b }
 
 module _ {K V : Type 0} (eq : K → K → Bool) (equality : IsEquality eq) (m : Meaning K V) (R : List (Told K V)) (es fs : List (K × Stored K V)) (h : EntriesStand eq m R es) (v : ℕ) (k : K) where
-  -- where one entry is written, which comes from decisions
+  -- if one entry is written, which comes from decisions
   one_written : (S : List (Told K V)) (f : Kept K V) → Decides eq R S v k → ((q : K) → entry_at eq fs q ≡ cond (eq k q) (Some f) (entry_at eq es q)) → Backed eq m S k f → AreTrue eq m (commits_of R) fs → EntriesStand eq m S fs
   one_written S f d up from true_ones = record {
     entries_true = subst (λ C. AreTrue eq m C fs) d.commits true_ones;

@@ -65,7 +65,7 @@ module _ {X Y : Type 0} (f : X → Y) where
       let m = ap length k in
       omega (arith, n, m)
 
-  -- where nothing has the place, no test of it passes
+  -- if nothing has the place, no test of it passes
   pub none_passes : (t : X → Bool) (p : Y) → ((x : X) → t x ≡ true → f x ≡ p) → (xs : List X) → (Has (map f xs) p → ⊥) → list_any t xs ≡ false
   none_passes t p means [] n = refl
   none_passes t p means (x ∷ xs) n = one_fails (t x) (list_any t xs) (λ q. n (inl (means x q))) (none_passes t p means xs (λ h. n (inr h)))
@@ -111,7 +111,7 @@ module _ {X : Type 0} where
   at_some P o x e h = subst (λ (z : Option X). IfSome z P) e h
 
 module _ {K : Type 0} (eq : K → K → Bool) (law : IsEquality eq) where
-  -- a test of a version and key passes exactly where the place is that version and key
+  -- a test of a version and key passes exactly if the place is that version and key
   pub place_from : (v : ℕ) (k : K) (x : ReadyTask K) → (eqb v x.version && eq k (arc_value x.key)) ≡ true → place_of x ≡ (v, k)
   place_from v k x h =
       let a : v ≡ x.version = eqb-true v x.version (first_so (eqb v x.version) (eq k (arc_value x.key)) h) in

@@ -1,4 +1,4 @@
--- What a look-up says, where the entries stand.
+-- What a look-up says, if the entries stand.
 use Rattle.std.proofs.Common.{◌≡◌, ◌≤◌, ◌⊎◌, inl, inr, ℕ, Bool, true, false, cond, ◌||◌, eqb, List, ◌∷◌, length, Option, Some, None, refl, sym, ap, ◌∙◌, subst}
 use Rattle.std.proofs.lemmas.Bool.{both_ways, and_right}
 use Rattle.dice_key.specs.Meaning.{Meaning, Answered}
@@ -136,7 +136,7 @@ module _ {K V : Type 0} (eq : K → K → Bool) (m : Meaning K V) (R : List (Tol
   look_stands (Checks x T b) within e = was_seen x T b e
 
 module _ {K V : Type 0} (eq : K → K → Bool) (m : Meaning K V) (R : List (Told K V)) (es fs : List (K × Stored K V)) (k : K) (v : ℕ) (same : entry_at eq fs k ≡ entry_at eq es k) where
-  -- what was answered goes on to hold after events that say the same of commits and of the key's bases, where the key's entry is the same
+  -- what was answered goes on to hold after events that say the same of commits and of the key's bases, if the key's entry is the same
   look_alike : (S : List (Told K V)) → commits_of R ≡ commits_of S → ((b : ℕ) → is_base eq R b k ≡ is_base eq S b k) → (o : Look K V) → LookStands eq m R es v k o → LookStands eq m S fs v k o
   look_alike S c f (Matches x b) h = record {
     base = sym (f b) ∙ h.base;

@@ -85,7 +85,7 @@ module _ {K V : Type 0} (eq : K → K → Bool) (v : ℕ) (k : K) (ps qs : List 
   }
 
 module _ {K V : Type 0} (eq : K → K → Bool) (v : ℕ) (k : K) (es fs : List (K × Stored K V)) where
-  -- where the entry of k alone was seen, the others are as before
+  -- if the entry of k alone was seen, the others are as before
   pub other_entries : ((q : K) → entry_at eq fs q ≡ cond (eq k q) (option_map (seen_at v) (entry_at eq es k)) (entry_at eq es q)) → (q : K) → eq k q ≡ false → entry_at eq fs q ≡ entry_at eq es q
   other_entries h q n = h q ∙ ap (λ b. cond b (option_map (seen_at v) (entry_at eq es k)) (entry_at eq es q)) n
 
@@ -119,7 +119,7 @@ module _ {K V : Type 0} (eq : K → K → Bool) (equality : IsEquality eq) (m : 
   room_of w W owed h free a b c p = let i = idle_at_hand eq equality m law v k ps ps d d w W owed h free in record { spare = a; ready_room = b; live_room = c; place = p; idle = i.0; unready = i.1; home = i.2 }
 
 module _ {U K V A : Type 0} (eq : K → K → Bool) (equality : IsEquality eq) (m : Meaning K V) (law : IsLawful m) (v : ℕ) (k : K) (ps : List (K × Share K (Held K V))) (d : DeskSeen K V) where
-  -- what was prepared can be made, where there is room for it
+  -- what was prepared can be made, if there is room for it
   pub can_make : (w : World K V) (W : List K) (owed born : ℕ) (es : List (K × Stored K V)) → Working eq m v W w owed ps d → 0 < d.spare → 0 < d.ready_room → 0 < d.live_room → has_place eq ps k ≡ true → (p : Making U K V A) → IsMaking eq m v k born ps es p → CanMake eq v k ps d p
   can_make w W owed born es h a b c there Join i = tt
   can_make w W owed born es h a b c there (Match event base task) i = room_of eq equality m law v k ps d w W owed h i.0 a b c there

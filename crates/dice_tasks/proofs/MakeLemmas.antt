@@ -50,7 +50,7 @@ module _ {K V : Type 0} where
   free_idle None f = record { unready = refl; home = refl; still = refl }
   free_idle (Some h) f = record { unready = ap ready_in f; home = ap out_in f; still = ap goes_on f }
 
-  -- what is counted, where such a key's task is put: one that is ready, or one that has ended
+  -- what is counted, if such a key's task is put: one that is ready, or one that has ended
   turns_ready : (v : ℕ) (k : K) (o : Option (Task K V)) (t : Task K V) (d e : Desk K) → Idle o → is_ready (Some t) ≡ true → is_out (Some t) ≡ false → is_going (Some t) ≡ true
       → e.ready ≡ d.ready ++ (v, k) ∷ [] → e.out ≡ d.out → e.live ≡ d.live + 1 → DeskTurns v k o (Some t) d e
   turns_ready v k o t d e i a b c r n l = record {
@@ -174,7 +174,7 @@ module _ {K V : Type 0} (eq : K → K → Bool) (equality : IsEquality eq) (m : 
       (named_on eq equality v k n ps qs tasks (refl, refl) h.named)
       (all_wanted_made eq equality m law R v (asked_of eq ps) (asked_of eq qs) h.wanted k made.live may.wanted)
 
-  -- the asks are the same where the task of k, which asks for nothing, withdraws its own
+  -- the asks are the same if the task of k, which asks for nothing, withdraws its own
   pub same_asks : (W : List K) (R : List (Told K V)) → VersionStands eq m R v W (asked_of eq ps) (tasks_of eq ps) → is_going (tasks_of eq ps k) ≡ false → ((q : K) (a : By K) → asks eq qs q a ≡ (asks eq ps q a && not (is_by eq (Tasked k) a))) → SameAsks eq (asked_of eq ps) (asked_of eq qs)
   same_asks W R h still off q a = off q a ∙ by_asker a
     where
@@ -216,7 +216,7 @@ module _ {K V : Type 0} (eq : K → K → Bool) (equality : IsEquality eq) (m : 
 -- ---- what a make does, by the calls that it makes
 
 module _ {K V : Type 0} (eq : K → K → Bool) (v : ℕ) (k : K) where
-  -- a task that is made ready finds its place free, where the desk z has the same tasks at hand as before
+  -- a task that is made ready finds its place free, if the desk z has the same tasks at hand as before
   pub ready_fits : (ps : List (K × Share K (Held K V))) (d z q : DeskSeen K V) (p : ℕ × K) → HasMakeRoom eq v k ps d → z.ready ≡ d.ready → z.out ≡ d.out → z.ready_room ≡ d.ready_room → q ≡ z → p ≡ (v, k)
       → (Has q.ready p → ⊥) × (Has q.out p → ⊥) × (0 < q.ready_room)
   ready_fits ps d z q p h r o n e i =
@@ -294,7 +294,7 @@ module _ {K V : Type 0} (eq : K → K → Bool) (equality : IsEquality eq) (m : 
   }
 
 module _ {U K V A : Type 0} (eq : K → K → Bool) (m : Meaning K V) (v : ℕ) (k : K) (born : ℕ) (ps : List (K × Share K (Held K V))) (es : List (K × Stored K V)) where
-  -- what is made by what a look-up says, where the key has no task
+  -- what is made by what a look-up says, if the key has no task
   pub making_of : (o : Look K V) → o ≡ look m.is_transient (entry_at eq es k) v → IsFree (task_at eq ps k) → (p : Making U K V A) → IsMakingFor v k born o p → IsMaking eq m v k born ps es p
   making_of o e f Join h = absurd h
   making_of o e f (Match event base task) h = (f, (h.0, sym e ∙ h.1, h.2))

@@ -25,7 +25,7 @@ one_at_most true = omega arith
 one_at_most false = omega arith
 
 module _ {K V : Type 0} (eq : K → K → Bool) (equality : IsEquality eq) where
-  -- the room is there where asks and room are as before
+  -- the room is there if asks and room are as before
   pub room_same : (xs : List (WaitOf K)) (ps qs : List (K × Share K (Held K V))) → HasRoomFor eq xs ps → KeepsAsks eq ps qs → KeepsRoom eq ps qs → HasRoomFor eq xs qs
   room_same xs ps qs h asked room = record {
     alike = h.alike;

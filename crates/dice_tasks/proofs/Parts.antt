@@ -73,7 +73,7 @@ module _ {X Y : Type 0} (f : X → Y) where
       let same : Same (map f xs) (map f ys) = same_places xs ys (IsPermutation-swap xs ys i r l (omega arith) refl) in
       (front, moves_left (map f (take r xs)) (map f (drop r xs)) (map f (drop (r + 1) ys)) p (subst AreDistinct (sym (parts r xs)) u) (subst AreDistinct (sym whole) v) (rw (parts r xs, whole) same))
 
-  -- where no thing passes a test that says yes to each thing of a place, none has that place
+  -- if no thing passes a test that says yes to each thing of a place, none has that place
   pub none_there : (t : X → Bool) (p : Y) → ((x : X) → f x ≡ p → t x ≡ true) → (xs : List X) → list_any t xs ≡ false → Has (map f xs) p → ⊥
   none_there t p says [] n h = h
   none_there t p says (x ∷ xs) n (inl q) = true≢false (sym (or_left (t x) (list_any t xs) (says x q)) ∙ n)

@@ -1,4 +1,4 @@
--- Whoever is asked for has a task, also where tasks end or are dropped.
+-- Whoever is asked for has a task, also when tasks end or are dropped.
 use Rattle.std.proofs.Common.{◌≡◌, Bool, true, false, cond, not, List, Some, None, ℕ, refl, sym, ◌∙◌, subst}
 use Rattle.dice_key.specs.Lawful.{IsEquality}
 use Rattle.task_share.specs.Asked.{Tasked, is_by}

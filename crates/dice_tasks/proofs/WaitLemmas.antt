@@ -1,4 +1,4 @@
--- What holds while a call works on a version is kept where a task is taken, put back, waits or goes on.
+-- What holds while a call works on a version is kept when a task is taken, put back, waits or goes on.
 use Rattle.std.proofs.Common.{◌≡◌, ◌≤◌, ◌⊎◌, inl, inr, ◌+◌, ◌*◌, ℕ, Bool, true, false, cond, ◌&&◌, ◌||◌, List, [], ◌∷◌, map, reverse, Option, Some, refl, sym, ap, ◌∙◌, subst, arith}
 use Rattle.std.proofs.lemmas.Bool.{eq-eqb, and_parts, or_cases}
 use Rattle.std.specs.Option.{option_map}
@@ -60,7 +60,7 @@ module _ {X : Type 0} (f g : X → Bool) (y : X) (else : (x : X) → (y ≡ x �
   outs_turn true false p q xs ys h all = all_fewer f g y q else test xs ys all h.among h.others h.distinct
 
 module _ {K V : Type 0} (eq : K → K → Bool) (equality : IsEquality eq) (v : ℕ) (k : K) (o : Option (Task K V)) (s u : Asked K) (ts us : K → Option (Task K V)) (w : World K V) (put : Puts eq k o ts us) where
-  -- the out tasks of all versions, where one task of v was put
+  -- the out tasks of all versions, if one task of v was put
   pub outs_put : (a b : Bool) → is_out (ts k) ≡ a → is_out o ≡ b → (xs ys : List (ℕ × K)) → OutTurns a b (v, k) xs ys → AreAll (λ (p : ℕ × K). is_out ((with_version v s ts w).tasks p.0 p.1)) xs → AreAll (λ (p : ℕ × K). is_out ((with_version v u us w).tasks p.0 p.1)) ys
   outs_put a b was is xs ys turns all = outs_turn (λ (p : ℕ × K). is_out ((with_version v s ts w).tasks p.0 p.1)) (λ (p : ℕ × K). is_out ((with_version v u us w).tasks p.0 p.1)) (v, k) others (pair_test eq equality v k) a b there here xs ys turns all
     where
@@ -113,7 +113,7 @@ module _ {K V : Type 0} (eq : K → K → Bool) (equality : IsEquality eq) where
   asked_same ps qs live asked = λ i. record { live = λ q. live q i; asks = λ q b. asked q b i }
 
   module _ (m : Meaning K V) (v : ℕ) (k : K) (h g : Held K V) (ps qs : List (K × Share K (Held K V))) (was : task_at eq ps k ≡ Some h) (tasks : (q : K) → task_at eq qs q ≡ cond (eq k q) (Some g) (task_at eq ps q)) (live : (q : K) → is_live eq qs q ≡ is_live eq ps q) (name : g.name ≡ h.name) where
-    -- all that holds beside what stands over all versions is kept where one task turns
+    -- all that holds beside what stands over all versions is kept if one task turns
     pub works_on : (d e : DeskSeen K V) (a b : Bool) → out_in h.standing ≡ a → out_in g.standing ≡ b → OutTurns a b (v, k) d.out e.out → e.events ≡ d.events → (W X : List K) (w : World K V) (owed owed2 : ℕ) → Working eq m v W w owed ps d
         → Stand eq m (reverse d.events) v X (seen_world eq v qs w) (desk_of e) owed2 → Working eq m v X w owed2 qs e
     works_on d e a b out_was out_is outs events W X w owed owed2 work stand = record {
@@ -126,7 +126,7 @@ module _ {K V : Type 0} (eq : K → K → Bool) (equality : IsEquality eq) where
 -- ---- a job is taken, comes back, or goes on
 
 module _ {K V : Type 0} (eq : K → K → Bool) (equality : IsEquality eq) (m : Meaning K V) (law : IsLawful m) (v : ℕ) (k : K) where
-  -- the desk, where a ready task is taken
+  -- the desk, if a ready task is taken
   taken_ready : (p : ℕ × K) (d e : DeskSeen K V) → Takes p d e → AreDistinct d.ready → Loses p d.ready e.ready
   taken_ready p d e takes distinct = loses_last d.ready e.ready p (subst AreDistinct takes.ready distinct) (subst (λ z. Same d.ready z) takes.ready (record { there = λ x i. i; back = λ x i. i }))
 

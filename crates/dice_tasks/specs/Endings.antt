@@ -80,17 +80,17 @@ module _ {K V : Type 0} (eq : K → K → Bool) (v : ℕ) where
     pub tells : TellsEnd k h o x ps qs d mid
     pub desk : e ≡ with_told_next mid k
 
--- how tasks end that are given up with one: as lost, or with this cycle; where there is no memory for the cycle, as lost too
+-- how tasks that are given up with one end: as lost, or with this cycle; if there is no memory for the cycle, as lost too
 abbrev pub ComesOf : {K V : Type 0} → Option (List K) → Outcome K V → Type 0
 ComesOf None o = o ≡ WithNothing
 ComesOf (Some p) o = (o ≡ WithCycle p) ⊎ (o ≡ WithNothing)
 
--- the cycle, where there is one
+-- the cycle, if there is one
 abbrev pub path_of : {K : Type 0} → How K → Option (List K)
 path_of Lost = None
 path_of (Cycle p) = Some (arc_value p.now)
 
--- how the first of them ends: with the cycle, where there is one, else as lost
+-- how the first of them ends: with the cycle, if there is one, otherwise as lost
 abbrev pub ends_so : {K V : Type 0} → Option (List K) → Outcome K V
 ends_so None = WithNothing
 ends_so (Some p) = WithCycle p
@@ -102,7 +102,7 @@ told_end v k (WithCycle p) = event.Cyclic v k
 told_end v k WithNothing = event.Lost v k
 
 module _ {K V : Type 0} (eq : K → K → Bool) (m : Meaning K V) where
-  -- the key reaches the cycle, where there is one
+  -- the key reaches the cycle, if there is one
   abbrev pub ReachesPath : Option (List K) → List (List (K × V)) → ℕ → K → Type 0
   ReachesPath None C v k = Unit {0}
   ReachesPath (Some p) C v k = CycleStands eq m C v k p
@@ -171,7 +171,7 @@ module _ {K V : Type 0} (eq : K → K → Bool) where
   abbrev pub EndWithAskers : List (K × Outcome K V) → List (K × Share K (Held K V)) → Type 0
   EndWithAskers es ps = (q j : K) (o : Outcome K V) → Has es (q, o) → asks eq ps q (Tasked j) ≡ true → (r : Outcome K V) × Has es (j, r)
 
-  -- the task of k ends, with the cycle where there is one, and with it each that asks for it, each that asks for one of these, and so on, and no
+  -- the task of k ends, with the cycle if there is one, and with it each that asks for it, each that asks for one of these, and so on, and no
   -- other; and then those are dropped. No task is told of twice
   pub record GivesUpAll (v : ℕ) (path : Option (List K)) (k : K) (ps qs : List (K × Share K (Held K V))) (d e : DeskSeen K V) : Type 0 where
     pub ends : List (K × Outcome K V)

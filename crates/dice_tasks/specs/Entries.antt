@@ -16,7 +16,7 @@ use Rattle.versioned_graph.specs.declared.found.Why.{Why}
 use Rattle.versioned_graph.specs.declared.found.Why.TheVariants as why
 use Rattle.core_laws.specs.Stands.{WasSeen}
 
--- why a key is started, where it has to be computed
+-- why a key is started, if it has to be computed
 abbrev pub started_for : {K : Type 0} → Why → Reason K
 started_for why.New = reason.New
 started_for (why.Transient b) = reason.Transient b
@@ -52,7 +52,7 @@ module _ {K V : Type 0} (eq : K → K → Bool) (m : Meaning K V) (R : List (Tol
     pub backed : (k : K) (e : Kept K V) → entry_at eq es k ≡ Some e → Backed k e
     pub known : (k : K) (b : ℕ) → is_base eq R b k ≡ true → (e : Kept K V) × (entry_at eq es k ≡ Some e)
 
-  -- what a match with x and b says of k at v: k has the value x at both, and b is a base; where they are two versions, x is not transient;
+  -- what a match with x and b says of k at v: k has the value x at both, and b is a base; if they are two versions, x is not transient;
   -- and the entry's ranges have v
   pub record IsMatched (es : List (K × Stored K V)) (v : ℕ) (k : K) (x : V) (b : ℕ) : Type 0 where
     pub base : is_base eq R b k ≡ true

@@ -145,7 +145,7 @@ module _ {K V : Type 0} (eq : K → K → Bool) where
   abbrev pub AreNamed : ℕ → List (K × Share K (Held K V)) → Type 0
   AreNamed v ps = (k : K) (h : Held K V) → task_at eq ps k ≡ Some h → (h.name.version ≡ v) × (h.name.key ≡ k)
 
-  -- the world where version v has the tasks and asks of this table
+  -- the world in which version v has the tasks and asks of this table
   abbrev pub seen_world : ℕ → List (K × Share K (Held K V)) → World K V → World K V
   seen_world v ps w = with_version v (asked_of eq ps) (tasks_of ps) w
 
@@ -158,7 +158,7 @@ module _ {K V : Type 0} (eq : K → K → Bool) (m : Meaning K V) where
     pub named : AreNamed eq v ps
     pub wanted : (k : K) → is_live eq ps k ≡ true → IsWanted eq m (reverse d.events) v k
 
-  -- what holds while the cascade goes on: the same, where what is at work need not be wanted any more
+  -- what holds while the cascade goes on: the same, but what is at work need not be wanted any more
   pub record Cleaning (v : ℕ) (w : World K V) (owed : ℕ) (ps : List (K × Share K (Held K V))) (d : DeskSeen K V) : Type 0 where
     pub stand : Stand eq m (reverse d.events) v [] (seen_world eq v ps w) (desk_of d) owed
     pub outs : AreAll (λ (p : ℕ × K). is_out ((seen_world eq v ps w).tasks p.0 p.1)) d.out

@@ -45,7 +45,7 @@ module _ {K V : Type 0} where
   held_check n x T b = held_of (record { name = n; answered = []; work = Checks x T b }) IsReady
 
 module _ {K V : Type 0} (v : ℕ) (k : K) where
-  -- the task that is made of k at v where a look-up says this, when the journal has so many events: a value that matches ends it; a key that has to be
+  -- the task that is made of k at v if a look-up says this, when the journal has so many events: a value that matches ends it; a key that has to be
   -- computed is begun; and a value whose dependencies have to be checked waits for its check
   abbrev pub task_by : ℕ → Look K V → Held K V
   task_by born (Matches x b) = held_ended (record { version = v; key = k; born = born }) (WithValue x)
@@ -58,7 +58,7 @@ module _ {K V : Type 0} (v : ℕ) (k : K) where
   told_by (LooksNew y) = Start v k (started_for y) ∷ []
   told_by (LooksOld x T b) = []
 
--- what becomes of the entry: where its value matches, it was seen at v
+-- what becomes of the entry: if its value matches, it was seen at v
 abbrev pub entry_by : {K V : Type 0} → ℕ → Look K V → Option (Kept K V) → Option (Kept K V)
 entry_by v (Matches x b) o = option_map (seen_at v) o
 entry_by v (LooksNew y) o = o
@@ -99,7 +99,7 @@ module _ {K V : Type 0} (eq : K → K → Bool) (m : Meaning K V) (R : List (Tol
     pub born : since ≤ length R
 
 module _ {U K V A : Type 0} (v : ℕ) (k : K) (born : ℕ) where
-  -- what is to be made of k at v where a look-up says this
+  -- what is to be made of k at v if a look-up says this
   abbrev pub IsMakingFor : Look K V → Making U K V A → Type 0
   IsMakingFor o Join = ⊥
   IsMakingFor o (Match event base task) = (x : V) × (o ≡ Matches x base) × (task ≡ held_ended (record { version = v; key = k; born = born }) (WithValue x))
@@ -107,7 +107,7 @@ module _ {U K V A : Type 0} (v : ℕ) (k : K) (born : ℕ) where
   IsMakingFor o (Check ready task) = (x : V) × (T : List (Answered K V)) × (b : ℕ) × (o ≡ LooksOld x T b) × (task ≡ held_check (record { version = v; key = k; born = born }) x T b)
 
 module _ {U K V A : Type 0} (eq : K → K → Bool) (m : Meaning K V) (v : ℕ) (k : K) (born : ℕ) (ps : List (K × Share K (Held K V))) (es : List (K × Stored K V)) where
-  -- what is to be made of k at v: nothing, where it has a task that was not given up; else what a look-up says
+  -- what is to be made of k at v: nothing, if it has a task that was not given up; otherwise what a look-up says
   abbrev pub IsMaking : Making U K V A → Type 0
   IsMaking Join = HasTask (task_at eq ps k)
   IsMaking (Match event base task) = IsFree (task_at eq ps k) × IsMakingFor {U = U} {A = A} v k born (look m.is_transient (entry_at eq es k) v) (Match event base task)

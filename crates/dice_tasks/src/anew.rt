@@ -20,8 +20,8 @@ use dice_jobs::{Assignment, Job};
 use dice_key::{KeyRef, Universe, laws_of};
 use journal::Event;
 
-/// The check of a key, which is out, found a changed answer: this event, a Start, tells it, and the task computes the key's value by
-/// this job, which goes on from the answers of the check, and of which it keeps a copy. It takes no memory.
+/// The check of a key, which is out, found a changed answer. This event, a Start, tells it, and the task computes the key's value by
+/// this job, which goes on from the answers of the check; the task keeps a copy of it. It takes no memory.
 pub fn differ<U: Universe>(
     desk: &mut Desk<U>,
     tasks: &mut Tasks<U>,

@@ -85,7 +85,7 @@ impl<U: Universe> Desk<U> {
     }
 
     /// Makes room for `tasks` tasks to be made or to become ready; for two events for each task at work and each of these; and
-    /// for `owed` and `more` events beside. Nothing else changes, also where memory is refused.
+    /// for `owed` and `more` events beside. Nothing else changes, even if memory is refused.
     pub fn reserve(&mut self, owed: usize, more: usize, tasks: usize) -> Result<(), NoMemory>
         ensures same { KeepsHands self.old self.new }
         ensures room { KeepsDeskRoom self.old self.new }

@@ -30,7 +30,7 @@ use task_state::Outcome;
 /// How tasks end that are given up together.
 #[derive(Drop)]
 pub enum How<'a, K: Drop> {
-    /// For want of memory.
+    /// Since no memory was left.
     Lost,
     /// Since their keys reach this cycle.
     Cycle(&'a Arc<Path<K>>),
@@ -49,7 +49,7 @@ fn quit<U: Universe>(desk: &mut Desk<U>, task: &Task<U>, version: u64, key: &Key
     }
 }
 
-/// Drops one task at work that nobody asks for; `false` where there is none. It takes no memory.
+/// Drops one task at work that nobody asks for; `false` if there is none. It takes no memory.
 fn drop_one<U: Universe>(desk: &mut Desk<U>, tasks: &mut Tasks<U>, version: u64) -> bool
     requires known { Knows U.Key.eq version tasks.old desk.old }
     ensures some { result ≡ true → (k : U.Key) × (h : Held U.Key U.Value) × DropsTask U.Key.eq version k h tasks.old tasks.new desk.old desk.new }
@@ -165,7 +165,7 @@ fn end_cyclic<U: Universe>(
     desk.push_ended(second);
 }
 
-/// Ends the task at work of a key as is said, and puts the key on the list of those whose askers are still to be told. Where there
+/// Ends the task at work of a key as is said, and puts the key on the list of those whose askers are still to be told. If there
 /// is no memory for the cycle, the task ends as lost.
 fn end_one<U: Universe>(
     desk: &mut Desk<U>,
@@ -187,7 +187,7 @@ fn end_one<U: Universe>(
     }
 }
 
-/// Ends the task at work of a key with its own cycle, or as lost where there is none, and puts the key on the list of those whose
+/// Ends the task at work of a key with its own cycle, or as lost if there is none, and puts the key on the list of those whose
 /// askers are still to be told. It takes no memory.
 fn end_own<U: Universe>(
     desk: &mut Desk<U>,
@@ -206,7 +206,7 @@ fn end_own<U: Universe>(
     }
 }
 
-/// Ends a task that asks for the last key on the list, or takes this key off where no task does; `false` where the list is empty.
+/// Ends a task that asks for the last key on the list, or takes this key off if no task does; `false` if the list is empty.
 fn tell_one<U: Universe>(
     desk: &mut Desk<U>,
     tasks: &mut Tasks<U>,
@@ -234,8 +234,8 @@ fn tell_one<U: Universe>(
 }
 
 /// Ends the task at work of a key, each task that asks for it, each that asks for one of these, and so on: as lost, or with a
-/// cycle that the key reaches. It takes no memory: the task of the key ends with its `own` cycle, and another one for which there
-/// is no memory for a copy ends as lost.
+/// cycle that the key reaches. It takes no memory: the task of the key ends with its `own` cycle, and any other one ends as lost if there
+/// is no memory for its copy.
 ///
 /// It costs the number of tasks that it ends and of the keys that they waited for.
 pub fn end_all<U: Universe>(

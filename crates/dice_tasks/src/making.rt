@@ -215,7 +215,7 @@ fn prepare_match<U: Universe>(
     Ok(Making::Match { event, base, task })
 }
 
-/// What is made where the value has to be computed.
+/// What is made if the value has to be computed.
 fn prepare_run<U: Universe>(
     alloc: Global,
     version: u64,
@@ -241,7 +241,7 @@ fn prepare_run<U: Universe>(
     })
 }
 
-/// What is made where an earlier value has to be checked.
+/// What is made if an earlier value has to be checked.
 fn prepare_check<U: Universe>(
     alloc: Global,
     version: u64,
@@ -259,8 +259,8 @@ fn prepare_check<U: Universe>(
     Ok(Making::Check { ready, task })
 }
 
-/// What is to be made of a key, which is not injected, at a version, where the journal has `born` events: nothing where it has
-/// a task that was not given up, else what a look-up says. It takes the memory for it, and changes nothing.
+/// What is to be made of a key, which is not injected, at a version, when the journal has `born` events: nothing if it has
+/// a task that was not given up, otherwise what a look-up says. It takes the memory for it, and changes nothing.
 pub fn prepare<U: Universe>(
     alloc: Global,
     graph: &Graph<U>,

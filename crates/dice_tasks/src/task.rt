@@ -221,7 +221,7 @@ impl<U: Universe> Task<U> {
         Ok(Task { parts })
     }
 
-    /// Takes the job of a ready task: it goes out. `None` where the task is not ready.
+    /// Takes the job of a ready task: it goes out. `None` if the task is not ready.
     pub(crate) fn take(&mut self) -> Option<Job<U>>
         ensures some { IfSome result (λ j. (self.old ≡ held_of j IsReady) × (self.new ≡ held_of j IsOut)) }
         ensures none { IfNone result ((self.new ≡ self.old) × (ready_in self.old.standing ≡ false)) }
@@ -279,7 +279,7 @@ impl<U: Universe> Task<U> {
         self.is_away(step.assignment())
     }
 
-    /// Whether the job that is out is alike the step's: of its name and work, and as far.
+    /// Whether the job that is out is like the step's: of its name and work, and equally far.
     pub fn is_like(&self, step: &Step<U>) -> bool
         ensures { IsTrue result ↔ ((j : Assigned U.Key U.Value) × (self.now ≡ held_of j IsOut) × AreAlike step.now.job j) }
     {
@@ -373,7 +373,7 @@ impl<U: Universe> Task<U> {
         &self.parts.name
     }
 
-    /// What the task's job is for; `None` where it has ended.
+    /// What the task's job is for; `None` if it has ended.
     pub fn assignment(&self) -> Option<&Assignment<U>>
         ensures some { IfSome result (λ a. (p : Phase U.Key) × (self.now ≡ held_of a.now p)) }
         ensures none { IfNone result (goes_on self.now.standing ≡ false) }
@@ -385,7 +385,7 @@ impl<U: Universe> Task<U> {
         }
     }
 
-    /// The batch that the task waits for, where it waits.
+    /// The batch that the task waits for, if it waits.
     pub fn batch(&self) -> Option<&Batch<U::Key>>
         ensures { option_map (λ b. b.now) result ≡ waits_for self.now.standing }
     {
@@ -395,7 +395,7 @@ impl<U: Universe> Task<U> {
         }
     }
 
-    /// How the task ended, where it has.
+    /// How the task ended, if it has.
     pub fn outcome(&self) -> Option<&Outcome<U::Key, U::Value>>
         ensures some { IfSome result (λ o. self.now.standing ≡ Ended (came o.now)) }
         ensures none { IfNone result (goes_on self.now.standing ≡ true) }
@@ -407,7 +407,7 @@ impl<U: Universe> Task<U> {
         }
     }
 
-    /// The value that the task ended with, where it has.
+    /// The value that the task ended with, if any.
     pub fn value(&self) -> Option<&ValueRef<U>>
         ensures { option_map (λ x. arc_value x.now) result ≡ value_in self.now.standing }
     {
@@ -417,7 +417,7 @@ impl<U: Universe> Task<U> {
         }
     }
 
-    /// The cycle that the task ended with, where it has.
+    /// The cycle that the task ended with, if any.
     pub fn cycle(&self) -> Option<&Arc<Path<U::Key>>>
         ensures { option_map (λ p. arc_value p.now) result ≡ path_in self.now.standing }
     {
@@ -427,7 +427,7 @@ impl<U: Universe> Task<U> {
         }
     }
 
-    /// Whether the task was given up for want of memory.
+    /// Whether the task was given up since no memory was left.
     pub(crate) fn is_lost(&self) -> bool
         ensures { IsTrue result ↔ (self.now.standing ≡ Ended WithNothing) }
     {

@@ -29,7 +29,7 @@ pub fn looked<'a, U: Universe>(graph: &'a Graph<U>, key: &KeyRef<U>, version: u6
     graph.lookup(key, version)
 }
 
-/// Why a key is started that has to be computed.
+/// Why a key that has to be computed is started.
 pub(crate) fn cause_of<K: Drop>(why: Why) -> Cause<K>
     ensures { reason_of result ≡ started_for why }
 {

@@ -52,7 +52,7 @@ fn take_job<U: Universe>(tasks: &mut Tasks<U>, key: &KeyRef<U>) -> Option<Job<U>
     task.take()
 }
 
-/// Takes back a job, undone, where it is out: its task is ready again. Another job is handed back. It takes no memory.
+/// Takes back a job, undone, if it is out: its task is ready again. Another job is handed back. It takes no memory.
 pub fn put_back<U: Universe>(
     desk: &mut Desk<U>,
     tasks: &mut Tasks<U>,
@@ -77,7 +77,7 @@ pub fn put_back<U: Universe>(
     return_to::<U>(desk, task, job)
 }
 
-/// Takes back a job, undone, where this task's is out. It takes no memory.
+/// Takes back a job, undone, if this task's is out. It takes no memory.
 fn return_to<U: Universe>(desk: &mut Desk<U>, task: &mut Task<U>, job: Job<U>) -> Option<Job<U>>
     requires known { task.old ≡ held_of job IsOut → Has desk.old.out (job.name.version, job.name.key) }
     ensures some { IfSome result (λ j. (j ≡ job) × (task.new ≡ task.old) × (desk.new ≡ desk.old) × (task.old ≡ held_of job IsOut → ⊥)) }

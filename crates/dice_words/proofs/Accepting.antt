@@ -1,4 +1,4 @@
--- Where a parse of a simple command has no fault, the command takes the words.
+-- If a parse of a simple command has no fault, the command takes the words.
 use Rattle.std.proofs.Common.{◌⊎◌, inl, inr, ⊎_elim, ◌≡◌, ◌==◌, ◌&&◌, ◌||◌, ℕ, zero, suc, Bool, true, false, not, List, [], ◌∷◌, length, drop, find, Option, Some, None, is_some, if◌then◌else◌, nat_le, nat_lt, bytes_eq, codes, encode_utf8, slice_get, chars, refl, subst, arith}
 use Rattle.std.proofs.lemmas.Grind.{common_steps}
 use Rattle.std.proofs.lemmas.Option.{same_Some}
@@ -127,7 +127,7 @@ flag_clean : (b : Bool) (k : ErrorKind) (f : Kinds) (p : Bool) → (f ≡ [] →
 flag_clean true k f p h e = cc
 flag_clean false k f p h e = h e
 
--- where a test holds nothing is asked
+-- if a test holds nothing is asked
 open_clean : (b : Bool) (f : Kinds) (p : Bool) → (f ≡ [] → p ≡ true) → (if b then [] else f) ≡ [] → (b || p) ≡ true
 open_clean true f p h e = refl
 open_clean false f p h e = h e

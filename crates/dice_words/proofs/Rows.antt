@@ -1,4 +1,5 @@
--- What the rows of a level hold where its parse passes: each argument that has one has a value that it takes.
+-- What the rows of a level hold if its parse passes: each argument that has one has a value that it
+-- takes.
 use Rattle.std.proofs.Common.{◌⊎◌, inl, inr, ⊎_elim, ◌≡◌, ◌∙◌, ◌&&◌, ◌||◌, ℕ, zero, suc, Bool, true, false, not, List, [], ◌∷◌, ◌++◌, length, drop, find, Option, Some, None, is_some, if◌then◌else◌, cond, nat_le, nat_lt, bytes_eq, encode_utf8, slice_get, chars, refl, sym, ap, subst, arith, ltb-true, option_map}
 use Rattle.std.proofs.lemmas.Bool.{leb-true, or_right}
 use Rattle.std.proofs.lemmas.Option.{same_Some}
@@ -399,7 +400,7 @@ never_both : (b : Bool) → (b && false) ≡ true → ⊥
 never_both true e = cc
 never_both false e = cc
 
--- an argument that is required has a row where the level passes
+-- an argument that is required has a row if the level passes
 pub required_there : (s : Shape) (words : List Text) (a : Rule) → Among a s.rules → a.required ≡ true → level_passes s [] nothing_held words false ≡ true
     → has_row a.id (rows_after s.rules [] words) ≡ true
 required_there s words a among wanted e =

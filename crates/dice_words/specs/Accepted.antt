@@ -1,4 +1,5 @@
--- The command line of `dice` in the terms of `clap`: the command, the words that it takes, and which command they ask for.
+-- The command line of `dice` in the terms of `clap`: the command, the words that it takes, and
+-- which command they ask for.
 use Rattle.std.specs.Prelude.{◌≡◌, ◌⊎◌, ◌≤◌, Bool, true, ℕ, List, [], ◌∷◌, Option, Some, codes, pos, option_map, IsSomeAnd}
 use Rattle.std.specs.Str.Parse.{digits_value, without_leading_plus}
 use Rattle.clap.specs.Words.{App, IsSignedIn, Row, Rule, Text, new_app, new_rule, one_of, subcommand_of, takes, with_rule, with_subcommand, without_minus}
@@ -8,7 +9,7 @@ use Rattle.clap.specs.declared.builder.value_parser.ValueParser.TheVariants as p
 use Rattle.dice_words.specs.declared.words.Command.{Command}
 use Rattle.dice_words.specs.declared.words.Command.TheVariants.{Run, Bulk}
 
--- `--workers W`, a number from 0 to 64, which is 4 where it is left out
+-- `--workers W`, a number from 0 to 64, which is 4 if it is left out
 abbrev pub workers : Rule
 workers = record (new_rule (codes "workers")) {
   long = Some (codes "workers");
@@ -55,7 +56,7 @@ number_of text = digits_value 10 (without_leading_plus text)
 abbrev pub number_in : Text → List Row → Option ℕ
 number_in id rows = option_map number_of (one_of id rows)
 
--- a flag was given where `flag` is true, and was left out where it is false
+-- a flag was given if `flag` is true, and was left out if it is false
 abbrev pub SaysFlag : Text → List Row → Bool → Type 0
 SaysFlag id rows flag = one_of id rows ≡ Some (bool_text flag)
 

@@ -81,7 +81,7 @@ impl From<clap::Error> for WordsFail {
     }
 }
 
-// `--workers W`: a number from 0 to 64, and 4 where it is left out.
+// `--workers W`: a number from 0 to 64, and 4 if it is left out.
 fn workers_option<'a>(alloc: Global) -> clap::Arg<'a>
     ensures rule { rule_of result ≡ workers }
     ensures local { result.global ≡ false }
@@ -181,7 +181,7 @@ fn bulk_of(matches: &ArgMatches) -> Option<Command>
     Some(Command::Bulk { targets, workers })
 }
 
-// What the matches ask for, where each argument has what its rule wants.
+// What the matches ask for, if each argument has what its rule wants.
 fn asked(matches: &ArgMatches) -> Option<Command>
     ensures { IsSomeAnd (subcommand_rows_of matches.now) IsComplete
         → IsSomeAnd result (λ c. IsSomeAnd (subcommand_rows_of matches.now) (IsOf c) × IsWithin c) }
@@ -194,7 +194,7 @@ fn asked(matches: &ArgMatches) -> Option<Command>
 
 /// Reads the words, of which the first is the program's name.
 ///
-/// `Refused` comes exactly where `clap` refuses the words for another cause than memory. A number
+/// `Refused` comes exactly if `clap` refuses the words for a cause other than memory. A number
 /// is what `clap` takes for one: a plus or zeros may stand before its digits.
 pub fn read_words(alloc: Global, words: &[&str]) -> Result<Command, WordsFail>
     ensures accepted { IfOk result (λ c. IsAccepted (map (λ w. w.now) words.now)) }

@@ -1,4 +1,4 @@
-//! The standard streams, over an input and an output of which one call fails.
+//! The standard streams, over an input and an output each of which fails at one call.
 use crate::edge::ROW;
 use dice_io::{Failed, ReadFail, RealSink, RealSource, Source, read_all, write_all};
 use std::alloc::Allocator;
@@ -10,7 +10,7 @@ use std::test::Fail;
 /// The most bytes that one call moves.
 const PIECE: usize = 10;
 
-/// The row as an input, of which the call with this number fails, from 0.
+/// The row as an input, which fails at the call with this number, from 0.
 #[derive(Drop)]
 struct FailingInput {
     fails: u64,
@@ -67,7 +67,7 @@ impl Input for FailingInput {
     }
 }
 
-/// An output of the row, of which the call with this number fails, from 0.
+/// An output of the row, which fails at the call with this number, from 0.
 #[derive(Drop)]
 struct FailingOutput {
     fails: u64,

@@ -119,7 +119,7 @@ fn only_values_that_differ_make_a_version(rt: HostRuntime) -> Result<(), Fail> {
     Ok(())
 }
 
-/// What a run comes to that asks for a sum, on the cells that it stands on.
+/// What a run that asks for a sum comes to, on the cells that the sum stands on.
 fn course_of_sum<R: Wait>(rt: &R, alloc: Global) -> Result<Course<Tiny>, NoMemory> {
     let key = Arc::new(alloc, Place::Sum(1, 2))?;
     let updater = updater_of(alloc, &CELLS)?;
@@ -147,8 +147,8 @@ fn a_promise_is_pending_then_settled_and_at_last_gone(rt: HostRuntime) -> Result
     Ok(())
 }
 
-/// What a seat did that works on what another one waits for, what the other one sees, the number of
-/// the first when it is joined, and what is left to do then.
+/// Two seats, of which one works on what the other waits for: what the first did, what the other
+/// sees, the number of the first when it is joined, and what is left to do then.
 fn two_seats<R: Wait>(rt: &R, alloc: Global) -> Result<(Worked, Seen, u64, Worked), NoMemory> {
     let ring = Arc::new(alloc, Place::Ring(true))?;
     let (engine, mut zero) = start(rt, alloc, Tiny::new(alloc)?, 1)?;

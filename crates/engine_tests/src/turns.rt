@@ -216,7 +216,7 @@ fn add_all_twice<R: Wait + Threads + Sync>(
     (one, first.and(second))
 }
 
-/// How many entries each of four seats made, where each of them counts its turns from 0.
+/// How many entries each of four seats made, if each of them counts its turns from 0.
 fn counts(entries: &[Entry]) -> Option<[u64; 4]> {
     let mut next = [0u64; 4];
     for entry in entries {

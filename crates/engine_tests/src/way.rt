@@ -120,7 +120,7 @@ pub(crate) fn way_of<U: Universe, R: Wait>(
 pub(crate) struct Course<U: Universe> {
     /// How many lines the journal has at first.
     pub(crate) before: usize,
-    /// The version of the commit, where it is not refused.
+    /// The version of the commit, if it is not refused.
     pub(crate) made: Option<Version>,
     pub(crate) way: Way<U>,
     /// Whether a seat has a turn in the end.

@@ -185,7 +185,7 @@ fn first_other(alloc: Global, calls: &[Call]) -> Result<Option<usize>, NoMemory>
 /// Cell 1 is 5 from version 1 on.
 const SET: Call = Call::Commit(1, 1, 5);
 
-/// The key was finished at version 1, where cell 1 is 5.
+/// The key was finished at version 1, at which cell 1 is 5.
 const FINISHED: Call = Call::Finish(KEY, 1, TEN, Place::Cell(1), 5);
 
 /// A key that asks it was finished there.
@@ -277,7 +277,7 @@ const KNOWN: [Call; 14] = [
     FINISHED,
     Call::Commit(2, 3, 5),
     Call::Commit(3, 1, 6),
-    // The key again, where nothing that it asks has changed, and one that asks it.
+    // The key again, when nothing that it asks has changed; and a key that asks it.
     Call::Finish(KEY, 2, TEN, Place::Cell(1), 5),
     Call::Finish(USER, 2, TWELVE, KEY, 10),
     Call::NoMatch(KEY, 0),

@@ -71,7 +71,7 @@ const ROWS: [Row; 23] = [
     (Place::Cell(2), 9, 1, Some(Value::Number(7))),
     (Place::Cell(1), 2, 4, Some(Value::Number(2))),
     (Place::Cell(3), 2, 1, Some(Value::Number(0))),
-    // two batches, where the second is what the first leads to
+    // two batches, of which the second is what the first leads to
     (Place::Follow(1), 2, 1, None),
     (Place::Follow(1), 0, 2, Some(Value::Number(0))),
     (Place::Follow(1), 1, 2, Some(Value::Number(40))),

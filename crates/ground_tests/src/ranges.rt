@@ -110,7 +110,7 @@ const MADE: [MadeRow; 9] = [
     (&SET, &SET, Made::Round(7), &[(7, None)]),
 ];
 
-/// The number of the first row where another set is made.
+/// The number of the first row by which another set is made.
 fn first_other_made(alloc: Global, rows: &[MadeRow]) -> Result<Option<usize>, NoMemory> {
     for i in 0..rows.len() {
         let (first, second, how, want) = rows[i];

@@ -80,7 +80,7 @@ fn trace_of(alloc: Global, last: u64) -> Result<Trace<Tiny>, NoMemory> {
     Ok(recorder.finish())
 }
 
-/// Feeds the check where it wants as many answers.
+/// Feeds the check if it wants as many answers.
 fn feed(check: &mut Check<Tiny>, answers: Answers<Value>) -> bool {
     if let Next::Want(batch) = check.next()
         && batch.len() == answers.len()

@@ -43,7 +43,7 @@ module _ {V : Type 0} where
       let t : take k h ≡ take (k - 1) h ++ get_or h (k - 1) d ∷ [] = subst (λ n. take n h ≡ take (k - 1) h ++ get_or h (k - 1) d ∷ []) e (take_more h (k - 1) d lt) in
       sym (take-append-drop k h) ∙ (ap (λ xs. xs ++ drop k h) t ∙ append_assoc (take (k - 1) h) (get_or h (k - 1) d ∷ []) (drop k h))
 
-  -- where the first k sets lie at or below v, and no other, the last of these has the value
+  -- if the first k sets lie at or below v, and no other, the last of these has the value
   pub value_here : (x : V) (h : List (ℕ × V)) (k v : ℕ) (d : ℕ × V) → IsRising h → 0 < k → k ≤ length h → (get_or h (k - 1) d).0 ≤ v → (k < length h → v < (get_or h k d).0) → value_at x h v ≡ (get_or h (k - 1) d).1
   value_here x h k v d r p l f g =
       let e = around h k d p l in

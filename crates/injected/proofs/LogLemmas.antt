@@ -35,7 +35,7 @@ module _ {K V : Type 0} (eq : K → K → Bool) where
       skip None = refl
       skip (Some y) = ap (λ b. value_at (cond b y x) (sets_from eq (suc n) cs k) v) (lt-leb (suc n) v (omega arith))
 
-  -- at version n + i, where n commits came before, the first i commits decide
+  -- at version n + i, if n commits came before, the first i commits decide
   value_is : (n i : ℕ) (C : List (List (K × V))) (k : K) (x : V) (v : ℕ) → v ≡ n + i → value_at x (sets_from eq n C k) v ≡ last_value_of (eq k) x (take i C)
   value_is n zero C k x v e = later_sets n C k x v (omega arith)
   value_is n (suc i) [] k x v e = refl

@@ -60,7 +60,7 @@ module _ {V B : Type 0} (xs : List (Arc V B)) where
       let first : s.0 < t.0 = subst (FirstAbove s.0) e h.0 in
       (first, rising_numbers (t ∷ ss) n.1 h.1)
 
-  -- where the first k versions lie at or below v, and no other
+  -- if the first k versions lie at or below v, and no other
   pub value_of_last : (a : V) (ss : List (ℕ × ℕ)) (k v : ℕ) (d : ℕ × ℕ) (x : Arc V B) → AllNumbered (length xs) ss → IsRising (sets_of xs ss) → 0 < k → k ≤ length ss → (get_or ss (k - 1) d).0 ≤ v → (k < length ss → v < (get_or ss k d).0) → slice_get xs (get_or ss (k - 1) d).1 ≡ Some x → arc_value x ≡ value_at a (sets_of xs ss) v
   value_of_last a ss k v d x n r p l low high e =
       let size = length-sets ss n in
@@ -77,7 +77,8 @@ module _ {V B : Type 0} (xs : List (Arc V B)) where
       let at = place ss n (length ss - 1) d (0, a) x last e in
       sym (here ∙ (ap (λ i. (get_or (sets_of xs ss) (i - 1) (0, a)).1) size ∙ ap (λ (s : ℕ × V). s.1) at))
 
--- where the first k versions lie at or below v, and no other: the number behind them is the place of the value at v among the values
+-- if the first k versions lie at or below v, and no other: the number after them is the place of
+-- the value at v among the values
 module _ {V B : Type 0} (xs : List (Arc V B)) (ss : List (ℕ × ℕ)) (named : AllNumbered (length xs) ss) (rising : IsRising (sets_of xs ss)) (a : V) (v k : ℕ) (begun : AreBegun v ss k) where
   pub value_of_begun : k ≡ 0 → a ≡ value_at a (sets_of xs ss) v
   value_of_begun e = sym (value_before a (sets_of xs ss) v (0, a) rising (λ l.

@@ -1,4 +1,4 @@
--- Cells stay in order, and read as before where nothing was written.
+-- Cells stay in order, and read as before if nothing was written.
 use Rattle.std.proofs.Common.{◌≡◌, ◌<◌, ◌≤◌, ◌+◌, ◌++◌, ℕ, Bool, true, false, cond, max, List, [], ◌∷◌, Some, Result, OnOk, OnErr, refl, ap, sym, ◌∙◌, subst, inl, inr, arith}
 use Rattle.std.specs.Map.{lookup}
 use Rattle.std.proofs.lemmas.Bool.{cases_Bool}

@@ -224,7 +224,7 @@ ends_above q v h t e =
     let m = in_to q.from t v i in
     omega arith
 
--- where all values are the same, each stays
+-- if all values are the same, each stays
 pub stays_always : {V : Type 0} (eq : V → V → Bool) → ((x : V) → eq x x ≡ true) → (at : ℕ → V) (x : V) → ((u : ℕ) → at u ≡ x) → (v w : ℕ) → stays eq at v w ≡ true
 stays_always eq itself at x all v w = from_between (λ u. eq (at u) (at v)) v w (λ u l m. each u) (λ u l m. each u)
   where
@@ -236,7 +236,8 @@ module _ {V : Type 0} (eq : V → V → Bool) (at : ℕ → V) where
   pub stays_there : (v w : ℕ) → stays eq at v w ≡ true → eq (at w) (at v) ≡ true
   stays_there v w h = there (λ u. eq (at u) (at v)) v w h
 
-  -- where from n on all values are that at n, one that stays from v, which is not above n, to above n stays from v on
+  -- if from n on all values are that at n, one that stays from v, which is not above n, to above n
+  -- stays from v on
   pub stays_longer : (n v w u : ℕ) → v ≤ n → n < w → n ≤ u → ((z : ℕ) → n ≤ z → at z ≡ at n) → stays eq at v w ≡ true → stays eq at v u ≡ true
   stays_longer n v w u hv hw hu same h =
       let f = λ (z : ℕ). eq (at z) (at v) in

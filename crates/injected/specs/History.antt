@@ -2,12 +2,12 @@
 use Rattle.std.specs.Prelude.{ℕ, ◌<◌, nat_le, if◌then◌else◌, List, [], ◌∷◌}
 
 module _ {V : Type 0} where
-  -- the value of the last set at or below version v, else x
+  -- the value of the last set at or below version v, otherwise x
   abbrev pub value_at : V → List (ℕ × V) → ℕ → V
   value_at x [] v = x
   value_at x (s ∷ ss) v = value_at (if nat_le s.0 v then s.1 else x) ss v
 
-  -- the value of the last set, else x
+  -- the value of the last set, otherwise x
   abbrev pub newest_of : V → List (ℕ × V) → V
   newest_of x [] = x
   newest_of x (s ∷ ss) = newest_of s.1 ss

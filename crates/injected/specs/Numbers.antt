@@ -39,7 +39,8 @@ abbrev pub AllNumbered : ℕ → List (ℕ × ℕ) → Type 0
 AllNumbered n [] = Unit {0}
 AllNumbered n (s ∷ ss) = (s.1 < n) × AllNumbered n ss
 
--- each number names a value, no two values are equal, and there are places for as many sets as there is room for
+-- each number names a value, no two values are equal, and there are places for as many sets as
+-- there is room for
 pub record IsNumbered {V B : Type 0} (eq : V → V → Bool) (xs : List (Arc V B)) (ss : List (ℕ × ℕ)) (room free_sets free_values : ℕ) : Type 0 where
   pub named : AllNumbered (length xs) ss
   pub distinct : IsDistinct (equal_at eq) xs

@@ -11,16 +11,17 @@ pub record Cell (V : Type 0) : Type 0 where
   pub room : ℕ
   pub sets : List (ℕ × V)
 
--- the cells of the keys, in an order that says nothing, and the greatest version at which anything was set
+-- the cells of the keys, in an order that says nothing, and the greatest version at which anything
+-- was set
 pub record Seen (K V : Type 0) : Type 0 where
   pub cells : List (K × Cell V)
   pub last : ℕ
 
--- a key and its cell, without where the key lies in memory
+-- a key and its cell, without the key's place in memory
 abbrev pub named : {K V A : Type 0} → Arc K A × Cell V → K × Cell V
 named e = (arc_value e.0, e.1)
 
--- the sets of a cell, and its room, where there is one
+-- the sets of a cell, and its room, if there is one
 abbrev pub sets_in : {V : Type 0} → Option (Cell V) → List (ℕ × V)
 sets_in None = []
 sets_in (Some c) = c.sets
@@ -44,7 +45,7 @@ module _ {K V : Type 0} (eq : K → K → Bool) where
     pub bounded : (k : K) → AllBelow (sets_at c k) (c.last + 1)
 
 module _ {K V : Type 0} (eq : K → K → Bool) (m : Meaning K V) where
-  -- the value of a key at a version: that of its last set there or below, else the absent one
+  -- the value of a key at a version: that of its last set there or below, otherwise the absent one
   abbrev pub cell_at : Seen K V → ℕ → K → V
   cell_at c v k = value_at (m.absent k) (sets_at eq c k) v
 

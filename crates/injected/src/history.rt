@@ -21,7 +21,7 @@ use version_ranges::{Range, Ranges, open_has_a_tail};
 /// The sets of one key, in order, and for how many more there is room.
 ///
 /// A value that is set again is kept once, and has one number: so two sets are to one value exactly
-/// where their numbers are equal.
+/// if their numbers are equal.
 #[derive(Drop)]
 pub(crate) struct History<V: Eq + Hash> {
     /// Each set: its version and the number of its value.
@@ -64,7 +64,7 @@ impl<V: Eq + Hash + Drop> History<V> {
         self.room
     }
 
-    /// Makes room for one more set where there is none.
+    /// Makes room for one more set if there is none.
     pub(crate) fn reserve(&mut self) -> Result<(), NoMemory>
         ensures room { OnOk result (0 < self.new.room) }
         ensures sets { self.new.sets ≡ self.old.sets }
@@ -78,7 +78,7 @@ impl<V: Eq + Hash + Drop> History<V> {
         Ok(())
     }
 
-    /// Adds a set where there is room for it. It takes no memory.
+    /// Adds a set if there is room for it. It takes no memory.
     pub(crate) fn push(&mut self, version: u64, value: Arc<V>)
         requires laws { IsEquality V.eq }
         requires room { 0 < self.old.room }
@@ -90,7 +90,7 @@ impl<V: Eq + Hash + Drop> History<V> {
         self.room -= 1;
     }
 
-    /// The value of the last set at or below the version, else the absent one.
+    /// The value of the last set at or below the version, otherwise the absent one.
     pub(crate) fn at<'a>(&'a self, absent: &'a Arc<V>, version: u64) -> &'a Arc<V>
         requires { IsRising self.now.sets }
         ensures { arc_value result.now ≡ value_at (arc_value absent.now) self.now.sets version }
@@ -102,7 +102,7 @@ impl<V: Eq + Hash + Drop> History<V> {
         &self.values[self.sets[count - 1].1]
     }
 
-    /// The value of the last set, else the absent one.
+    /// The value of the last set, otherwise the absent one.
     pub(crate) fn newest<'a>(&'a self, absent: &'a Arc<V>) -> &'a Arc<V>
         ensures { arc_value result.now ≡ newest_of (arc_value absent.now) self.now.sets }
     {
@@ -114,7 +114,7 @@ impl<V: Eq + Hash + Drop> History<V> {
     }
 
     /// The versions round this one up to which the value stays as it is there: a binary search, and
-    /// a walk over the sets next to it that are to the same value.
+    /// a walk over the neighbouring sets to the same value.
     pub(crate) fn range_round(
         &self,
         alloc: Global,
@@ -182,7 +182,7 @@ fn number_after<V: Eq + Hash>(
     }
 }
 
-/// The versions round one up to which the number stays, where so many sets lie at it or below it.
+/// The versions round one up to which the number stays, if so many sets lie at it or below it.
 fn range_of(first: bool, sets: &[(u64, usize)], number: Option<usize>, begun: usize) -> Range
     requires rising { IsRising sets.now }
     requires bound { begun ≤ length sets.now }
@@ -201,7 +201,7 @@ fn range_of(first: bool, sets: &[(u64, usize)], number: Option<usize>, begun: us
     }
 }
 
-/// The version of the set at this place; that of the first is 0 where the value before it is the
+/// The version of the set at this place; that of the first is 0 if the value before it is the
 /// same.
 fn first_version(first: bool, sets: &[(u64, usize)], place: usize) -> u64
     requires { (place ≡ 0 → first ≡ false) → place < length sets.now }
@@ -262,7 +262,7 @@ fn end_of_run(sets: &[(u64, usize)], number: Option<usize>, begun: usize) -> usi
 }
 
 /// The versions from each set to the number up to the next set, and those before the first set
-/// where they belong too.
+/// if they belong too.
 fn versions_of(
     alloc: Global,
     first: bool,
@@ -308,8 +308,7 @@ pub(crate) fn always(alloc: Global) -> Result<Ranges, NoMemory>
     Ok(ranges)
 }
 
-/// Adds the versions from `from` on up to but not with `to`, if any, where they belong to the
-/// ranges.
+/// If they belong to the ranges, adds the versions from `from` on up to but not with `to`, if any.
 fn add_if(belongs: bool, ranges: &mut Ranges, from: u64, to: Option<u64>) -> Result<(), NoMemory>
     ensures { OnOk result ((w : ℕ)
         → contains ranges.new w

@@ -22,7 +22,7 @@ pub fn cells_in_order<U: Universe>(cells: &Cells<U>)
 }
 
 /// Cells that were set as a log of commits says have the log's inputs as their values; and they are
-/// set so where each commit sets the keys that it has, at its version, which is one more than the
+/// set so if each commit sets the keys that it has, at its version, which is one more than the
 /// number of commits before it. It does no work.
 pub fn cells_are_the_inputs<U: Universe>()
     ensures start { (s : Seen U.Key U.Value) → ((k : U.Key) → sets_at U.Key.eq s k ≡ [])

@@ -20,8 +20,8 @@ use version_ranges::Ranges;
 
 /// The sets of each injected key, and so its value at each version.
 ///
-/// Contracts see the sets of each key by `sets_at`, for how many more there is room by `room_at`,
-/// and the greatest version that was set. `cell_at` is the value that the sets make of a version.
+/// Contracts see the sets of each key by `sets_at`, the room for more of them by `room_at`, and the
+/// greatest version that was set. `cell_at` is the value that the sets make of a version.
 pub struct Cells<U: Universe> {
     alloc: Global,
     universe: Arc<U>,
@@ -83,7 +83,7 @@ impl<U: Universe> Cells<U> {
 
     /// Sets the key's value from a version on; the versions of one key rise.
     ///
-    /// Where there is room for a set of the key, it is Ok and takes no memory.
+    /// If there is room for a set of the key, it is Ok and takes no memory.
     pub fn set(
         &mut self,
         version: u64,
@@ -113,8 +113,8 @@ impl<U: Universe> Cells<U> {
         Ok(())
     }
 
-    /// The key's value at the version: that of its last set there or below, else the absent one.
-    /// The cost is a look-up, and logarithmic in the number of the key's sets.
+    /// The key's value at the version: that of its last set there or below, otherwise the absent
+    /// one. The cost is a look-up, and logarithmic in the number of the key's sets.
     pub fn at(&self, version: u64, key: &Arc<U::Key>) -> &Arc<U::Value>
         ensures { arc_value result.now
             ≡ cell_at U.Key.eq U.meaning self.now version (arc_value key.now) }
@@ -137,7 +137,7 @@ impl<U: Universe> Cells<U> {
         }
     }
 
-    /// The versions at which the key's value equals that at the version; open where the newest
+    /// The versions at which the key's value equals that at the version; open if the newest
     /// does. The cost is linear in the number of the key's sets, and of values only the wanted one
     /// is hashed and looked up, and compared with the absent one.
     pub fn ranges_of(&self, version: u64, key: &Arc<U::Key>) -> Result<Ranges, NoMemory>
@@ -160,7 +160,7 @@ impl<U: Universe> Cells<U> {
 
     /// The versions round this one up to which the key's value stays as it is there, and as it was
     /// from there back. The cost is a look-up, and logarithmic in the number of the key's sets
-    /// where no two next to one another are to the same value.
+    /// if no two next to one another are to the same value.
     pub fn range_round(&self, version: u64, key: &Arc<U::Key>) -> Result<Ranges, NoMemory>
         ensures { IfOk result (λ r. (w : ℕ)
             → contains r w
@@ -199,7 +199,7 @@ impl<U: Universe> Cells<U> {
         }
     }
 
-    /// Adds a set of the key where there is room for it. It takes no memory.
+    /// Adds a set of the key if there is room for it. It takes no memory.
     fn write(&mut self, version: u64, key: &Arc<U::Key>, value: Arc<U::Value>)
         requires room { 0 < room_at U.Key.eq self.old (arc_value key.now) }
         requires rises { AllBelow (sets_at U.Key.eq self.old (arc_value key.now)) version }

@@ -14,7 +14,8 @@ pub record PutterView (J : Type 0) : Type 0 where
   pub line : LineId
   pub puts : List J
 
--- A pass: of which line, the beginning of the list of puts that it has seen, the places of the jobs that it took, and how often it found the line empty.
+-- A pass: of which line, the beginning of the list of puts that it has seen, the places of the jobs
+-- that it took, and how often it found the line empty.
 pub record PassView (J : Type 0) : Type 0 where
   pub line : LineId
   pub seen : List J
@@ -40,7 +41,9 @@ module _ {J : Type 0} where
   abbrev pub with_job : PutterView J → J → PutterView J
   with_job v job = record v { puts = v.puts ++ job ∷ [] }
 
-  -- At one moment the line held these items: of the list of puts those from the place `taken` on, and the jobs before that place were taken. A pass had then seen a beginning of the list, and had taken some of the places before that one, each once.
+  -- At one moment the line held these items: of the list of puts those from the place `taken` on,
+  -- and the jobs before that place were taken. A pass had then seen a beginning of the list, and
+  -- had taken some of the places before that one, each once.
   pub record Held (items : List J) (seen : List J) (places : List ℕ) : Type 0 where
     pub puts : List J
     pub taken : ℕ
@@ -50,7 +53,8 @@ module _ {J : Type 0} where
     pub below : AllBelow taken places
     pub apart : AreDistinct places
 
-  -- A pass took the job: it sees the list of puts as it is at that moment, and gains the place of the job in it, the first that was not taken. So that place lies above those that the pass had.
+  -- A pass took the job: it sees the list of puts as it is at that moment, and gains the place of
+  -- the job in it, the first that was not taken. So that place lies above those that the pass had.
   pub record Gains (job : J) (old_seen new_seen : List J) (old_places new_places : List ℕ) : Type 0 where
     pub place : ℕ
     pub job_there : slice_get new_seen place ≡ Some job

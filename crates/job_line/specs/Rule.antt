@@ -1,4 +1,6 @@
--- The rule of the line, which holds between any two steps: there is one list of puts, which the putter knows whole. Some of its first places were taken, each by one pass, and the queue holds the jobs at the others, in order.
+-- The rule of the line, which holds between any two steps: there is one list of puts, which the
+-- putter knows whole. Some of its first places were taken, each by one pass, and the queue holds
+-- the jobs at the others, in order.
 use Rattle.std.specs.Prelude.{◌≡◌, ℕ, ◌<◌, ◌≤◌, List, [], ◌∷◌, ◌++◌, Bool, true, false, length, drop}
 use mathlib.Core.List.{IsPrefix}
 use mathlib.Core.Option as core

@@ -1,4 +1,5 @@
-//! A line of jobs. One putter puts them, and passes take them, in any thread: each job that was put was taken or is left, once, first in first out.
+//! A line of jobs. One putter puts them, and passes take them, in any thread: each job that was put
+//! was taken or is left, once, first in first out.
 #![tactic(auto)]
 
 mod line;

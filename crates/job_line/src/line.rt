@@ -11,7 +11,8 @@ use std::alloc::Global;
 use std::marker::Model;
 use std::sync::Wait;
 
-/// A line of jobs, first in first out. It may be shared by threads, each with an end of its own. Contracts see it as its identity.
+/// A line of jobs, first in first out. It may be shared by threads, each with an end of its own.
+/// Contracts see it as its identity.
 pub struct JobLine<J: Drop> {
     queue: RawLine<J>,
 }
@@ -42,7 +43,8 @@ impl<J: Drop> JobLine<J> {
         Ok((JobLine { queue }, putter, Pass { raw, empties: 0 }))
     }
 
-    /// Puts a job at the end. If there is no memory the job comes back, and the line is as before. It may wait for a step of another thread.
+    /// Puts a job at the end. If there is no memory the job comes back, and the line is as before.
+    /// It may wait for a step of another thread.
     pub fn put<R: Wait>(&self, rt: &R, putter: &mut Putter<J>, job: J) -> Result<(), J>
         requires own { putter.old.line ≡ self.now }
         requires room { length putter.old.puts < 2 ^ 62 }
@@ -54,7 +56,9 @@ impl<J: Drop> JobLine<J> {
         Ok(())
     }
 
-    /// Takes the job at the first place that was not taken. `None` only if the line was empty at one moment of the call, and `empties` rises then and only then. It may wait for a step of another thread.
+    /// Takes the job at the first place that was not taken. `None` only if the line was empty at
+    /// one moment of the call, and `empties` rises then and only then. It may wait for a step of
+    /// another thread.
     #[tactic(auto, using(crate::proofs::Keeps::pops, crate::proofs::Keeps::looks))]
     pub fn take<R: Wait>(&self, rt: &R, pass: &mut Pass<J>) -> Option<J>
         requires own { pass.old.line ≡ self.now }
@@ -91,7 +95,8 @@ impl<J: Drop> JobLine<J> {
         Ok(Pass { raw, empties: 0 })
     }
 
-    /// Ends another pass. This one has from then on the longer list of the two, and the places of both, of which no two are alike: the next `take` or `left` shows it.
+    /// Ends another pass. This one has from then on the longer list of the two, and the places of
+    /// both, of which no two are alike: the next `take` or `left` shows it.
     #[tactic(auto, using(crate::proofs::Keeps::merges))]
     pub fn join(&self, pass: &mut Pass<J>, other: Pass<J>)
         requires own { pass.old.line ≡ self.now }

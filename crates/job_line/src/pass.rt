@@ -4,7 +4,9 @@ ghost use Rattle.std.specs.Prelude.{◌≡◌};
 use crate::rule::RawPass;
 use std::marker::Model;
 
-/// An end of a line that takes jobs. It may travel to another thread. Contracts see it as a `PassView`: its line, what it has seen of the list of puts, the places that it took, and how often it found the line empty.
+/// An end of a line that takes jobs. It may travel to another thread. Contracts see it as a
+/// `PassView`: its line, what it has seen of the list of puts, the places that it took, and how
+/// often it found the line empty.
 #[derive(Drop)]
 pub struct Pass<J: Drop> {
     pub(crate) raw: RawPass<J>,

@@ -4,7 +4,8 @@ ghost use Rattle.std.specs.Prelude.{◌≡◌, ℕ, length};
 use crate::rule::RawPass;
 use std::marker::Model;
 
-/// The one end of a line that puts. It may travel to another thread. Contracts see it as a `PutterView`: its line, and all jobs that were put.
+/// The one end of a line that puts. It may travel to another thread. Contracts see it as a
+/// `PutterView`: its line, and all jobs that were put.
 #[derive(Drop)]
 pub struct Putter<J: Drop> {
     pub(crate) raw: RawPass<J>,

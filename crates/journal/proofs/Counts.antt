@@ -1,4 +1,4 @@
--- The number of open transactions at a version is 0 exactly where none is open there.
+-- The number of open transactions at a version is 0 exactly if none is open there.
 use Rattle.std.proofs.Common.{◌≡◌, ◌≤◌, ◌<◌, ◌+◌, ℕ, zero, suc, Bool, true, false, cond, eqb, List, [], ◌∷◌, length, Option, Some, None, refl, sym, ap, ◌∙◌, subst, arith, eqb-true, eq-eqb, leb, ltb, leb-true, leb-false, ltb-true, ltb-false}
 use Rattle.std.proofs.lemmas.Option.{none-some}
 use Rattle.journal.specs.declared.event.Told.{Told}
@@ -139,7 +139,7 @@ module _ {K V : Type 0} where
     count_is (Drop v k ∷ R) d = other R (Drop v k ∷ R) refl (λ i. refl) (count_is R d)
     count_is (Lost v k ∷ R) d = other R (Lost v k ∷ R) refl (λ i. refl) (count_is R d)
 
-    -- an Open finds no open transaction at v exactly where the count is 0
+    -- an Open finds no open transaction at v exactly if the count is 0
     pub none_open : (R : List (Told K V)) → ClosesOpen R → open_count R v ≡ 0 → (i : ℕ) → opened_at R v i ≡ false
     none_open R c z i = by_bool (opened_at R v i) refl
       where

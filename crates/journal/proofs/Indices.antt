@@ -97,7 +97,7 @@ module _ {K V : Type 0} (eq : K → K → Bool) (m : Meaning K V) where
   live_opened (Open by w ∷ R) i a l e = let r = live_opened R i a l.1 e in (r.0, open_before R by w a.opened r.0 r.1)
   live_opened (_ ∷ R) i a l e = live_opened R i a l.1 e
 
-  -- where a transaction is open at v, their number there is not 0
+  -- if a transaction is open at v, their number there is not 0
   pub opened_counts : (R : List (Told K V)) (v i : ℕ) → IsLawfulBack eq m R → opened_at R v i ≡ true → 0 < open_count R v
   opened_counts R v i l e = by_count (open_count R v) refl
     where

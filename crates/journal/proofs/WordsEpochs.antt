@@ -66,7 +66,7 @@ module _ {K : Type 0} (eq : K → K → Bool) (equality : IsEquality eq) where
   alike f w v q k h = ap (λ x. f x q) (same_version w v q k h) ∙ ap (f v) (same_key w v q k h)
 
 module _ {K V : Type 0} (eq : K → K → Bool) (equality : IsEquality eq) where
-  -- where an event is not this one, it does not name (v, k)
+  -- if an event is not this one, it does not name (v, k)
   pub not_named : (f : ℕ → K → Told K V) (w v : ℕ) (q k : K) → (f w q ≡ f v k → ⊥) → names_by eq w q v k ≡ false
   not_named f w v q k n = by_test (names_by eq w q v k) refl
     where

@@ -1,4 +1,5 @@
--- What a journal says. R is a journal read backwards: its newest event first. The index of an event is the number of events before it.
+-- What a journal says. R is a journal read backwards: its newest event first. The index of an event
+-- is the number of events before it.
 use Rattle.std.specs.Prelude.{◌≡◌, ◌≢◌, ℕ, ◌+◌, ◌-◌, Bool, true, false, cond, not, ◌&&◌, ◌||◌, eqb, List, [], ◌∷◌, ◌++◌, length, Option, Some, None}
 use Rattle.std.specs.List.{slice_get}
 use Rattle.std.specs.Option.{option_map, option_and_then}
@@ -45,7 +46,7 @@ module _ {K V : Type 0} where
   commits_of (Drop v k ∷ R) = commits_of R
   commits_of (Lost v k ∷ R) = commits_of R
 
-  -- the transaction of this index, where it is open
+  -- the transaction of this index, if it is open
   abbrev pub open_at : List (Told K V) → ℕ → Option Opened
   open_at [] i = None
   open_at (Open by v ∷ R) i = cond (eqb (length R) i) (Some (record { by = by; version = v })) (open_at R i)
@@ -79,7 +80,7 @@ module _ {K V : Type 0} where
   open_count (Drop w k ∷ R) v = open_count R v
   open_count (Lost w k ∷ R) v = open_count R v
 
-  -- the ask of this index, where it was not left and its transaction is open
+  -- the ask of this index, if it was not left and its transaction is open
   abbrev pub live_at : List (Told K V) → ℕ → Option (Asking K)
   live_at [] i = None
   live_at (Ask by t k ∷ R) i = cond (eqb (length R) i) (Some (record { by = by; opened = t; key = k })) (live_at R i)
@@ -94,11 +95,11 @@ module _ {K V : Type 0} where
   live_at (Drop v k ∷ R) i = live_at R i
   live_at (Lost v k ∷ R) i = live_at R i
 
-  -- an Open at v begins an epoch of v where it found no open transaction at v
+  -- an Open at v begins an epoch of v if it found no open transaction at v
   abbrev pub begins : List (Told K V) → ℕ → ℕ → Bool
   begins R w v = eqb w v && eqb (open_count R v) 0
 
-  -- the version of the last event that is no Drop, where this is a Close, Leave, Cyclic or Lost
+  -- the version of the last event that is no Drop, if this is a Close, Leave, Cyclic or Lost
   abbrev pub ended_at : List (Told K V) → Option ℕ
   ended_at [] = None
   ended_at (Drop v k ∷ R) = ended_at R
@@ -172,7 +173,7 @@ module _ {K V : Type 0} where
   NotLeft i (Drop v k ∷ J) = NotLeft i J
   NotLeft i (Lost v k ∷ J) = NotLeft i J
 
--- the event of a commit, where there are changes
+-- the event of a commit, if there are changes
 abbrev pub event_of : {K V : Type 0} → ℕ → List (K × V) → List (Told K V)
 event_of by [] = []
 event_of by (p ∷ c) = Commit by (p ∷ c) ∷ []

@@ -13,7 +13,8 @@ use Rattle.journal.specs.declared.event.Reason.TheVariants.{New, Transient, Diff
 use Rattle.journal.specs.Events.{Opened, Asking, commits_of, open_at, opened_at, live_at, ended_at, decided, asked_in_epoch, is_running, is_base}
 
 module _ {K V : Type 0} (eq : K → K → Bool) (m : Meaning K V) where
-  -- in the trace of k at w, all answers before some batch are the values at v, and in it d is the first key whose value at v is another than its answer
+  -- in the trace of k at w, all answers before some batch are the values at v, and in that batch d
+  -- is the first key whose value at v is not its answer
   pub record DiffersFirst (C : List (List (K × V))) (w v : ℕ) (k d : K) : Type 0 where
     pub computed : m.kind k ≢ Injected
     pub before : List (Answered K V)
@@ -64,8 +65,8 @@ module _ {K V : Type 0} (eq : K → K → Bool) (m : Meaning K V) where
       pub below : w ≤ b
       pub alike : SameAt (commits_of R) w b k
 
-    -- why a start of (v, k) comes: the key has no base; its value at the base is transient; or at a version that backs the base its trace
-    -- had other answers
+    -- why (v, k) is started: the key has no base; its value at the base is transient; or at a
+    -- version that backs the base its trace had other answers
     abbrev pub IsTrueCause : ℕ → K → Reason K → Type 0
     IsTrueCause v k New = (b : ℕ) → is_base eq R b k ≡ false
     IsTrueCause v k (Transient b) = (is_base eq R b k ≡ true) × (b ≢ v) × (x : V) × HasValue eq m (commits_of R) b k x × (m.is_transient x ≡ true)

@@ -31,7 +31,7 @@ module _ {K V : Type 0} where
   told (event.Drop v k) = bare.Drop v (arc_value k)
   told (event.Lost v k) = bare.Lost v (arc_value k)
 
-  -- the number of the seat that acts, where one does
+  -- the number of the seat that acts, if one does
   abbrev pub event_by : Told K V → Option ℕ
   event_by (bare.Commit by c) = Some by
   event_by (bare.Open by v) = Some by

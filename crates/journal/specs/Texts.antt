@@ -8,7 +8,7 @@ use Rattle.journal.specs.declared.event.Reason.TheVariants.{New, Transient, Diff
 use Rattle.journal.specs.declared.event.Told.{Told}
 use Rattle.journal.specs.declared.event.Told.TheVariants.{Commit, Open, Close, Ask, Leave, Start, Keep, End, Cyclic, Drop, Lost}
 
--- each text behind a space
+-- each text, with a space before it
 abbrev pub spaced : List (List ℕ) → List ℕ
 spaced [] = []
 spaced (t ∷ ts) = 32 ∷ t ++ spaced ts

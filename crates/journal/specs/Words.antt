@@ -1,4 +1,5 @@
--- What the words on journals say, in other words. R is a journal read backwards: its newest event first.
+-- What the words on journals say, in other words. R is a journal read backwards: its newest event
+-- first.
 use Rattle.std.specs.Prelude.{◌≡◌, ◌⊎◌, ℕ, Bool, true, false, cond, eqb, List, [], ◌∷◌, ◌++◌, length, Option, Some, None}
 use Rattle.journal.specs.declared.event.Told.{Told}
 use Rattle.journal.specs.declared.event.Told.TheVariants.{Commit, Open, Close, Ask, Leave, Start, Keep, End, Cyclic, Drop, Lost}
@@ -21,7 +22,8 @@ module _ {K V : Type 0} where
     pub not_left : NotLeft i later
     pub not_closed : NotClosed a.opened later
 
-  -- whether the event, which comes after R, begins an epoch of v: an Open at v that finds no open transaction there
+  -- whether the event, which comes after R, begins an epoch of v: an Open at v that finds no open
+  -- transaction there
   abbrev pub begins_epoch : Told K V → List (Told K V) → ℕ → Bool
   begins_epoch (Commit by c) R v = false
   begins_epoch (Open by w) R v = begins R w v

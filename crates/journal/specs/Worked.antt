@@ -1,4 +1,5 @@
--- A small universe, and a journal over it: a file changes in its comment alone, so what is made of its target is kept.
+-- A small universe, and a journal over it: a file changes in its comment alone, so what is made of
+-- its target is kept.
 use Rattle.std.specs.Prelude.{◌≡◌, ℕ, Bool, true, false, List, [], ◌∷◌, ◌++◌}
 use Rattle.dice_key.specs.Meaning.{Meaning, Answered, Step, Asks, Ends}
 use Rattle.dice_key.specs.declared.universe.Kind.{Kind}
@@ -8,8 +9,8 @@ use Rattle.journal.specs.declared.event.Told.TheVariants.{Commit, Open, Close, A
 use Rattle.journal.specs.declared.event.Reason.{Reason}
 use Rattle.journal.specs.declared.event.Reason.TheVariants.{New, Differs}
 
--- a file is set from outside; a package is what the file holds; a rule is a part of it; an action is made of the rule; a digest is
--- a part of the action
+-- a file is set from outside; a package is what the file holds; a rule is a part of it; an action
+-- is made of the rule; a digest is a part of the action
 pub data Key : Type 0 where
   File : Key
   Package : Key

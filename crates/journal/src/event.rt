@@ -15,9 +15,9 @@ pub enum Cause<K: Drop> {
     Differs(u64, Arc<K>),
 }
 
-/// What happened. Here `by` is the number of the seat that acts, a transaction or an ask is named
-/// by the index of the event that made it, and a base is a version at which the key was decided
-/// before and whose value and trace were looked at.
+/// What happened. Here `by` is the number of the seat that acts. A transaction or an ask is named
+/// by the index of the event that made it. A base is a version at which the key was decided before,
+/// and whose value and trace were looked at.
 pub enum Event<K: Drop, V: Drop> {
     /// By a seat these changes were committed.
     Commit(u64, Changes<K, V>),
@@ -39,7 +39,7 @@ pub enum Event<K: Drop, V: Drop> {
     Cyclic(u64, Arc<K>),
     /// At a version nobody waits for a key any more.
     Drop(u64, Arc<K>),
-    /// At a version a key was given up for want of memory.
+    /// At a version a key was given up since no memory was left.
     Lost(u64, Arc<K>),
 }
 

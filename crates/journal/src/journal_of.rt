@@ -42,7 +42,7 @@ impl<U: Universe> Journal<U> {
         }
     }
 
-    /// Makes room for at least `n` more events; no event changes, also where memory is refused, and
+    /// Makes room for at least `n` more events; no event changes, even if memory is refused, and
     /// room that was made stays.
     pub fn reserve(&mut self, n: usize) -> Result<(), NoMemory>
         ensures same { self.new.events ≡ self.old.events }

@@ -19,9 +19,9 @@ pub fn lawful_begins<U: Universe>()
 {}
 
 /// What is computed of a journal, read backwards, says what the words say: a transaction that is
-/// found open has an Open of its index and no later Close; and, where each Close names an open
-/// transaction, as in a lawful journal, the number of open transactions of a version is 0 exactly
-/// where none is open there.
+/// found open has an Open of its index and no later Close. If each Close names an open transaction,
+/// as in a lawful journal, the number of open transactions of a version is 0 exactly if none is
+/// open there.
 pub fn journals_are_read<U: Universe>()
     ensures opened { (R : List (Told U.Key U.Value)) (i : ℕ) (o : Opened) → open_at R i ≡ Some o
         → IsOpenByWords R i o }

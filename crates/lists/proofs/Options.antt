@@ -18,7 +18,7 @@ module _ {X Y : Type 0} (f : X → Option Y) where
   chained None y e = cc
   chained (Some x) y e = (x, refl, e)
 
--- what a set answers to a key that is put into it: true where it was not there
+-- what a set answers to a key that is put into it: true if it was not there
 pub was_new : (b x : Bool) → x ≡ not b → x ≡ true → b ≡ false
 was_new true x e t = let z : true ≡ not true = sym t ∙ e in cc
 was_new false x e t = refl

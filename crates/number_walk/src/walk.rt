@@ -20,7 +20,7 @@ pub trait Waits {
         ensures { result.now ≡ waits self.now number };
 }
 
-/// The way along the waits from `start` to a number that waits for `goal`, both among them; `None` exactly where no waits lead
+/// The way along the waits from `start` to a number that waits for `goal`, both among them; `None` exactly if no waits lead
 /// from the start to the goal.
 ///
 /// Each number is met at most once, and each of its waits passed at most once.

@@ -35,8 +35,8 @@ module _ {K V : Type 0} where
   abbrev pub history : (List (List V) → Step K V) → List (List V) → List (Answered K V)
   history next answers = history_after next [] answers
 
-  -- the pure universe's table as a meaning: the version is not looked at, no value is transient, and no key is a projection (its base and
-  -- its part stand for nothing)
+  -- the pure universe's table as a meaning: the version is not looked at, no value is transient,
+  -- and no key is a projection (its base and its part stand for nothing)
   abbrev pub plain : (K → Bool) → (K → V) → (K → List (List V) → Step K V) → (K → ℕ) → (K → Bool → List ℕ) → Meaning K V
   plain is_injected absent next most text = record {
     kind = λ k. kind_by (is_injected k);
@@ -81,7 +81,7 @@ module _ {K V : Type 0} where
   taken (Asks ks) A xs h = refl
   taken (Ends x) A xs h = absurd h
 
-  -- one more answered batch is that which the last step asked
+  -- one more answered batch is the one that the last step asked
   pub goes_on : (next : List (List V) → Step K V) (answers : List (List V)) (xs : List V) → Takes (next (values_of (history next answers))) (length xs)
       → history next (answers ++ xs ∷ []) ≡ answered_with (next (values_of (history next answers))) (history next answers) xs
   goes_on next answers xs h =

@@ -6,7 +6,7 @@ use std::sync::Wait;
 use std::test::Fail;
 use std::thread::Threads;
 
-/// The status of a run with these words, from this source into this sink; 100 more where an engine
+/// The status of a run with these words, from this source into this sink; 100 more if an engine
 /// is kept after another status than 0, or none after 0.
 pub(crate) fn status_of<R: Threads + Wait + Sync, G: Gate>(
     rt: &R,

@@ -1,4 +1,4 @@
--- What the code knows behind a line, and what the definitions say.
+-- What the code knows after a line, and what the definitions say.
 use Rattle.std.proofs.Common.{◌≡◌, ◌∙◌, sym, ap, refl, ℕ, Bool, true, false, cond, List, Option, Some, None}
 use Rattle.std.specs.Option.{option_map}
 use Rattle.std.specs.Str.{bytes_eq}

@@ -63,7 +63,7 @@ one_make one f bs l m r s (close_line t rest) (close_line t' rest') = record { l
 same_form : (text : List ℕ) (f g : Form) → form_of (words (line_of text)) ≡ Some f → form_of (words (line_of text)) ≡ Some g → f ≡ g
 same_form text f g h k = let e : Some f ≡ Some g = sym h ∙ k in cc
 
--- a fault behind one line is one behind the same line
+-- a fault after one line is one after the same line
 moved : (p : Past) (l m : Line) (r s left : List ℕ) (w : Word) → Same l m r s → FaultAt (after p m) s left w → FaultAt (after p l) r left w
 moved p l m r s left w e f =
     subst (λ (x : Line). FaultAt (after p x) r left w) (sym e.line) (subst (λ (x : List ℕ). FaultAt (after p m) x left w) (sym e.rest) f)

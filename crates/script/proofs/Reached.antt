@@ -13,7 +13,7 @@ use Rattle.script.specs.declared.fault.Stop.{Stop}
 use Rattle.script.specs.declared.fault.Stop.TheVariants as stop
 use Rattle.std.proofs.Common.{Err}
 
--- These lines were taken, and what the rest reads as the text reads as behind them.
+-- These lines were taken. The text reads as these lines, and then as what the rest reads as.
 pub record Reached (text : List ℕ) (p : Past) (so_far : List Line) (rest : List ℕ) : Type 0 where
   pub script : (ls : List Line) → IsFrom p rest ls → IsFrom nothing text (so_far ++ ls)
   pub fault : (left : List ℕ) (w : Word) → FaultAt p rest left w → FaultAt nothing text left w
@@ -32,7 +32,7 @@ moved text p q ls rest e r = subst (λ (x : Past). Reached text x ls rest) (sym 
 at_rest : (text : List ℕ) (p : Past) (ls : List Line) (rest more : List ℕ) → more ≡ rest → Reached text p ls rest → Reached text p ls more
 at_rest text p ls rest more e r = subst (λ (x : List ℕ). Reached text p ls x) (sym e) r
 
--- behind a line that does nothing
+-- after a line that does nothing
 pub step_skipped : (text : List ℕ) (p q : Past) (ls : List Line) (rest more : List ℕ) → rest ≢ [] → Reached text p ls rest → HasDone p rest None more q → Reached text q ls more
 step_skipped text p q ls rest more some r d =
     moved text p q ls more d.2 (at_rest text p ls (behind_line rest) more d.1 record {
@@ -41,7 +41,7 @@ step_skipped text p q ls rest more some r d =
       past = r.past;
     })
 
--- behind a line that does something
+-- after a line that does something
 pub step_told : (text : List ℕ) (p q : Past) (ls : List Line) (l : Line) (rest more : List ℕ) → Reached text p ls rest → HasDone p rest (Some l) more q → Reached text q (ls ++ l ∷ []) more
 step_told text p q ls l rest more r d =
     moved text (after p l) q (ls ++ l ∷ []) more d.5 record {
@@ -57,7 +57,7 @@ step_more text p q ls rest more (Some l) some r d = step_told text p q ls l rest
 some_left : (text : List ℕ) (at : ℕ) → at < length text → drop at text ≢ []
 some_left text at h e = let k : length (drop at text) ≡ 0 = ap length e in let g = length-drop at text in omega arith
 
--- behind the line that begins here
+-- after the line that begins here
 pub step : (text : List ℕ) (p q : Past) (ls : List Line) (at n : ℕ) (made : Option Line) → at < length text → Reached text p ls (drop at text) →
     HasDone p (take (length text - at) (drop at text)) made (drop n (take (length text - at) (drop at text))) q → Reached text q (ls ++ option_to_list made) (drop (at + n) text)
 step text p q ls at n made h r d =

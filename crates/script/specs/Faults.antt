@@ -9,7 +9,7 @@ use Rattle.script.specs.declared.fault.Word.TheVariants as fault
 use Rattle.script.specs.declared.fate.Fate.TheVariants.{Answered, Cancelled}
 use Rattle.script.specs.Past.{Past, fate_of}
 
--- Tests, each with the word for where it fails.
+-- Tests, each with the word for its failure.
 pub data Tests : Type 1 where
   done : Tests
   test : Type 0 → Word → Tests → Tests
@@ -23,7 +23,7 @@ abbrev pub FirstToFail : Tests → Word → Type 0
 FirstToFail done w = ⊥
 FirstToFail (test holds v ts) w = ((holds → ⊥) × (w ≡ v)) ⊎ (holds × FirstToFail ts w)
 
--- A line's operands as written, where its first word is in the table and their number is right.
+-- A line's operands as written, if its first word is in the table and their number is right.
 pub data Form : Type 0 where
   puts : List ℕ → List ℕ → Form
   drops : List ℕ → Form
@@ -88,7 +88,7 @@ touching p path ts = test (IsPath path) fault.Path (test (p.touched path ≡ fal
 abbrev pub naming : Past → List ℕ → Tests → Tests
 naming p name ts = test (IsName name) fault.Name (test (fate_of p name ≢ None) fault.Unknown ts)
 
--- the tests of a line behind which these bytes stand
+-- the tests of a line that these bytes follow
 abbrev pub tests : Past → Form → List ℕ → Tests
 tests p (puts path number) rest = touching p path (test (IsSmallNumber number) fault.Number (test (IsEnough number rest) fault.Count done))
 tests p (drops path) rest = touching p path done

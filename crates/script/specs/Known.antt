@@ -17,13 +17,14 @@ transactions_at m = λ q. get (pointwise nat_eq) m.standing q
 abbrev pub requests_at : Requests → Table Asked
 requests_at m = λ q. get (pointwise nat_eq) m.asked q
 
--- what has become of a request that stands so, where its transaction stands so
+-- what has become of a request that stands so, if its transaction stands so
 abbrev pub told : Option Bool → Fate → Fate
 told (Some false) f = given_up f
 told (Some true) f = f
 told None f = f
 
--- a request as it was noted, and as it is: a transaction that is closed leaves the notes as they are
+-- a request as it was noted, and as it is: a transaction that is closed leaves the notes as they
+-- are
 abbrev pub as_told : Table Bool → Asked → Asked
 as_told opened a = record { transaction = a.transaction; fate = told (opened a.transaction) a.fate }
 

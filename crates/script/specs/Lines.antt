@@ -2,7 +2,7 @@
 use Rattle.std.specs.Prelude.{◌≡◌, ◌≢◌, ◌≤◌, ◌+◌, ◌-◌, ◌*◌, ℕ, Bool, true, false, if◌then◌else◌, ◌&&◌, ◌||◌, nat_eq, nat_le, List, [], ◌∷◌, length, take, drop}
 use Rattle.std.specs.List.{AllByRecursion}
 
--- the number that digits write behind what stands for n
+-- the number that digits write after what stands for n
 abbrev pub value_from : ℕ → List ℕ → ℕ
 value_from n [] = n
 value_from n (d ∷ ds) = value_from (10 * n + (d - 48)) ds
@@ -38,19 +38,19 @@ pub record IsName (text : List ℕ) : Type 0 where
   pub fits : length text ≤ 32
   pub each : AreNameBytes text
 
--- how many bytes stand before the first m; all of them where there is none
+-- how many bytes stand before the first m; all of them if there is none
 abbrev pub before : ℕ → List ℕ → ℕ
 before m [] = 0
 before m (b ∷ bs) = if nat_eq b m then 0 else (before m bs + 1)
 
--- the first line of a text, and what stands behind its LF
+-- the first line of a text, and what stands after its LF
 abbrev pub line_of : List ℕ → List ℕ
 line_of text = take (before 10 text) text
 
 abbrev pub behind_line : List ℕ → List ℕ
 behind_line text = drop (before 10 text + 1) text
 
--- the words of a line: what stands before, between and behind its spaces, each space ending a word
+-- the words of a line: what stands before, between and after its spaces, each space ending a word
 abbrev pub front_word : ℕ → List (List ℕ) → List (List ℕ)
 front_word b [] = (b ∷ []) ∷ []
 front_word b (w ∷ ws) = (b ∷ w) ∷ ws

@@ -53,7 +53,8 @@ left_by t (Some a) = Some (record { transaction = a.transaction; fate = if bytes
 abbrev pub closing : List ℕ → Table Asked → Table Asked
 closing t asked = λ q. left_by t (asked q)
 
--- the paths put or dropped since the last commit; the transactions, with whether they are open still; the requests
+-- the paths put or dropped since the last commit; the transactions, with whether they are open
+-- still; the requests
 pub record Past : Type 0 where
   pub touched : Texts
   pub opened : Table Bool
@@ -78,7 +79,7 @@ abbrev pub after_all : Past → List Line → Past
 after_all p [] = p
 after_all p (l ∷ ls) = after_all (after p l) ls
 
--- what has become of a request; nothing where none has the name
+-- what has become of a request; nothing if none has the name
 abbrev pub fate_of : Past → List ℕ → Option Fate
 fate_of p name = option_map (λ a. a.fate) (p.asked name)
 

@@ -1,4 +1,5 @@
--- What a script asks for: the log of its commits, each transaction's version, and each request's key, version and whether it is cancelled.
+-- What a script asks for: the log of its commits, each transaction's version, and each request's
+-- key, version and whether it is cancelled.
 use Rattle.std.specs.Prelude.{ℕ, Bool, if◌then◌else◌, not, List, [], ◌∷◌, ◌++◌, length, filter, unwrap_or, Option, Some, None}
 use Rattle.std.specs.Option.{option_eq}
 use Rattle.std.specs.Map.{lookup}
@@ -8,7 +9,7 @@ use Rattle.script.specs.declared.line.Line.{Line}
 use Rattle.script.specs.declared.line.Request.{Request}
 use Rattle.script.specs.declared.line.Line.TheVariants.{Put, Drop, Commit, Open, Ask, Action, Wait, Cancel, Close}
 
--- the file of a path from a commit on: its bytes, or nothing where it has none
+-- the file of a path from a commit on: its bytes, or nothing if it has none
 pub record Change : Type 0 where
   pub path : List ℕ
   pub file : Option (List ℕ)
@@ -25,8 +26,8 @@ pub record Planned : Type 0 where
   pub version : ℕ
   pub cancelled : Bool
 
--- the commits that make a version, in order; what was put or dropped since the last `commit`; each transaction with its version, the
--- newest first; the requests in order of asking
+-- the commits that make a version, in order; what was put or dropped since the last `commit`; each
+-- transaction with its version, the newest first; the requests in order of asking
 pub record Plan : Type 0 where
   pub log : List (List Change)
   pub gathered : List Change
@@ -41,7 +42,7 @@ abbrev pub file_in : List ℕ → List Change → Option (Option (List ℕ))
 file_in path [] = None
 file_in path (c ∷ cs) = if bytes_eq path c.path then Some c.file else file_in path cs
 
--- a path's file after a whole log, from the file before it; nothing where it has none
+-- a path's file after a whole log, from the file before it; nothing if it has none
 abbrev pub file_after : List ℕ → Option (List ℕ) → List (List Change) → Option (List ℕ)
 file_after path file [] = file
 file_after path file (c ∷ cs) = file_after path (unwrap_or (file_in path c) file) cs

@@ -15,7 +15,7 @@ abbrev pub IsSkipped : List ℕ → Type 0
 IsSkipped [] = Unit {0}
 IsSkipped (b ∷ bs) = b ≡ 35
 
--- a line of this form, with the bytes behind it: what it does, and what is left
+-- a line of this form, with the bytes after it: what it does, and what is left
 pub data Makes : Form → List ℕ → Line → List ℕ → Type 0 where
   put_line : (path number rest : List ℕ) (n : ℕ) → IsDecimal number n → Makes (puts path number) rest (Put path (take n rest)) (drop (n + 1) rest)
   drop_line : (path rest : List ℕ) → Makes (drops path) rest (Drop path) rest
@@ -27,7 +27,7 @@ pub data Makes : Form → List ℕ → Line → List ℕ → Type 0 where
   cancel_line : (name rest : List ℕ) → Makes (cancels name) rest (Cancel name) rest
   close_line : (t rest : List ℕ) → Makes (closes t) rest (Close t) rest
 
--- Behind these lines the bytes are those lines.
+-- After these lines the bytes are those lines.
 pub data IsFrom : Past → List ℕ → List Line → Type 0 where
   ended : (p : Past) → IsFrom p [] []
   skipped : (p : Past) (text : List ℕ) (ls : List Line) → text ≢ [] → IsSkipped (line_of text) → IsFrom p (behind_line text) ls → IsFrom p text ls

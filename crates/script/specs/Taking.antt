@@ -63,7 +63,7 @@ IsRequestRead p t name label (Ok r) = AllHold (asking p t name label) × ((n : N
 IsRequestRead p t name label (Err (stop.Fault w)) = FirstToFail (asking p t name label) w
 IsRequestRead p t name label (Err stop.NoMemory) = Unit {0}
 
--- a line of this form was taken, with so many of the bytes behind it
+-- a line of this form was taken, with so many of the bytes after it
 abbrev pub IsTaken : Past → Form → List ℕ → Result (Line × ℕ) Stop → Past → Type 0
 IsTaken p f behind (Ok r) q = AllHold (tests p f behind) × Makes f behind r.0 (drop r.1 behind) × (q ≡ after p r.0)
 IsTaken p f behind (Err (stop.Fault w)) q = FirstToFail (tests p f behind) w

@@ -6,7 +6,7 @@ ghost use Rattle.std.specs.Str.{bytes_eq};
 ghost use Rattle.script.specs.Faults.{one_word, two_words, three_words, four_words, form_of};
 ghost use Rattle.script.specs.Seen.{form_seen};
 
-/// A line's operands as written, where its first word is in the table and their number is right.
+/// A line's operands as written, if its first word is in the table and their number is right.
 #[derive(Clone, Copy)]
 pub(crate) enum Form<'a> {
     Put(&'a [u8], &'a [u8]),
@@ -20,7 +20,7 @@ pub(crate) enum Form<'a> {
     Close(&'a [u8]),
 }
 
-/// How many bytes stand before the first `mark`; all of them where there is none.
+/// How many bytes stand before the first `mark`; all of them if there is none.
 pub(crate) fn before(mark: u8, bytes: &[u8]) -> usize
     ensures at { result ≡ before mark bytes.now }
     ensures fits { result ≤ length bytes.now }
@@ -33,7 +33,7 @@ pub(crate) fn before(mark: u8, bytes: &[u8]) -> usize
     bytes.len()
 }
 
-/// The first word of these bytes, and what stands behind its space.
+/// The first word of these bytes, and what stands after its space.
 fn split(bytes: &[u8]) -> Option<(&[u8], &[u8])>
     ensures some { IfSome result (λ r. words bytes.now ≡ r.0.now ∷ words r.1.now) }
     ensures none { IfNone result (words bytes.now ≡ bytes.now ∷ []) }
@@ -111,7 +111,7 @@ pub(crate) fn form_of(line: &[u8]) -> Option<Form<'_>>
     }
 }
 
-/// The form of a line with this first word, and its operands behind it.
+/// The form of a line with this first word, and its operands after it.
 fn with_operand<'a>(word: &[u8], rest: &'a [u8]) -> Option<Form<'a>>
     ensures { option_map form_seen result ≡ form_of (word.now ∷ words rest.now) }
 {
@@ -121,7 +121,7 @@ fn with_operand<'a>(word: &[u8], rest: &'a [u8]) -> Option<Form<'a>>
     }
 }
 
-/// The form of a line with this first word and first operand, and more operands behind them.
+/// The form of a line with this first word and first operand, and more operands after them.
 fn with_operands<'a>(word: &[u8], a: &'a [u8], rest: &'a [u8]) -> Option<Form<'a>>
     ensures { option_map form_seen result ≡ form_of (word.now ∷ a.now ∷ words rest.now) }
 {

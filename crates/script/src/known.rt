@@ -41,7 +41,7 @@ impl Known {
         }
     }
 
-    /// What has become of a request; `None` where none has this name.
+    /// What has become of a request; `None` if none has this name.
     fn fate_of(&self, name: &Text) -> Option<Fate>
         ensures { result ≡ fate_of (past_of self.now) name.now }
     {
@@ -267,7 +267,7 @@ impl Known {
         Ok((Line::Close(name), 0))
     }
 
-    /// Takes a line of this form, and so many of the bytes behind it.
+    /// Takes a line of this form, and so many of the bytes after it.
     fn form(&mut self, alloc: Global, form: Form, behind: &[u8]) -> Result<(Line, usize), Stop>
         ensures taken { IsTaken (past_of self.old) (form_seen form.entry) behind.now result
             (past_of self.new) }

@@ -9,7 +9,7 @@ use crate::name::{Name, is_name};
 use buck_label::{Label, Path, Refused};
 use std::alloc::Global;
 
-/// Behind this place and the byte that stands there, if one does.
+/// The place after the byte that stands here; if none does, this place.
 pub(crate) fn past_byte(text: &[u8], at: usize) -> usize
     requires { at ≤ length text.now }
     ensures left { drop result text.now ≡ drop (at + 1) text.now }

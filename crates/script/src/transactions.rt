@@ -22,7 +22,7 @@ impl Transactions {
         }
     }
 
-    /// Whether the transaction is open; `None` where none was opened by this name.
+    /// Whether the transaction is open; `None` if none was opened by this name.
     pub(crate) fn is_open(&self, name: &Text) -> Option<bool>
         ensures { result ≡ transactions_at self.now name.now }
     {

@@ -14,7 +14,7 @@ use Rattle.script_trace.proofs.Spelled.{is_word, IsWord}
 abbrev pub IsFree : ℕ → List ℕ → Type 0
 IsFree s text = AllByRecursion (λ b. nat_eq b s ≡ false) text
 
--- what stands before each s, and behind the last where something does
+-- what stands before each s, and after the last, if something does
 abbrev pub pieces : ℕ → List ℕ → List (List ℕ)
 pieces s [] = []
 pieces s (b ∷ bs) = split_byte (nat_eq b s) b (pieces s bs)
@@ -33,7 +33,7 @@ words_back w [] a = ap (λ x. pieces 32 (x ++ 32 ∷ [])) (append-nil w) ∙ pie
 words_back w (t ∷ ts) a =
     ap (pieces 32) (append_assoc w (32 ∷ (t ++ spaced ts)) (32 ∷ [])) ∙ piece 32 w ((t ++ spaced ts) ++ 32 ∷ []) a.0 ∙ ap (λ r. w ∷ r) (words_back t ts a.1)
 
--- ---- where no such byte stands
+-- ---- if no such byte stands
 
 was_not : (b : Bool) → not b ≡ true → b ≡ false
 was_not true e = cc

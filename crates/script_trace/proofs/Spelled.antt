@@ -1,4 +1,4 @@
--- Keys that print as one word behind the word of their kind.
+-- Keys that print as one word after the word of their kind.
 use Rattle.std.specs.Prelude.{◌≡◌, ℕ, Bool, true, not, ◌&&◌, nat_eq, List}
 use Rattle.std.specs.List.{AllByRecursion, list_all}
 use Rattle.journal.specs.declared.event.Told.{Told}

@@ -1,4 +1,5 @@
--- What the lines of a script have the journal say. All events that tell a number tell 0, that of the driver's seat.
+-- What the lines of a script have the journal say. All events that tell a number tell 0, that of
+-- the driver's seat.
 use Rattle.std.specs.Prelude.{◌≡◌, ℕ, Bool, true, false, List, [], ◌∷◌, ◌++◌, length, take, reverse, filter, Option, Some, None}
 use Rattle.journal.specs.declared.event.Told.{Told}
 use Rattle.journal.specs.declared.event.Told.TheVariants as told
@@ -29,7 +30,7 @@ pub record Indices : Type 0 where
 abbrev pub no_indices : Indices
 no_indices = record { opened = no_entries; asked = no_entries }
 
--- in the journal J this event stands at i, behind these own events of the seat and no others
+-- in the journal J this event stands at i, after these own events of the seat and no others
 pub record IsNext (J own : Events) (e : Told Key Value) (i : ℕ) : Type 0 where
   pub stands : StandsAt J i e
   pub before : events_by event_by 0 (take i J) ≡ own
@@ -66,7 +67,8 @@ pub record AddsClose (n : Indices) (t : List ℕ) (es : Events) : Type 0 where
   pub opened : n.opened t ≡ Some transaction
   pub adds : es ≡ told.Close 0 transaction ∷ []
 
--- in the journal J a line adds these own events to those before it, where the lines before it made this plan; and the indices after it
+-- in the journal J a line adds these own events to those before it, if the lines before it made
+-- this plan; and the indices after it
 abbrev pub AddsLine : Events → Plan → Events → Indices → Line → Events → Indices → Type 0
 AddsLine J p own n (Put path bytes) es m = (es ≡ []) × (m ≡ n)
 AddsLine J p own n (Drop path) es m = (es ≡ []) × (m ≡ n)
@@ -120,8 +122,8 @@ pub record IsDecided (J : Events) (n : Indices) (r : Planned) : Type 0 where
   pub opened : n.opened r.transaction ≡ Some transaction
   pub decided : IsDecidedAtClose J transaction r.version (key_of r.wish)
 
--- J is a journal of these lines: it is lawful; its events that tell a number are those of the lines, in order, and of the end; and each
--- request that is not cancelled is decided
+-- J is a journal of these lines: it is lawful; its events that tell a number are those of the
+-- lines, in order, and of the end; and each request that is not cancelled is decided
 pub record IsJournalOf (ls : List Line) (J : Events) : Type 0 where
   pub lawful : IsLawfulJournal key_equal buck J
   pub below : AllBelow event_by 1 J

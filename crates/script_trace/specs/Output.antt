@@ -22,7 +22,7 @@ use Rattle.script.specs.Plan.{Ends, Plan, Planned, Change, Wish, Digest, Text, n
 abbrev pub line : List ℕ → List ℕ
 line text = text ++ 10 ∷ []
 
--- what stands behind the word `fault`
+-- what stands after the word `fault`
 abbrev pub fault_text : Fault → List ℕ
 fault_text (NoPackage p) = codes "no-package " ++ printed_package p
 fault_text (BadFile p n) = codes "bad-file " ++ p ++ 32 ∷ decimal n
@@ -32,7 +32,7 @@ fault_text (NoSource p) = codes "no-source " ++ p
 abbrev pub fault_line : Fault → List ℕ
 fault_line f = line (codes "fault " ++ fault_text f)
 
--- a digest in hex; the length of an action's text, and behind that line the text; or a fault
+-- a digest in hex; the length of an action's text, and after that line the text; or a fault
 abbrev pub digest_line : Result (List ℕ) Fault → List ℕ
 digest_line (Ok d) = line (encode_lower d)
 digest_line (Err f) = fault_line f
@@ -47,7 +47,7 @@ value_lines (value.Digest d) = digest_line d
 value_lines (value.Action t) = action_lines t
 value_lines x = []
 
--- the labels of a cycle, each behind a space
+-- the labels of a cycle, each with a space before it
 abbrev pub labels_text : List (List ℕ) → List ℕ
 labels_text [] = []
 labels_text (l ∷ ls) = 32 ∷ (l ++ labels_text ls)
@@ -74,8 +74,9 @@ log_of log = map pairs_of_changes log
 abbrev pub told_of : Planned → List ℕ → List ℕ
 told_of r text = r.name ++ 32 ∷ decimal r.version ++ 32 ∷ text
 
--- how a request is answered, by the log C: where its key has a value, by how that is told; where it has none, by a cycle of targets that it
--- reaches, each of which asks for the next one's digest, from the least label on
+-- how a request is answered, by the log C: if its key has a value, by how that is told; if it has
+-- none, by a cycle of targets that it reaches, each of which asks for the next one's digest, from
+-- the least label on
 pub data IsAnswered (C : List (List (Key × Value))) (r : Planned) : List ℕ → Type 0 where
   by_value : (x : Value) → HasValue key_equal buck C r.version (key_of r.wish) x → IsAnswered C r (told_of r (value_lines x))
   by_cycle : (ls : List (List ℕ)) → ((x : Value) → HasValue key_equal buck C r.version (key_of r.wish) x → ⊥)
@@ -85,16 +86,18 @@ pub data IsAnswered (C : List (List (Key × Value))) (r : Planned) : List ℕ �
 abbrev pub cancelled_line : List ℕ → ℕ → List ℕ
 cancelled_line name version = line (name ++ 32 ∷ decimal version ++ codes " cancelled")
 
--- a request's text, where it is cancelled or is not
+-- a request's text, by whether it is cancelled
 abbrev pub IsRepliedAs : Bool → List (List (Key × Value)) → Planned → List ℕ → Type 0
 IsRepliedAs true C r text = text ≡ cancelled_line r.name r.version
 IsRepliedAs false C r text = IsAnswered C r text
 
--- `cancelled` exactly where the script cancels the request, and else how it is answered, by the log C
+-- `cancelled` exactly if the script cancels the request, and otherwise how it is answered, by the
+-- log C
 abbrev pub IsReplied : List (List (Key × Value)) → Planned → List ℕ → Type 0
 IsReplied C r text = IsRepliedAs r.cancelled C r text
 
--- what a line of the script prints, by the whole log C and the requests that are cancelled, where the lines before it make this plan
+-- what a line of the script prints, by the whole log C and the requests that are cancelled, if the
+-- lines before it make this plan
 abbrev pub IsPrinted : List (List (Key × Value)) → Ends → Plan → Line → List ℕ → Type 0
 IsPrinted C ends p (Put path bytes) text = text ≡ []
 IsPrinted C ends p (Drop path) text = text ≡ []
@@ -106,7 +109,7 @@ IsPrinted C ends p (Wait name) text = text ≡ []
 IsPrinted C ends p (Cancel name) text = text ≡ []
 IsPrinted C ends p (Close t) text = text ≡ []
 
--- the texts of these lines in order, one behind the other
+-- the texts of these lines in order, one after the other
 abbrev pub IsOutputFrom : List (List (Key × Value)) → Ends → Plan → List Line → List ℕ → Type 0
 IsOutputFrom C ends p [] out = out ≡ []
 IsOutputFrom C ends p (l ∷ ls) out =

@@ -25,7 +25,7 @@ IsTraceText ls J text = IsJournalOf ls J × IsTraceOf J text
 abbrev pub LeaveOneJournal : List Line → List ℕ → Type 0
 LeaveOneJournal ls text = (J K : Events) → IsTraceText ls J text → IsTraceText ls K text → J ≡ K
 
--- what is printed of a script: its output, and, where it is asked for, the trace of this journal
+-- what is printed of a script: its output, and, if it is asked for, the trace of this journal
 abbrev pub IsPrintout : Bool → List Line → Events → List ℕ → Type 0
 IsPrintout false ls J out = IsOutput ls out
 IsPrintout true ls J out = (text : List ℕ) × (trace : List ℕ) × IsOutput ls text × IsTraceOf J trace × (out ≡ text ++ trace)

@@ -36,7 +36,7 @@ module _ {K V : Type 0} where
   row_at test v (x ∷ xs) = if is_row test v x then value_of x else row_at test v xs
 
 module _ {K V : Type 0} (eq : K → K → Bool) (m : Meaning K V) where
-  -- What `append` asks of an operation, over the commits before it: a commit has the shape of one, and the value of a row is the key's at its version, which is not above their number.
+  -- What `append` asks of an operation, over the commits before it. A commit has the shape of one. A row's version is not above the number of these commits, and its value is the key's there.
   abbrev pub MayFollow : List (List (K × V)) → Plain K V → Type 0
   MayFollow C (bare.Commit changes) = IsCommit m changes
   MayFollow C (bare.Row version key value) = (version ≤ length C) × HasValue eq m C version key value

@@ -117,7 +117,7 @@ impl<U: Universe> Shelver<U> {
         Ok((Pen { raw: Some(writer) }, ends))
     }
 
-    /// Adds an operation at the end, which readers see once it is published. A commit has to have the shape of one, and a row the value of its key at its version over the commits before it.
+    /// Adds an operation at the end, which readers see once it is published. A commit has to have the shape of one. A row has to have the value of its key at its version over the commits before it.
     pub fn append(&mut self, op: ShelfOp<U::Key, U::Value>) -> Result<(), NoMemory>
         requires { MayFollow U.Key.eq U.meaning (commits_in self.old.list) (plain op) }
         ensures ok { IfOk result (λ _. self.new ≡ record self.old { list = self.old.list ++ plain op ∷ [] }) }

@@ -16,7 +16,8 @@ abbrev pub cell_of : List ℕ → Option Cell
 cell_of (c ∷ r ∷ []) = if is_cell c r then Some (record { column = c; row = r }) else None
 cell_of text = None
 
--- the number of the digits after those of a number; one that is above a tenth of 2^64 is not read on
+-- the number of the digits after those of a number; one that is above a tenth of 2^64 is not read
+-- on
 abbrev pub digits_from : ℕ → List ℕ → Option ℕ
 digits_from n [] = Some n
 digits_from n (b ∷ bs) = if nat_le 48 b && nat_le b 57 && nat_le n 1844674407370955160 then digits_from (n * 10 + (b - 48)) bs else None

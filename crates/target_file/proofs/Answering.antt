@@ -104,7 +104,7 @@ ended (x ∷ xs) = consed x xs (ended xs)
 empty_lives : IsDead [] → ⊥
 empty_lives d = d [] [] (record { made_of = []; tokens_are = no_token; calls_are = refl; each = tt; once = tt })
 
--- where no prefix is the shortest dead one, none is dead
+-- if no prefix is the shortest dead one, none is dead
 end_lives : (n : ℕ) (text front back : List ℕ) → ((before : List ℕ) (b : ℕ) → IsShortestDead text before b → ⊥) → text ≡ front ++ back → length front ≤ n → IsDead front → Ended front → ⊥
 end_lives n text front back k e l d (none h) = empty_lives (subst IsDead h d)
 end_lives zero text front back k e l d (last ys y h) = let f : length front ≡ length ys + 1 = ap length h ∙ length-append ys (y ∷ []) in absurd (omega arith)

@@ -49,7 +49,7 @@ dead_token r p s h k more calls f =
     let e = accepted r f.made_of calls f.calls_are f.each f.once in
     k (d.0 ++ g.0) e.end (subst (λ (z : List Token). Runs (first r) z e.end) t e.runs)
 
--- where one token is refused, nothing leads on
+-- if one token is refused, nothing leads on
 pub stuck : (r : Rule) (ts new : List Token) (m : State) → Runs (first r) ts m → ((e : State) → Runs m new e → ⊥) → Stuck r (ts ++ new)
 stuck r ts new m h k more e g =
     let a = runs_split ts (new ++ more) (first r) e (subst (λ (z : List Token). Runs (first r) z e) (append_assoc ts new more) g) in
@@ -83,7 +83,7 @@ all_written (t ∷ ts) = written t ++ all_written ts
 line_end : (b : ℕ) → is_plain b ≡ true → (nat_eq b 10 || nat_eq b 13) ≡ false
 line_end b h = let a = off is_plain b 10 h refl in let c = off is_plain b 13 h refl in rw (a, c) refl
 
--- the letters of a word behind the first
+-- the letters of a word after the first
 word_scan : (bs : List ℕ) (ts : List Token) (line : ℕ) (w rest : List ℕ) → AllByRecursion (λ b. is_letter b ≡ true) bs →
     scan (record { tokens = ts; mode = InWord line w; line = line }) (bs ++ 32 ∷ rest) ≡ scan (at_line (ts ++ Word line (w ++ bs) ∷ []) line) rest
 word_scan [] ts line w rest h = ap (λ (x : List ℕ). scan (at_line (ts ++ Word line x ∷ []) line) rest) (sym (append-nil w))

@@ -57,7 +57,7 @@ sources_more xs k x old new h e o n =
     let all : take k xs ++ x ∷ [] ≡ take (k + 1) xs = texts_more xs k x (take k xs) (take k xs ++ x ∷ []) h e refl refl in
     n ∙ ap (λ (ys : List Source). ys ++ source_of x ∷ []) o ∙ sym (map-append source_of (take k xs) (x ∷ [])) ∙ ap (map source_of) all
 
--- the label behind an opener
+-- the label after an opener
 pub label_is : (rest : List ℕ) (at : ℕ) → at < length rest → get_or rest at 0 ≡ 41 → NoClose (take at rest) → take at rest ≡ before_close rest
 label_is rest at h g n = sym (ap before_close (cut_close rest at h g) ∙ before_is (take at rest) (drop (suc at) rest) n)
 

@@ -53,7 +53,7 @@ word_ran (b ∷ w) line m n h = (
   letters_ran w (b ∷ []) line m h.1,
 )
 
--- what goes on behind a word that was taken goes on from within it
+-- what goes on after a word that was taken goes on from within it
 behind_word : (line b : ℕ) (w bs : List ℕ) (m k e : State) (t : Scan) → is_letter b ≡ false → Steps m (Word line w) k → Ran (bare Between line) (b ∷ bs) k t e → Ran (bare (InWord line w) line) (b ∷ bs) m t e
 behind_word line b w bs m k e t f h r = (r.0, r.1, r.2, took_word line line b w m k r.2 (bare r.0 r.1) true f h r.3, r.4)
 
@@ -83,7 +83,7 @@ word_went line b w bs m k e count t h f g =
       ran = ran_append w g.front (bare Between line) (bare (InWord line w) line) t m m e h.ran (word_front g.front g.back bs line b w m k e t f h.step g.bytes_are n g.ran);
     }
 
--- where the byte behind a word is refused, or a later one
+-- if the byte after a word is refused, or a later one
 word_stops : (front back bs : List ℕ) (line n b byte : ℕ) (mode : Mode) (w : List ℕ) (m k e : State) → TakesWord line w m k → is_letter b ≡ false →
     b ∷ bs ≡ front ++ byte ∷ back → Ran (bare Between line) front k (bare mode n) e → Refuses (bare mode n) byte e → Stops (bare Between line) (w ++ b ∷ bs) m n
 word_stops [] back bs line n b byte mode w m k e h f c r g =
@@ -193,7 +193,7 @@ means_itself q b bs h k n text line m =
 pub broken_line : (q b : ℕ) (bs : List ℕ) → (nat_eq b 10 || nat_eq b 13) ≡ true → IsBroken q (b ∷ bs)
 broken_line q b bs h text line m = let e : next (bare (InText q text) line) b ≡ None = rw h refl in fails_one b bs m (InText q text) line (inl e)
 
--- behind a backslash
+-- after a backslash
 slash_next : (q b line : ℕ) (x : List ℕ) → nat_eq b 92 ≡ true → nat_eq b q ≡ false → next (bare (InText q x) line) b ≡ Some (bare (Escape q x) line)
 slash_next q b line x h n = let e : b ≡ 92 = eqb-true b 92 h in let g : (nat_eq b 10 || nat_eq b 13) ≡ false = subst (λ (c : ℕ). (nat_eq c 10 || nat_eq c 13) ≡ false) (sym e) refl in rw (g, n, h) refl
 
@@ -222,7 +222,7 @@ broken_escape q b c bs h k n text line m =
 pub broken_slash : (q b : ℕ) → nat_eq b 92 ≡ true → nat_eq b q ≡ false → IsBroken q (b ∷ [])
 broken_slash q b h n text line m = inr (record { mode = Escape q text; state = m; ran = slash_ran q b line text m h n; inside = λ x. x })
 
--- what goes wrong behind bytes that were taken goes wrong behind all
+-- what goes wrong after bytes that were taken goes wrong after all
 pub fails_behind : (p bs : List ℕ) (s u : Scan) (m k : State) (line : ℕ) → Ran s p m u k → Fails u bs k line → Fails s (p ++ bs) m line
 fails_behind p bs s u m k line r (inl g) = inl (record {
   front = p ++ g.front;
@@ -279,7 +279,7 @@ string_refused q line bs text count m e h g k = inl (record {
   refused = ends_text q line text m e false h k;
 })
 
--- the same, of the bytes behind the first one
+-- the same, of the bytes after the first one
 head_is : (bs : List ℕ) → (length bs ≡ 0 → ⊥) → bs ≡ get_or bs 0 0 ∷ drop 1 bs
 head_is [] n = absurd (n refl)
 head_is (b ∷ bs) n = refl
@@ -306,7 +306,7 @@ pub broken_behind : (q b : ℕ) (bs : List ℕ) → b ≡ 92 → (length bs ≡ 
 broken_behind q b bs e l k n =
     subst (λ (x : List ℕ). IsBroken q (b ∷ x)) (sym (head_is bs l)) (broken_escape q b (get_or bs 0 0) (drop 1 bs) (is_slash b e) k n)
 
--- what stands in front behind a part
+-- what stands in front after a part
 pub took_front : (bs : List ℕ) (at count : ℕ) (front back : List ℕ) → at ≤ length bs → drop at bs ≡ front ++ back → length front ≡ count → take (at + count) bs ≡ take at bs ++ front
 took_front bs at count front back h e c =
     let l : length (take at bs) ≡ at = length-take-le at bs h in
@@ -337,7 +337,7 @@ rest_is bs at h =
 pub means_some : (q c : ℕ) (bs : List ℕ) (count : ℕ) → Means q bs c count → 1 ≤ count
 means_some q c bs count g = (g [] 0 nothing).some
 
--- a byte of a string behind those that were read
+-- a byte of a string after those that were read
 pub text_more : (q : ℕ) (bs text : List ℕ) (c at count : ℕ) → at ≤ length bs → Means q (drop at bs) c count → ((line : ℕ) (m : State) → Ran (bare (InText q []) line) (take at bs) m (bare (InText q text) line) m) →
     (at + count ≤ length bs) × ((line : ℕ) (m : State) → Ran (bare (InText q []) line) (take (at + count) bs) m (bare (InText q (text ++ c ∷ [])) line) m)
 text_more q bs text c at count h g r =
@@ -374,11 +374,11 @@ quote_behind q bs at h e p =
     let l : length (take at bs) ≡ at = length-take-le at bs (omega arith) in
     subst (λ (n : ℕ). Quoted q bs (take at bs) n) l g
 
--- a word in front, and what stands behind it
+-- a word in front, and what stands after it
 pub word_at : (bs : List ℕ) (n : ℕ) → n < length bs → bs ≡ take n bs ++ get_or bs n 0 ∷ take (length bs - (n + 1)) (drop (n + 1) bs)
 word_at bs n h = sym (take-append-drop n bs) ∙ ap (λ (r : List ℕ). take n bs ++ r) (rest_is bs n h)
 
--- a word that is taken, with what goes on behind it
+-- a word that is taken, with what goes on after it
 pub word_goes : (line n : ℕ) (bs : List ℕ) (m k : State) → 1 ≤ n → n < length bs → AllByRecursion (λ c. is_letter c ≡ true) (take n bs) → is_letter (get_or bs n 0) ≡ false → Steps m (Word line (take n bs)) k →
     (count : ℕ) (t : Scan) (e : State) → Went (bare Between line) (get_or bs n 0 ∷ take (length bs - (n + 1)) (drop (n + 1) bs)) k count t e → Went (bare Between line) bs m (n + count) t e
 word_goes line n bs m k s h p f w count t e g =

@@ -16,7 +16,7 @@ use Rattle.target_file.proofs.Counting.{weight, run_weight, out_few}
 use Rattle.std.proofs.lemmas.Bool.{cases_Bool}
 use Rattle.lists.specs.Lines.{line_feeds}
 
--- behind these bytes: the bare scan, and the machine's state
+-- after these bytes: the bare scan, and the machine's state
 pub record Held (p : List ℕ) (b : Scan) (m : State) : Type 0 where
   pub scan : Scan
   pub bare : blank scan ≡ b
@@ -76,7 +76,7 @@ pub held_end_bad : (text : List ℕ) (s : Scan) (m : State) → Held text s m �
 held_end_bad text s m h k =
     subst (IsBad text) (ap (λ (x : Scan). x.line) h.bare) (bad_end WriteFile text h.scan m h.reached (λ i. k (same_end h.scan s m h.bare i)))
 
--- where no file goes on
+-- if no file goes on
 stopped : (text p bs : List ℕ) (s : Scan) (m : State) (line : ℕ) → length text < 2 ^ 64 → text ≡ p ++ bs → Held p s m → Stops s bs m line → IsBad text line
 stopped text p bs s m line n e h g =
     let w : text ≡ (p ++ g.front) ++ g.byte ∷ g.back = e ∙ ap (λ (x : List ℕ). p ++ x) g.bytes_are ∙ sym (append_assoc p g.front (g.byte ∷ g.back)) in

@@ -26,7 +26,7 @@ implied_says true true P p = λ e. p
 implied_says true false P p = λ f. p (f refl)
 implied_says false b P p = λ e. cc
 
--- an absolute label, behind its two slashes
+-- an absolute label, after its two slashes
 package_says : (h : List ℕ) → Says (bytes_eq h [] || is_path h) (IsPackage h)
 package_says h = either_say (bytes_eq h []) (is_path h) (h ≡ []) (IsPath h) (bytes_say h []) (path_says h)
 
@@ -72,7 +72,7 @@ empty_no_label : IsSomeLabel [] → ⊥
 empty_no_label (n, inl l) = let r = two_slashes [] n l in let e = r.1 in cc
 empty_no_label (n, inr l) = let e = l.text_is in cc
 
--- where the second byte is tested
+-- the same, when the second byte is tested
 slashed_says : (x : List ℕ) → Says (is_slashed x) ((n : Name) × IsLabel (47 ∷ x) n)
 slashed_says [] = λ l. let r = two_slashes (47 ∷ []) l.0 l.1 in let e = r.1 in cc
 slashed_says (b ∷ x) = elim (cases_Bool (nat_eq b 47)) [

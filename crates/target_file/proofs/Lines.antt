@@ -26,7 +26,7 @@ live_dead q before c z l e d =
     let f : q ++ l.more ≡ (before ++ c ∷ []) ++ (z ++ l.more) = ap (λ (x : List ℕ). x ++ l.more) e ∙ append_assoc before (c ∷ z) l.more ∙ sym (append_assoc before (c ∷ []) (z ++ l.more)) in
     d (z ++ l.more) l.calls (subst (λ (t : List ℕ). IsWritten t l.calls) f l.file)
 
--- the shortest dead prefix ends behind a live one
+-- the shortest dead prefix ends after a live one
 behind_cases : (q y before rest : List ℕ) (c : ℕ) → IsLive q → IsDead (before ++ c ∷ []) → Compared before q (c ∷ rest) y → (z : List ℕ) × (before ≡ q ++ z) × (z ++ c ∷ rest ≡ y)
 behind_cases q y before rest c l d (longer z e f) = (z, e, f)
 behind_cases q y before rest c l d (shorter b z e f) = let g : c ≡ b = cc in absurd (live_dead q before c z l (e ∙ ap (λ (n : ℕ). before ++ n ∷ z) (sym g)) d)

@@ -89,7 +89,7 @@ not_given a (b ∷ xs) n = pick_later a b (given a xs) None (same_attribute a b.
 no_default : (r : Rule) (n : List ℕ) (a : Attribute) (v : Value) → default_of r a n ≡ Some v → a ≡ Name → ⊥
 no_default r n a v e h = let k : default_of r Name n ≡ Some v = subst (λ (x : Attribute). default_of r x n ≡ Some v) h e in let z : None ≡ Some v = k in cc
 
--- the value of b, where a is written out
+-- the value of b, if a is written out
 written : (r : Rule) (n : List ℕ) (a b : Attribute) (v : Value) (o : Option Value) (c : Bool) → Says c (a ≡ b) → default_of r a n ≡ Some v → (a ≡ b → o ≡ None) → option_or (option_or o (if c then Some v else None)) (default_of r b n) ≡ option_or o (default_of r b n)
 written r n a b v o true s e k =
     ap (λ (p : Option Value). option_or (option_or p (Some v)) (default_of r b n)) (k s) ∙ sym e ∙ ap (λ (x : Attribute). default_of r x n) s ∙ ap (λ (p : Option Value). option_or p (default_of r b n)) (sym (k s))

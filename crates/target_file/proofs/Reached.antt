@@ -1,4 +1,5 @@
--- What holds behind each byte that was taken: the prefix is scanned and run, and a live one ends on its last line.
+-- What holds after each byte that was taken: the prefix is scanned and run, and a live one ends on
+-- its last line.
 use Rattle.std.proofs.Common.{◌≡◌, ◌<◌, ◌+◌, ◌∙◌, sym, ap, refl, subst, inl, inr, ℕ, Bool, true, false, List, [], ◌∷◌, ◌++◌, append_assoc, append-nil, Option, Some, None, if◌then◌else◌, nat_eq, length, arith, ◌||◌}
 use Rattle.std.specs.Option.{option_and_then, option_map}
 use Rattle.target_file.specs.declared.table.Rule.{Rule}
@@ -21,7 +22,7 @@ use Rattle.std.proofs.lemmas.Bool.{cases_Bool}
 use Rattle.lists.proofs.Lines.{line_feeds_append}
 use Rattle.lists.specs.Lines.{line_feeds}
 
--- a live prefix, and no LF behind it
+-- a live prefix, and no LF after it
 pub record Near (p : List ℕ) : Type 0 where
   pub front : List ℕ
   pub back : List ℕ

@@ -24,7 +24,7 @@ pub record IsGood (rule : Rule) (given : List Argument) (calls : List Call) : Ty
   pub once : AreDistinct (attributes given)
   pub names_once : AreDistinct (names calls ++ names_in given)
 
--- a rule's name, (, and the body; behind each argument in `commas` stands a comma
+-- a rule's name, (, and the body; after each argument in `commas` stands a comma
 pub record Within (line : ℕ) (rule : Rule) (given : List Argument) (calls : List Call) (back body commas : List Token) : Type 0 where
   pub word : List ℕ
   pub rule_is : rule_of word ≡ Some rule
@@ -32,7 +32,7 @@ pub record Within (line : ℕ) (rule : Rule) (given : List Argument) (calls : Li
   pub given_are : AreGiven commas given
   pub good : IsGood rule given calls
 
--- an attribute's name, and what stands behind it
+-- an attribute's name, and what stands after it
 pub record Begun (rule : Rule) (given : List Argument) (a : Attribute) (tail rest : List Token) : Type 0 where
   pub line : ℕ
   pub word : List ℕ
@@ -148,7 +148,7 @@ good_more rule given calls a g b f n = record {
   names_once = subst (λ (ns : List (List ℕ)). AreDistinct (names calls ++ ns)) (sym (names_in_end given a)) (names_more a.attribute a.value given calls g.names_once f n);
 }
 
--- one token more behind the body of a call
+-- one token more after the body of a call
 longer : (line : ℕ) (rule : Rule) (given : List Argument) (calls : List Call) (back inner tail : List Token) (t : Token) → Within line rule given calls back (inner ++ tail) inner → Within line rule given calls (back ++ t ∷ []) (inner ++ (tail ++ t ∷ [])) inner
 longer line rule given calls back inner tail t w = record {
   word = w.word;
@@ -185,7 +185,7 @@ call_is line rule given calls back inner commas w e = record {
   arguments = elim e [ inl h ↦ inl (subst (λ (c : List Token). AreGiven c given) h w.given_are) | inr h ↦ inr (subst (λ (c : List Token). AreGiven c given) h w.given_are) ];
 }
 
--- the whole calls stay, and the place is another
+-- the whole calls stay, and the place changes
 kept : (ts : List Token) (t : Token) (s e : State) (f : Spelled ts s) → e.calls ≡ s.calls → SpelledAt e.place e (f.back ++ t ∷ []) → Spelled (ts ++ t ∷ []) e
 kept ts t s e f h k = record {
   front = f.front;

@@ -139,7 +139,7 @@ read_tokens text ts h = scanned text 1 ts [] h
 
 -- ---- what is scanned, the grammar spells
 
--- the rest of a text, where a comment, a word, a string or an escape has begun
+-- the rest of a text, if a comment, a word, a string or an escape has begun
 data Ends (line : ℕ) (bs : List ℕ) (ts : List Token) : Type 0 where
   last : IsOneLine bs → ts ≡ [] → Ends line bs ts
   ends : (front rest : List ℕ) → IsOneLine front → bs ≡ front ++ 10 ∷ rest → IsTokens rest (line + 1) ts → Ends line bs ts

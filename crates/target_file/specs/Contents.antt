@@ -41,7 +41,7 @@ is_segment s = (list_all is_segment_byte s && not (bytes_eq s [])) && (not (byte
 abbrev pub is_path : List ℕ → Bool
 is_path x = list_all is_segment (parts x) && nat_le (length x) 255
 
--- a label, behind its two slashes
+-- a label, after its two slashes
 abbrev pub is_absolute : List ℕ → Bool
 is_absolute x =
     if nat_lt (before_colon x) (length x)
@@ -96,7 +96,7 @@ abbrev pub is_new : List Call → Attribute → Value → Bool
 is_new calls Name (One x) = not (list_any (bytes_eq x) (names calls))
 is_new calls a v = true
 
--- e where the test holds
+-- e if the test holds
 abbrev pub where_so : Bool → State → Option State
 where_so b e = if b then Some e else None
 
@@ -143,7 +143,7 @@ abbrev pub on_step : Contents → (Scan × State → Contents) → Option (Scan 
 on_step d f None = d
 on_step d f (Some p) = f p
 
--- the contents of the rest, where so much has been read
+-- the contents of the rest, after so much has been read
 abbrev pub contents_from : Scan → State → List ℕ → Contents
 contents_from s m [] = if ends_at s.mode m.place then Holds (map located m.calls) else Fails s.line
 contents_from s m (b ∷ bs) = on_step (Fails s.line) (λ p. contents_from p.0 p.1 bs) (take_byte s b m)

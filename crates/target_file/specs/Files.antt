@@ -68,7 +68,7 @@ pub record IsShortestDead (text before : List ℕ) (b : ℕ) : Type 0 where
   pub dead : IsDead (before ++ b ∷ [])
   pub shorter : (front back : List ℕ) → before ≡ front ++ back → IsDead front → ⊥
 
--- The line of the last byte of the shortest dead prefix, or of the end where there is none.
+-- The line of the last byte of the shortest dead prefix, or of the end if there is none.
 pub record IsFaultLine (text : List ℕ) (line : ℕ) : Type 0 where
   pub dead : (before : List ℕ) (b : ℕ) → IsShortestDead text before b → line ≡ 1 + line_feeds before
   pub end : ((front back : List ℕ) → text ≡ front ++ back → IsDead front → ⊥) → line ≡ 1 + line_feeds text

@@ -16,7 +16,8 @@ text_or a arguments default = text_in (option_or (given a arguments) (Some (One 
 abbrev pub list_or_none : Attribute → List Argument → List (List ℕ)
 list_or_none a arguments = list_in (option_or (given a arguments) (Some (Many [])))
 
--- a file of the package under the target's name, a written file of that name, and what a command makes
+-- a file of the package under the target's name, a written file of that name, and what a command
+-- makes
 abbrev pub exported : List Argument → List ℕ → Action
 exported arguments name = ExportFile (text_or Src arguments name) (text_or Out arguments name)
 

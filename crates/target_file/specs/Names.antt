@@ -21,7 +21,8 @@ gives_name q a v = list_any (bytes_eq q) (name_in a v)
 abbrev pub is_named : List ℕ → List Argument → Bool
 is_named q given = list_any (bytes_eq q) (names_in given)
 
--- the number of the first call of this name, counted from n; the call that is being read stands last
+-- the number of the first call of this name, counted from n; the call that is being read stands
+-- last
 abbrev pub number_from : ℕ → List ℕ → List Call → List Argument → Option ℕ
 number_from n q [] given = if is_named q given then Some n else None
 number_from n q (c ∷ cs) given = if is_named q c.arguments then Some n else number_from (n + 1) q cs given

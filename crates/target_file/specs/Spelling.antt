@@ -1,4 +1,5 @@
--- The grammar of tokens: how words, strings and marks are spelled, with blanks and comments between them.
+-- The grammar of tokens: how words, strings and marks are spelled, with blanks and comments between
+-- them.
 use Rattle.std.specs.Prelude.{◌≡◌, ◌≢◌, ◌+◌, ℕ, true, false, List, [], ◌∷◌, ◌++◌, Some}
 use Rattle.std.specs.List.{AllByRecursion}
 use Rattle.target_file.specs.Tokens.{Token, Word, Text, Mark, is_blank, is_mark, is_quote, is_letter, escaped, next_line}
@@ -11,7 +12,7 @@ pub record IsPlainIn (quote b : ℕ) : Type 0 where
   pub no_return : b ≢ 13
 
 -- what stands between two quotes, and the string that it spells: a plain byte spells itself, and a
--- backslash with a byte behind it what that byte stands for there
+-- backslash with a byte after it what that byte stands for there
 pub data IsSpelled (quote : ℕ) : List ℕ → List ℕ → Type 0 where
   spells_nothing : IsSpelled quote [] []
   spells_plain : (b : ℕ) {bytes string : List ℕ} → IsPlainIn quote b → IsSpelled quote bytes string
@@ -31,9 +32,9 @@ AreLetters bytes = AllByRecursion (λ b. is_letter b ≡ true) bytes
 abbrev pub IsOneLine : List ℕ → Type 0
 IsOneLine bytes = AllByRecursion (λ b. b ≢ 10) bytes
 
--- The bytes, of which the first stands on this line, are spelled by these tokens: a blank, a comment
--- up to its line feed or the end, a mark, a string in quotes, or a word as long as it can be, and
--- then the rest.
+-- The bytes, of which the first stands on this line, are spelled by these tokens. First comes a
+-- blank, a comment up to its line feed or the end, a mark, a string in quotes, or a word as long as
+-- it can be, and then the rest.
 pub data IsTokens : List ℕ → ℕ → List Token → Type 0 where
   no_token : {line : ℕ} → IsTokens [] line []
   blank : (b : ℕ) {rest : List ℕ} {line : ℕ} {ts : List Token} → is_blank b ≡ true

@@ -46,7 +46,8 @@ abbrev pub list_in : Option Value → List (List ℕ)
 list_in (Some (Many ss)) = ss
 list_in o = []
 
--- the default of an attribute that the rule has, in a call of this name; None where there is no default
+-- the default of an attribute that the rule has, in a call of this name; None if there is no
+-- default
 abbrev pub default_of : Rule → Attribute → List ℕ → Option Value
 default_of r Visibility name = Some (Many [])
 default_of r Labels name = Some (Many [])
@@ -58,7 +59,7 @@ default_of rule.Genrule Srcs name = Some (Many [])
 default_of rule.StampFile Out name = Some (One name)
 default_of r a name = None
 
--- a source is a label where it begins with : or //, else a path
+-- a source is a label if it begins with : or //, otherwise a path
 abbrev pub source_of : List ℕ → Source
 source_of text = if is_label_like text then source.Label text else source.Path text
 
@@ -73,7 +74,7 @@ action_by rule.StampFile v = action.StampFile (text_in (v Out))
 abbrev pub target_by : Rule → (Attribute → Option Value) → Target
 target_by r v = record { name = text_in (v Name); visibility = list_in (v Visibility); labels = list_in (v Labels); action = action_by r v }
 
--- the value of an attribute: what is given for it, else its default
+-- the value of an attribute: what is given for it, otherwise its default
 abbrev pub value_of : Rule → List Argument → Attribute → Option Value
 value_of r arguments a = option_or (given a arguments) (default_of r a (text_in (given Name arguments)))
 

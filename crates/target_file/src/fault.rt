@@ -26,7 +26,7 @@ impl<T: Drop> From<AllocFailed<T>> for NoMemory {
 #[derive(Clone, Copy, Debug, PartialEq, Eq)]
 pub enum FileFault {
     /// The bytes are no target file. `line` is the line of the first byte with which no target file
-    /// goes on, or of the end where every prefix begins one.
+    /// goes on, or of the end if every prefix begins a target file.
     Bad { line: u64 },
     /// Memory was refused.
     NoMemory,

@@ -13,8 +13,8 @@ ghost use Rattle.target_file.specs.Spelling.{IsTokens};
 ghost use Rattle.target_file.specs.Tokens.{Token, tokens};
 ghost use Rattle.lists.specs.Lists.{AreDistinct, Has};
 
-/// The contents of a text, which are one value, are those of the grammar: a text is a file, and
-/// then one list of targets, or bad, and then on one line, and not both.
+/// The contents of a text are one value, and are those of the grammar. A text is a file, and then
+/// one list of targets; or it is bad, and then on one line; and not both.
 pub fn contents_by_grammar()
     ensures file { (text : List ℕ) (file : List Located) → length text < 2 ^ 64
         → (contents text ≡ Holds file) ↔ IsFile text file }
@@ -22,7 +22,7 @@ pub fn contents_by_grammar()
         → (contents text ≡ Fails line) ↔ IsBad text line }
 {}
 
-/// The tokens of a text, which are one list at most, are those that the grammar spells it by.
+/// A text has one list of tokens at most, and they are those that the grammar spells it by.
 pub fn tokens_by_grammar()
     ensures { (text : List ℕ) (ts : List Token) → (tokens text ≡ Some ts) ↔ IsTokens text 1 ts }
 {}
@@ -40,9 +40,9 @@ pub fn calls_by_meaning()
 {}
 
 /// Worked texts: the empty file, one target with the default of `out`, one with sources and a
-/// location, prefixes with which no file begins, and texts that are no file: an unknown rule, a
-/// string without end, a comma before the first argument, a location without its parenthesis, and a
-/// list where a string is wanted.
+/// location, and prefixes with which no file begins. Then texts that are no file: an unknown rule,
+/// a string without end, a comma before the first argument, a location without its parenthesis, and
+/// a list in place of a string.
 pub fn worked_texts()
     ensures empty { IsFile [] [] }
     ensures one { IsFile w_text w_file }

@@ -202,7 +202,7 @@ impl Progress {
         }
     }
 
-    /// A comma or the end, behind a string of a list.
+    /// A comma or the end, after a string of a list.
     fn behind_item(&mut self, mark: u8, attribute: Attribute) -> Result<bool, NoMemory>
         requires { self.old.place ≡ Place.Item attribute }
         ensures { IfOk result
@@ -215,7 +215,7 @@ impl Progress {
         self.close_list(mark, attribute)
     }
 
-    /// A comma or the end, behind a value.
+    /// A comma or the end, after a value.
     fn behind_value(&mut self, mark: u8) -> Result<bool, NoMemory>
         requires { self.old.place ≡ Place.Done }
         ensures { IfOk result

@@ -39,8 +39,8 @@ fn escaped(byte: u8) -> Option<u8>
     }
 }
 
-/// What the bytes in front stand for in a string with another quote than the first one, and how
-/// many these are.
+/// What the bytes in front stand for in a string whose quote is not the first of them, and how many
+/// these are.
 fn meant(byte: u8, behind: &[u8]) -> Option<(u8, usize)>
     ensures some { IfSome result
         (λ c. (q : ℕ) → nat_eq byte q ≡ false → Means q (byte ∷ behind.now) c.0 c.1) }
@@ -85,8 +85,8 @@ fn unescaped(alloc: Global, quote: u8, rest: &[u8]) -> Result<Option<(Vec<u8>, u
     Ok(None)
 }
 
-/// What a string stands for whose quote stands before `rest`, and how many bytes stand before the
-/// closing quote; `None` where no file goes on so.
+/// What the string whose quote stands before `rest` stands for, and how many bytes stand before its
+/// closing quote; `None` if no file goes on so.
 pub fn quoted(alloc: Global, quote: u8, rest: &[u8]) -> Result<Option<(Vec<u8>, usize)>, NoMemory>
     ensures { IfOk result
         (λ o. MatchOption o (HasNoEnd quote rest.now) (λ r. Quoted quote rest.now r.0.items r.1)) }

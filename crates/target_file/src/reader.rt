@@ -111,7 +111,7 @@ impl Reader {
         )
     }
 
-    /// Takes what stands in front, and says how many bytes that is; `None` where no file goes on
+    /// Takes what stands in front, and says how many bytes that is; `None` if no file goes on
     /// so.
     pub fn take(&mut self, rest: &[u8]) -> Result<Option<usize>, NoMemory>
         requires some { 0 < length rest.now }
@@ -142,7 +142,7 @@ impl Reader {
         end + 1
     }
 
-    /// Takes a word with what stands behind it, or what stands in front.
+    /// Takes a word with what stands after it, or what stands in front.
     fn between(&mut self, rest: &[u8]) -> Result<Option<usize>, NoMemory>
         requires some { 0 < length rest.now }
         requires mode { self.old.mode ≡ Mode.Between }

@@ -10,7 +10,7 @@ use std::alloc::Global;
 
 /// Reads a target file, in one pass over its bytes.
 ///
-/// `Bad` names the line of the first byte with which no target file goes on; where there is none,
+/// `Bad` names the line of the first byte with which no target file goes on; if there is none,
 /// and the bytes are no target file, the line of their end. `NoMemory` says nothing of the bytes,
 /// and no clause says when it comes.
 pub fn read(alloc: Global, bytes: &[u8]) -> Result<File, FileFault>

@@ -1,4 +1,4 @@
-//! What a string may be where a source or a command is wanted.
+//! What a string may be if a source or a command is wanted.
 ghost use Rattle.std.specs.Prelude.{◌≡◌, ◌≢◌, ◌≤◌, ◌<◌, min, get_or, nat_eq, take, drop, length, ◌↔◌, true};
 ghost use Rattle.std.specs.List.{AllByRecursion, starts_with};
 ghost use Rattle.target_file.specs.Strings.{IsSource, IsCommand, IsLocated, is_label_like, opener, before_close};
@@ -34,8 +34,8 @@ pub fn opens(text: &[u8]) -> bool
     text.starts_with(b"$(location ")
 }
 
-/// Whether behind each `$(location ` stand a label and a closing parenthesis. Behind each it looks
-/// at no more than 514 bytes.
+/// Whether a label and a closing parenthesis follow each `$(location `. After each it looks at no
+/// more than 514 bytes.
 pub fn is_command(text: &[u8]) -> bool
     ensures { (result ≡ true) ↔ IsCommand text.now }
 {

@@ -68,7 +68,7 @@ module _ {K : Type 0} where
       live_on : (q : K) → t.live q ≡ true → s.live q ≡ true
       live_on q e = (and_parts (s.live q) _ (sym (p.live q) ∙ e)).0
 
-    -- where nothing is left to drop, each task that lives is held
+    -- if nothing is left to drop, each task that lives is held
     climbs : (s : Asked K) (all : List K) → ((q : K) → s.live q ≡ true → Has all q) → HasNoCycle s → AskersLive s → IsDone s
         → (n : ℕ) (q : K) (path : List K) → ((e : K) → Has (q ∷ path) e → Leads s q e) → ((e : K) → Has (q ∷ path) e → s.live e ≡ true) → AreDistinct (q ∷ path) → length all < length (q ∷ path) + n → Held s q
     climbs s all fin free living done zero q path l v d room = absurd (let z = few (q ∷ path) all d (λ e h. fin e (v e h)) in omega arith)

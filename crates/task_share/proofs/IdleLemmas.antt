@@ -131,7 +131,7 @@ module _ {K T : Type 0} (eq : K → K → Bool) (law : IsEquality eq) where
         listed = λ n u. elim (has_last cs k q (z.listed n u)) as (λ _. Has cs q) [ inl i ↦ i | inr s ↦ absurd (let a : eq k q ≡ true = subst (λ x. eq k x ≡ true) s (law.itself k) in let b : true ≡ false = sym a ∙ t in cc) ];
       }
 
-  -- where no candidate is left, no task is idle
+  -- if no candidate is left, no task is idle
   pub none_idle : (ps : List (K × Share K T)) (room : ℕ) → IsListed eq ps [] room → NoneIdle eq ps
   none_idle ps room l k p e = by_test (is_idle p) refl
     where
@@ -139,7 +139,7 @@ module _ {K T : Type 0} (eq : K → K → Bool) (law : IsEquality eq) where
       by_test true i = let z = l.each k p e in absurd (z.listed (z.idle i) (z.runs (and_parts p.live _ i).0))
       by_test false i = refl
 
-  -- where one place has changed
+  -- if one place has changed
   pub gone_so : (ps qs : List (K × Share K T)) (k : K) (left : Share K T) → IsChanged eq k (λ p r. Unit {0}) ps qs → lookup (eq k) qs ≡ Some left → (q : K) → lookup (eq q) qs ≡ cond (eq k q) (Some left) (lookup (eq q) ps)
   gone_so ps qs k left c here q = by_test (eq k q) refl
     where

@@ -281,7 +281,7 @@ module _ {K : Type 0} (eq : K → K → Bool) (law : IsEquality eq) where
       by_test false t (inr r) = inr (later t r)
 
   module _ {A : Type 0} (names : List K) (same : (n m : ℕ) (k : K) → slice_get names n ≡ Some k → slice_get names m ≡ Some k → n ≡ m) where
-    -- a key is among those that stand by their numbers just where its number is
+    -- a key is among those that stand by their numbers exactly if its number is
     pub any_numbered : (xs : List (ℕ × Arc K A)) (m : ℕ) (q : K) → AreNumbered names xs → slice_get names m ≡ Some q → list_any (eq q) (map arc_value (values_of xs)) ≡ is_some (lookup (nat_eq m) xs)
     any_numbered [] m q numbered named = refl
     any_numbered (x ∷ xs) m q numbered named = by_test (nat_eq m x.0) refl (any_numbered xs m q (λ y h. numbered y (inr h)) named)

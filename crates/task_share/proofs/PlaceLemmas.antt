@@ -125,7 +125,7 @@ module _ {K T : Type 0} (eq : K → K → Bool) (law : IsEquality eq) where
       other : K → Arc K A
       other q = record { ptr = key.ptr; value = q }
 
-  -- the same of a place that was settled, where mid is the place before that
+  -- the same of a place that was settled, if mid is the place before that
   pub written_listed : {A B : Type 0} (key : Arc K A) (es fs : List (Arc K A × Place K T)) (cs ds : List (Arc K B)) (room : ℕ) (h w : Place K T) (mid : Share K T) → IsWritten eq key es fs h w → IsListed eq (shares_of es) (map arc_value cs) room
       → mid.name ≡ (share_of h).name → (is_some h.task ≡ true → is_some mid.task ≡ true) → (mid.name ≡ None → is_some mid.task ≡ true → is_some h.task ≡ true) → (((share_of h).live ≡ true → is_some h.task ≡ true) → mid.live ≡ true → is_some mid.task ≡ true) → share_of w ≡ settled mid → map arc_value ds ≡ map arc_value cs ++ option_to_list (released mid) → IsListed eq (shares_of fs) (map arc_value ds) room
   written_listed {A} key es fs cs ds room h w mid i l same still there runs was grown =
@@ -254,7 +254,7 @@ inserted_at (Ok x) o room P done absent succeeds h = done
 inserted_at (Err e) o room P done absent succeeds (inl t) = absurd (let f : true ≡ false = sym t ∙ ap is_some absent in cc)
 inserted_at (Err e) o room P done absent succeeds (inr t) = let f = succeeds t in cc
 
--- what is asked already or has room where a task may be put
+-- what is asked already or has room if a task may be put
 pub with_room : (b : Bool) (asked : Bool) (n : ℕ) → (asked ≡ true) ⊎ (0 < cond b n 0) → (asked ≡ true) ⊎ (0 < n)
 with_room b asked n (inl e) = inl e
 with_room true asked n (inr e) = inr e
@@ -284,7 +284,7 @@ any_last p (y ∷ ys) x e = ap (λ b. p y || b) (any_last p ys x e) ∙ or_true 
     or_true true = refl
     or_true false = refl
 
--- how many keys there are after a removal, an insertion, and where they stay
+-- how many keys there are after a removal, after an insertion, and if they stay
 pub value_count : {K A : Type 0} (xs : List (ℕ × Arc K A)) → length (map arc_value (values_of xs)) ≡ length xs
 value_count [] = refl
 value_count (x ∷ xs) = ap suc (value_count xs)
@@ -302,7 +302,7 @@ pub fewer_by_one : {K A X : Type 0} (r : Option X) (x : X) (old new : List (ℕ 
 fewer_by_one None x old new e l = absurd (none-some x e)
 fewer_by_one (Some y) x old new e l = let a = value_count new in let b = value_count old in omega (arith, l)
 
--- where a place lost an asking task, there is an ask fewer
+-- if a place lost an asking task, there is an ask fewer
 pub popped_fewer : {K T A : Type 0} (eq : K → K → Bool) → IsEquality eq → (key : Arc K A) (es fs : List (Arc K A × Place K T)) (h w : Place K T) (mid : Share K T) → IsWritten eq key es fs h w → share_of w ≡ settled mid → suc (length mid.askers) ≡ length (share_of h).askers → ask_count (shares_of fs) < ask_count (shares_of es)
 popped_fewer {K} {T} {A} eq law key es fs h w mid i was less =
     let c = changed_written eq law key es fs h w (λ p r. Unit {0}) i tt in

@@ -32,7 +32,7 @@ and_true true = refl
 and_true false = refl
 
 module _ {K T : Type 0} (eq : K → K → Bool) (law : IsEquality eq) where
-  -- where askers and waits are as before, they still agree
+  -- if askers and waits are as before, they still agree
   pub mirrored_same : (ps qs : List (K × Share K T)) → KeepsAsks eq ps qs → ((k d : K) → list_any (eq d) (waits_at eq qs k) ≡ list_any (eq d) (waits_at eq ps k)) → IsMirrored eq ps → IsMirrored eq qs
   mirrored_same ps qs a w m d k = a d (Tasked k) ∙ (m d k ∙ sym (w k d))
 
@@ -341,7 +341,7 @@ module _ {K T : Type 0} (eq : K → K → Bool) (law : IsEquality eq) where
       count = (let a = p.taken.count in let b = w.room.count in let d = p.kept.room.count in omega arith);
     }
 
-  -- where no task is idle, each that has not ended has an asker
+  -- if no task is idle, each that has not ended has an asker
   pub done_from : (ps qs : List (K × Share K T)) → IsKept eq ps qs → NoneIdle eq qs → IsDone (asked_of eq ps)
   done_from ps qs kept none k v = by_place (lookup (eq k) qs) refl (kept.tasks.live k ∙ v)
     where
@@ -390,7 +390,7 @@ module _ {K T : Type 0} (eq : K → K → Bool) (law : IsEquality eq) where
     takes_on : (p r : Share K T) → r ≡ record p { task = Some t } → takes_task p ≡ true → takes_task r ≡ true
     takes_on p r i e = ap takes_task i
 
-    -- where there was a task
+    -- if there was a task
     pub written : ((p : Share K T) → lookup (eq k) ps ≡ Some p → is_some p.task ≡ true) → WritesTask eq k ps qs t
     written had = record {
       tasks = by_key eq law ps qs k _ c (option_and_then (λ (p : Share K T). p.task)) (option_map (λ _. t)) (by_places (lookup (eq k) ps) (lookup (eq k) qs) refl c.here);

@@ -90,7 +90,7 @@ module _ {K T : Type 0} (eq : K → K → Bool) (law : IsEquality eq) (ps qs : L
         by_places (Some p) None e i = absurd i
         by_places (Some p) (Some r) e i = (turn p r i).task
 
-  -- the sum of a number over all places stays where that of the place does
+  -- the sum of a number over all places stays if that of the place does
   pub sum_kept : (f : Share K T → ℕ) → ((p r : Share K T) → R p r → f r ≡ f p) → sum_by f (values_of qs) ≡ sum_by f (values_of ps)
   sum_kept f step = by_places (lookup (eq k) ps) (lookup (eq k) qs) c.here (c.sums f)
     where
@@ -137,7 +137,7 @@ module _ {K T : Type 0} (eq : K → K → Bool) (law : IsEquality eq) (ps qs : L
       drop_cond true m n h = omega arith
       drop_cond false m n h = omega arith
 
-  -- where a place stays but for its room and its key, all is kept
+  -- if a place stays but for its room and its key, all is kept
   pub stays_kept : ((p r : Share K T) → R p r → Stays eq p r × UsesRoom 0 0 0 p r) → IsKept eq ps qs
   stays_kept step = record {
     tasks = tasks_kept (λ p r i. ((step p r i).0.task, (step p r i).0.live));

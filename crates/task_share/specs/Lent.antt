@@ -16,6 +16,6 @@ pub record WritesTask {K T : Type 0} (eq : K → K → Bool) (k : K) (ps qs : Li
   pub waits : (q : K) → waits_at eq qs q ≡ waits_at eq ps q
   pub room : KeepsRoom eq ps qs
 
--- the table behind s has the last task that was written through r, and is as before where r is `None`
+-- the table that s points to has the last task that was written through r, and is as before if r is `None`
 abbrev pub LendsTask : (K T : RattleType) (eq : K.Denot → K.Denot → Bool) → (K.Denot → List (List ℕ)) → MutBor (List (K.Denot × Share K.Denot T.Denot)) → K.Denot → Option (MutBor T.Denot) → Fml
 LendsTask K T eq hash_input s k r = LendsSo (the_row K T (record {}) (record { eq = eq }) (record { hash_input = hash_input })) T s r (λ qs t. OnSome r (WritesTask eq k s.now qs t)) (λ qs. qs ≡ s.now)

@@ -80,7 +80,7 @@ pub record IsWhole {K T : Type 0} (eq : K → K → Bool) (ps : List (K × Share
   pub listed : IsListed eq ps cs room
   pub mirrored : IsMirrored eq ps
 
--- a place where there is no task and no asker
+-- a place without a task and without an asker
 pub record IsVacant {K T : Type 0} (p : Share K T) : Type 0 where
   pub task : p.task ≡ None
   pub live : p.live ≡ false

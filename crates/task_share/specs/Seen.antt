@@ -5,7 +5,7 @@ use Rattle.std.specs.List.{list_any, sum_by}
 use Rattle.task_share.specs.Asked.{By, Promised, Tasked, Asked}
 
 -- what is kept at a key: its task, if there is one, and whether it is there and has not ended; the promises and the tasks that ask for the key, the
--- keys that its task waits for, and how many more of each there is room for; the key itself, where it is not among the candidates and was
+-- keys that its task waits for, and how many more of each there is room for; the key itself, if it is not among the candidates and was
 -- not taken out with its task
 pub record Share (K T : Type 0) : Type 0 where
   pub task : Option T
@@ -39,7 +39,7 @@ has_live p = p.live
 abbrev pub takes_task : {K T : Type 0} → Share K T → Bool
 takes_task p = is_some p.task || is_some p.name
 
--- a number of what there is room for, where a task may be put
+-- a number of what there is room for, if a task may be put
 abbrev pub room_in : {K T : Type 0} → (Share K T → ℕ) → Share K T → ℕ
 room_in f p = cond (takes_task p) (f p) 0
 

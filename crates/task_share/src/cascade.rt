@@ -5,7 +5,7 @@ ghost use Rattle.task_share.specs.Asked.{Asked, HasNoCycle, AskersLive, IsDone, 
 ghost use Rattle.task_share.specs.Seen.{Share, asked_of};
 
 /// The cascade: called until `None`, `next_unasked` takes out exactly the tasks that have not ended and to which no chain of asks
-/// leads from a promise, where the asks of tasks form no cycle and each asking task is in the table and has not ended.
+/// leads from a promise, if the asks of tasks form no cycle and each asking task is in the table and has not ended.
 ///
 /// It does no work: it says what follows from the calls' contracts.
 pub fn drops_unheld<K: Eq, T>()

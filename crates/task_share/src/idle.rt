@@ -42,7 +42,7 @@ fn give_back<K: Eq + Hash + Drop, T: Drop>(places: &mut IndexMap<Arc<K>, Place<K
     place.name = Some(key);
 }
 
-/// Takes the task of a key out with what it waits for, where it has not ended and nobody asks for it; else the key goes back to
+/// Takes the task of a key out with what it waits for, if it has not ended and nobody asks for it; otherwise the key goes back to
 /// its place. The place stays, so that all numbers do.
 fn take_idle<K: Eq + Hash + Drop, T: Drop>(
     places: &mut IndexMap<Arc<K>, Place<K, T>>,

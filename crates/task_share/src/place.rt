@@ -39,7 +39,7 @@ impl<K: Eq + Hash + Drop, T: Drop> Drop for Place<K, T> {
 }
 
 impl<K: Eq + Hash + Drop, T: Drop> Place<K, T> {
-    /// The task with what it waits for, where there is one.
+    /// The task with what it waits for, if there is one.
     pub fn into_task(self) -> Option<(T, IndexMap<usize, Arc<K>>)>
         ensures some { IfSome result (λ f. (self.task ≡ Some f.0) × (f.1.entries ≡ self.waits.entries)) }
         ensures none { IfNone result (self.task ≡ None) }
@@ -70,7 +70,7 @@ pub fn is_unasked<K: Eq + Hash + Drop, T: Drop>(place: &Place<K, T>) -> bool
     is_running(place) && place.promises.is_empty() && place.askers.is_empty()
 }
 
-/// Where nobody asks for the task, its key goes to the candidates. It takes no memory.
+/// If nobody asks for the task, its key goes to the candidates. It takes no memory.
 pub fn settle<K: Eq + Hash + Drop, T: Drop>(place: &mut Place<K, T>, candidates: &mut Vec<Arc<K>>)
     requires { is_some place.old.name ≡ true → length candidates.old.items < vec_capacity candidates.old }
     ensures place { share_of place.new ≡ settled (share_of place.old) }

@@ -254,7 +254,7 @@ impl<K: Eq + Hash + Drop, T: Drop> Table<K, T> {
         drop_wait(&mut self.places, from, at);
     }
 
-    /// Takes one asking task away from a key, and gives its key; `None` exactly where no task asks for the key. It takes no memory.
+    /// Takes one asking task away from a key, and gives its key; `None` exactly if no task asks for the key. It takes no memory.
     ///
     /// Each asker that it gives lowers the number of asks of tasks, so a loop over it ends.
     pub fn take_asker(&mut self, key: &Arc<K>) -> Option<Arc<K>>
@@ -290,7 +290,7 @@ impl<K: Eq + Hash + Drop, T: Drop> Table<K, T> {
         withdraw(&mut self.places, &mut self.candidates, at, waits);
     }
 
-    /// Takes one task out that has not ended and has no asker, and withdraws its own asks; `None` exactly where there is no such
+    /// Takes one task out that has not ended and has no asker, and withdraws its own asks; `None` exactly if there is no such
     /// task. Called until `None` it is the cascade (`drops_unheld`). It takes no memory.
     ///
     /// Each call takes a candidate, and those are only what lost its last asker or was made without one. Each task that it gives
@@ -412,8 +412,8 @@ impl<K: Eq + Hash + Drop, T: Drop> Waits for Table<K, T> {
     }
 }
 
-/// What every table keeps: keys that are equal are the same, a task waits for just the keys that it asks for, a key whose task has
-/// not ended has one, no key stands twice, and each key that is waited for has its number. It does no work, and hands these facts to its caller.
+/// What every table keeps: keys that are equal are the same; a task waits for just the keys that it asks for; a key whose task has
+/// not ended has one; no key stands twice; and each key that is waited for has its number. It does no work, and hands these facts to its caller.
 pub fn table_in_order<K: Eq + Hash + Drop, T: Drop>(table: &Table<K, T>)
     ensures equality { IsEquality K.eq }
     ensures waits { IsMirrored K.eq table.now }

@@ -8,7 +8,7 @@ use Rattle.task_state.specs.declared.state.Need.{Need}
 use Rattle.task_state.specs.declared.state.Need.TheVariants.{Take, Return, Answers, Nothing}
 
 module _ {K V : Type 0} where
-  -- its stage, where it has not ended
+  -- its stage, if it has not ended
   abbrev pub stage_of : TaskState K V → Option Stage
   stage_of (Checking s) = Some s
   stage_of (Computing s) = Some s

@@ -23,7 +23,7 @@ pub enum Outcome<K: Drop, V: Drop> {
     Value(Arc<V>),
     /// Its key reaches this cycle.
     Cycle(Arc<Path<K>>),
-    /// It was given up for want of memory.
+    /// It was given up since no memory was left.
     Lost,
 }
 
@@ -52,8 +52,8 @@ pub enum Need {
 }
 
 impl<K: Drop, V: Drop> TaskState<K, V> {
-    /// What the task needs next: to be taken where it is ready, to be brought back where it is out,
-    /// answers where it waits, and nothing where it has ended.
+    /// What the task needs next: to be taken if it is ready, to be brought back if it is out,
+    /// answers if it waits, and nothing if it has ended.
     pub fn poll_step(&self) -> Need
         ensures { result ≡ need_of self.now }
     {
@@ -91,7 +91,7 @@ impl<K: Drop, V: Drop> TaskState<K, V> {
         self.set(Stage::Ready);
     }
 
-    /// It is given back with a batch: from out to ready where all answers are there, else to
+    /// It is given back with a batch: from out to ready if all answers are there, otherwise to
     /// waiting.
     pub fn given(&mut self, complete: bool)
         requires { stage_of self.old ≡ Some Stage.Out }

@@ -34,7 +34,7 @@ fn are(found: &[Arc<u32>], keys: &[u32]) -> bool {
     true
 }
 
-/// A wait, and the cycle that it would close, which has no keys where there is none.
+/// A wait, and the cycle that it would close, which has no keys if there is none.
 type Row = (u32, u32, &'static [u32]);
 
 /// Whether the wait would close this cycle.

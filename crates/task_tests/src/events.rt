@@ -25,7 +25,7 @@ fn keep(alloc: Global) -> Result<Event<Place, Value>, NoMemory> {
     Ok(Event::Keep(2, Arc::new(alloc, Place::Clock)?, 1))
 }
 
-/// Appends an event, where there is room.
+/// Appends an event, if there is room.
 fn push(journal: &mut Journal<Tiny>, event: Event<Place, Value>) {
     if journal.spare() > 0 {
         journal.push_reserved(event);

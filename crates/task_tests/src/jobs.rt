@@ -60,8 +60,7 @@ fn advanced(job: Job<Tiny>, universe: &Tiny) -> Result<Step<Tiny>, NoMemory> {
     }
 }
 
-/// The job that goes on with these answers; as for want of memory where the step does not ask as
-/// many keys.
+/// The job that goes on with these answers; `NoMemory` if the step does not ask as many keys.
 fn resumed(parked: Parked<Tiny>, answers: Answers<Value>) -> Result<Job<Tiny>, NoMemory> {
     if answers.len() != parked.batch().len() {
         return Err(NoMemory);
@@ -70,8 +69,8 @@ fn resumed(parked: Parked<Tiny>, answers: Answers<Value>) -> Result<Job<Tiny>, N
     Ok(parked.resume(next, answers))
 }
 
-/// The step after this one, which is answered with these numbers; as for want of memory where it
-/// does not ask as many keys.
+/// The step after this one, which is answered with these numbers; `NoMemory` if it does not ask as
+/// many keys.
 fn after(
     alloc: Global,
     universe: &Tiny,
@@ -116,13 +115,13 @@ fn run_of_sum(alloc: Global) -> Result<Job<Tiny>, NoMemory> {
     Ok(Job::begin(alloc, name_of(alloc, 3, SUM, 0)?))
 }
 
-/// The last step of a run of `Follow(1)`, where cell 1 is 7 and cell 7 is `last`.
+/// The last step of a run of `Follow(1)`, when cell 1 is 7 and cell 7 is `last`.
 fn followed(alloc: Global, universe: &Tiny, last: u64) -> Result<Step<Tiny>, NoMemory> {
     let job = run_of_follow(alloc)?;
     run_to(alloc, universe, job, &[7], &[last])
 }
 
-/// The last step of a run of `Sum(1, 2)`, where cell 1 is 5 and cell 2 is 6.
+/// The last step of a run of `Sum(1, 2)`, when cell 1 is 5 and cell 2 is 6.
 fn summed(alloc: Global, universe: &Tiny) -> Result<Step<Tiny>, NoMemory> {
     let job = run_of_sum(alloc)?;
     run_to(alloc, universe, job, &[5, 6], &[])
@@ -151,7 +150,7 @@ fn first_asked(alloc: Global, universe: &Tiny) -> Result<Seen, NoMemory> {
     Ok(seen_of(&step))
 }
 
-/// What a run of `Follow(1)` asks next, where cell 1 is 7.
+/// What a run of `Follow(1)` asks next, when cell 1 is 7.
 fn next_asked(alloc: Global, universe: &Tiny) -> Result<Seen, NoMemory> {
     let job = run_of_follow(alloc)?;
     let step = run_to(alloc, universe, job, &[7], &[])?;

@@ -5,7 +5,7 @@ use std::sync::Arc;
 use std::test::Fail;
 use task_share::{Asker, Table, Wait};
 
-/// Makes a task of the key where it has none that runs; whether it did.
+/// Makes a task of the key if it has none that runs; whether it did.
 fn make(table: &mut Table<u32, u64>, key: &Arc<u32>, task: u64) -> Result<bool, NoMemory> {
     if table.is_live(key) {
         return Ok(false);

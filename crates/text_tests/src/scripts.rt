@@ -197,7 +197,7 @@ fn lines_as_written(rt: HostRuntime) {
     assert!(rt; Word::Twice.text() == "twice");
 }
 
-/// Whether the request in this line is cancelled; `None` where there is none.
+/// Whether the request in this line is cancelled; `None` if there is none.
 fn is_cancelled(script: &Script, at: usize) -> Option<bool> {
     match script.lines().get(at) {
         Some(Line::Ask(request) | Line::Action(request)) => {

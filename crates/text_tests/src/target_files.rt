@@ -5,7 +5,7 @@ use std::alloc::Global;
 use std::test::Fail;
 use target_file::{Action, Command, File, FileFault, Source, Target, read};
 
-/// How many targets the text has; 99 where it is no file.
+/// How many targets the text has; 99 if it is no file.
 fn count(alloc: Global, text: &[u8]) -> usize {
     match read(alloc, text) {
         Ok(file) => file.targets().len(),
@@ -13,7 +13,7 @@ fn count(alloc: Global, text: &[u8]) -> usize {
     }
 }
 
-/// The line that is named; 0 where the text is a file.
+/// The line that is named; 0 if the text is a file.
 fn line_of(alloc: Global, text: &[u8]) -> u64 {
     match read(alloc, text) {
         Ok(_) => 0,

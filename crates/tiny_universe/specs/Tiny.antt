@@ -14,7 +14,7 @@ abbrev pub number_in : Value → ℕ
 number_in (Number x) = x
 number_in (Reading x) = x
 
--- the number in the first value of a batch's answers, and that in the second; 0 where there is none
+-- the number in the first value of a batch's answers, and that in the second; 0 if there is none
 abbrev pub first_in : List Value → ℕ
 first_in [] = 0
 first_in (x ∷ xs) = number_in x

@@ -188,7 +188,7 @@ module _ {S E : Type 0} (list : S → List E) (by : E → Option ℕ) (version :
       knows_more w t id j seen is (Empties x) k = let l = k.1 in (k.0, omega arith, given_else w.owner t id x (λ e. omega arith) ∙ k.2, k.3, k.4)
       knows_more w t id j seen is Spent k = k
 
-  -- a seat that waits looks which ticket is served, and takes the state where it is its own
+  -- a seat that waits looks which ticket is served, and takes the state if it is its own
   pub looks : (slots id : ℕ) (me : Seated S E) (t : ℕ) → me.0.stage ≡ Waits t → Allows Rule slots id me 1 (λ n. n) (looked list by version (step slots 1 0 0 core.none) me)
   looks slots id me t is s r wide at small =
       let v : V = me.0 in

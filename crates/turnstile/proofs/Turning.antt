@@ -13,7 +13,7 @@ use Rattle.turnstile.specs.Steps.{Seated, serving, back, Found, Agrees, LookedFo
 use Rattle.turnstile.proofs.Keeps.{leaves, raises, nothing_left}
 
 module _ {S E : Type 0} (list : S → List E) (by : E → Option ℕ) (version : List E → ℕ) where
-  -- what the seat has where its ticket was found
+  -- what the seat has if its ticket was found
   pub finds : (m m' : Seated S E) (n ticket : ℕ) → Waiting ticket m.0.stage → m.1 ≡ [] → n ≡ ticket → ((t : ℕ) → m.0.stage ≡ Waits t → LookedFor list by version t m n m')
       → (t : ℕ) × (x : S) × (m' ≡ (serving m.0 t (list x), in_hand x)) × Found by version m.0 (list x)
   finds m m' n ticket waits empty same told =

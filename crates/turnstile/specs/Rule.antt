@@ -48,7 +48,7 @@ HasTicket (Serves x) t = x ≡ t
 HasTicket (Empties x) t = x ≡ t
 HasTicket _ t = ⊥
 
--- what no word and no view shows: the tickets and turns as numbers without end, who has each ticket, whether the state is out and whether it is out for good, the list, and of each number which seat keeps it and as what (0: its own, 1: spare, 2: noted)
+-- what no word and no view shows: the tickets and turns as numbers without end; who has each ticket; whether the state is out, and whether it is out for good; the list; and for each number, which seat keeps it and as what (0: its own, 1: spare, 2: noted)
 pub record World (E : Type 0) : Type 0 where
   pub next : ℕ
   pub serving : ℕ

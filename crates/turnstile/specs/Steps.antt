@@ -52,7 +52,7 @@ module _ {S E : Type 0} where
   abbrev pub drawn : Step (Option S) → Seated S E → ℕ → Seated S E → Type 0
   drawn st m n m' = (t : ℕ) × Ticket t n × (m' ≡ (waiting m.0 t, m.1))
 
-  -- where the ticket t is served the seat has the state, and else nothing has changed
+  -- if the ticket t is served the seat has the state, and otherwise nothing has changed
   abbrev pub LookedFor : (S → List E) → (E → Option ℕ) → (List E → ℕ) → ℕ → Seated S E → ℕ → Seated S E → Type 0
   LookedFor list by version t m n m' =
       (Ticket t n → (x : S) × (m' ≡ (serving m.0 t (list x), (0, Some x) ∷ m.1)) × Found by version m.0 (list x)) × ((Ticket t n → ⊥) → m' ≡ m)

@@ -15,7 +15,7 @@ use crate::turns::VERSIONS;
 use std::sync::Wait;
 
 impl<S: Tale> Turnstile<S> {
-    /// Waits for a turn of this seat. It owes no return: the turns before it have to end.
+    /// Waits for a turn of this seat. It need not return: the turns before it have to end.
     pub fn enter<'a, R: Wait>(&self, rt: &R, seat: &'a mut Seat<S::Event>) -> Turn<'a, S>
         requires own { seat.old.turnstile ≡ self.now }
         requires away { IsAway seat.old }

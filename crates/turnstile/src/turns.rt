@@ -36,7 +36,7 @@ impl<S: Tale> Turnstile<S> {
         self.table.shared.fetch_add::<Draw>(seat, NEXT, 1)
     }
 
-    // Takes the state, where the ticket is served.
+    // Takes the state, if the ticket is served.
     fn look(&self, seat: &mut RawSeat<S>, ticket: u64) -> Option<S>
         requires own { seat.old.table_id ≡ self.now }
         requires empty_handed { seat.old.me.1 ≡ [] }
@@ -75,7 +75,7 @@ impl<S: Tale> Turnstile<S> {
         unreachable!()
     }
 
-    // Sleeps until a turn ends, where another ticket than this is served. Who ends a turn wakes those who sleep here. A wake that is
+    // Sleeps until a turn ends, if another ticket than this is served. Who ends a turn wakes those who sleep here. A wake that is
     // missed costs no more than a nap.
     fn sleep<R: Wait>(&self, rt: &R, ticket: u64) {
         let seen = self.table.shared.peek(SERVING);
@@ -87,7 +87,7 @@ impl<S: Tale> Turnstile<S> {
         self.table.shared.park_timeout(rt, SERVING, low, nap);
     }
 
-    // Wakes those who sleep in line, once the turn of this ticket has ended. Where no ticket beyond the next one was drawn, none is
+    // Wakes those who sleep in line, once the turn of this ticket has ended. If no ticket beyond the next one was drawn, none is
     // in line, and no call of the system is made.
     fn wake(&self, ticket: u64) {
         if self.table.shared.peek(NEXT) != ticket.wrapping_add(1) {

@@ -11,6 +11,6 @@ standing_of ss v = unwrap_or (lookup (nat_eq v) ss) record { count = 0; epoch = 
 abbrev pub open_count_of : List (ℕ × Standing) → ℕ → ℕ
 open_count_of ss v = (standing_of ss v).count
 
--- how many epochs of a version have begun: how often it was opened where none was open
+-- how many epochs of a version have begun: how often it was opened when none was open
 abbrev pub epoch_of : List (ℕ × Standing) → ℕ → ℕ
 epoch_of ss v = (standing_of ss v).epoch

@@ -1,6 +1,6 @@
 //! How often each version is open, and how often an epoch of it began.
 //!
-//! An epoch of a version begins where it goes from no open transaction to one, and ends where the
+//! An epoch of a version begins when it goes from no open transaction to one, and ends when the
 //! last one closes.
 #![tactic(auto)]
 

@@ -45,7 +45,7 @@ impl Tracker {
         }
     }
 
-    /// A transaction is opened at the version. Where none was open there, an epoch of it begins.
+    /// A transaction is opened at the version. If none was open there, an epoch of it begins.
     pub fn open(&mut self, version: u64) -> Result<(), NoMemory>
         requires count { open_count_of self.old version < u64.MAX }
         requires epoch { epoch_of self.old version < u64.MAX }

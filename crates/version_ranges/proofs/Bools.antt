@@ -19,7 +19,8 @@ or_right_done false true true b = refl
 or_right_done false true false b = refl
 or_right_done false false a b = refl
 
--- what the first of two lists has in common with the other is done, where it meets only the first there
+-- what the first of two lists has in common with the other is done, if it meets only the first
+-- there
 pub and_left_done : (o r a s b : Bool) → (r ≡ true → b ≡ true → ⊥) → ((o || (r && s)) || (a && (s || b))) ≡ (o || ((r || a) && (s || b)))
 and_left_done true r a s b h = refl
 and_left_done false true true true b h = refl

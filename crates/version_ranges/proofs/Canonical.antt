@@ -1,4 +1,4 @@
--- Two lists with the same members are the same, and a list is open where it has a tail.
+-- Two lists with the same members are the same, and a list is open if it has a tail.
 use Rattle.std.proofs.Common.{◌≡◌, ◌≤◌, ◌<◌, ◌-◌, ℕ, suc, Bool, true, false, ◌||◌, List, [], ◌∷◌, length, get_or, max, Option, Some, None, is_none, refl, ap, sym, ◌∙◌, subst, inl, inr, arith, IsTrue}
 use Rattle.std.proofs.lemmas.Bool.{ltb-true, lt-ltb, or_cases, or_left, or_right, cases_order, cases_Bool}
 use Rattle.version_ranges.specs.declared.half_open.Range.{Range}

@@ -41,7 +41,8 @@ module _ (f : ℕ → Bool) where
     | inr l ↦ between_down v w h w (omega arith) l
   ]
 
-  -- where a test holds from n on, and from v, which is not above n, to a version above n, it holds from v on
+  -- if a test holds from n on, and from v, which is not above n, to a version above n, it holds
+  -- from v on
   pub longer : (n v w u : ℕ) → v ≤ n → n < w → n ≤ u → ((z : ℕ) → n ≤ z → f z ≡ true) → all_between f v w ≡ true → all_between f v u ≡ true
   longer n v w u hv hw hu on h = from_between v u
       (λ z p q. elim (cases_lt n z) as (λ _. f z ≡ true) [

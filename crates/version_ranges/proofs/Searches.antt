@@ -110,7 +110,7 @@ starts_rise rs s = IsNonDecreasingBy-from_all_adjacent (λ (r : Range). r.from) 
         omega arith
 
 module _ (rs : List Range) (s : IsSeparate rs) where
-  -- where the first k ranges begin by w, and no other, the last of these decides
+  -- if the first k ranges begin by w, and no other, the last of these decides
   pub found : (k w : ℕ) (d : Range) → 0 < k → k ≤ length rs → (get_or rs (k - 1) d).from ≤ w → (k < length rs → w + 1 ≤ (get_or rs k d).from) → is_before w (get_or rs (k - 1) d).to ≡ contains rs w
   found k w d p h f g =
       let e = around rs k d p h in

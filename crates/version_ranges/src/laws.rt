@@ -12,7 +12,7 @@ pub fn same_members(a: &Ranges, b: &Ranges)
     let _ = &b.ranges;
 }
 
-/// A set is open exactly where it has all versions from some version on.
+/// A set is open exactly if it has all versions from some version on.
 pub fn open_has_a_tail(ranges: &Ranges)
     ensures { IsTrue (is_open ranges.now)
         ↔ ((v : ℕ) × ((w : ℕ) → v ≤ w → contains ranges.now w ≡ true)) }

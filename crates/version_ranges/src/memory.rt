@@ -1,4 +1,4 @@
-//! Want of memory.
+//! The answer when memory is refused.
 use std::alloc::{AllocError, AllocFailed};
 
 /// There was no memory for what was asked. What was asked has changed nothing.

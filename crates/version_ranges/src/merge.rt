@@ -8,7 +8,7 @@ use crate::half_open::{Range, earlier, ends_by, is_before_end, is_end_below, lat
 use crate::memory::NoMemory;
 use std::alloc::Global;
 
-/// Adds a range that begins no earlier than the last one, and joins it with that where they touch.
+/// Adds a range that begins no earlier than the last one, and joins it with that if they touch.
 pub(crate) fn append(ranges: &mut Vec<Range>, next: Range) -> Result<(), NoMemory>
     requires separate { IsSeparate ranges.old.items }
     requires has_version { is_before next.from next.to ≡ true }

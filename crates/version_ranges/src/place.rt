@@ -8,7 +8,7 @@ use crate::half_open::{Range, is_end_below, later};
 use crate::memory::NoMemory;
 use crate::merge::union_of;
 
-/// Adds a range. Where it touches one other at most, it is put at its place, or joined with that
+/// Adds a range. If it touches one other at most, it is put at its place, or joined with that
 /// one.
 pub(crate) fn put(ranges: &mut Vec<Range>, range: Range) -> Result<(), NoMemory>
     requires separate { IsSeparate ranges.old.items }
@@ -30,7 +30,7 @@ pub(crate) fn put(ranges: &mut Vec<Range>, range: Range) -> Result<(), NoMemory>
     Ok(())
 }
 
-/// Joins a range with the one before a place or with the one at it, where it touches that one and
+/// Joins a range with the one before a place or with the one at it, if it touches that one and
 /// no other; tells whether it did.
 fn join_round(ranges: &mut Vec<Range>, place: usize, range: Range) -> bool
     requires place { place ≤ length ranges.old.items }
@@ -47,7 +47,7 @@ fn join_round(ranges: &mut Vec<Range>, place: usize, range: Range) -> bool
     place < ranges.len() && join_at(ranges, place, range)
 }
 
-/// Joins a range with the one at a place, where it touches that one and no other; tells whether it
+/// Joins a range with the one at a place, if it touches that one and no other; tells whether it
 /// did.
 fn join_at(ranges: &mut Vec<Range>, place: usize, range: Range) -> bool
     requires place { place < length ranges.old.items }

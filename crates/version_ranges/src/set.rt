@@ -100,8 +100,8 @@ impl Ranges {
     /// Adds the versions from `from` on, up to but not with `to`; without a `to` all from `from`
     /// on.
     ///
-    /// The cost is constant where nothing begins after `from`. Else it is a binary search and a
-    /// move of what lies above; where the new range touches more than one, it is linear in the
+    /// The cost is constant if nothing begins after `from`. Otherwise it is a binary search and a
+    /// move of what lies above; if the new range touches more than one, it is linear in the
     /// number of ranges.
     pub fn insert(&mut self, from: u64, to: Option<u64>) -> Result<(), NoMemory>
         requires { ForSome to (λ t. from < t) }
@@ -121,7 +121,7 @@ impl Ranges {
 
     /// Adds the versions of another set. At an error all is as before.
     ///
-    /// Where the other set is one range, it costs what `insert` does, and else it is linear in the
+    /// If the other set is one range, it costs what `insert` does; otherwise it is linear in the
     /// number of ranges.
     pub fn add(&mut self, other: &Ranges) -> Result<(), NoMemory>
         ensures ok { OnOk result
@@ -153,7 +153,7 @@ impl Ranges {
         Ok(Ranges { ranges })
     }
 
-    /// The versions of both sets, in place of this one. Where both are one range it takes no
+    /// The versions of both sets, in place of this one. If both are one range it takes no
     /// memory.
     pub fn narrowed(self, other: &Ranges) -> Result<Ranges, NoMemory>
         ensures { IfOk result
@@ -170,9 +170,9 @@ impl Ranges {
         Ok(Ranges { ranges })
     }
 
-    /// Of these versions, in place of them, those up to which the other set has all from the given
-    /// one on, or from there back. The cost is logarithmic in the number of the other's ranges;
-    /// where this set is one range it takes no memory.
+    /// In place of these versions, those of them up to which the other set has all from the given
+    /// one on, or from there back. The cost is logarithmic in the number of the other's ranges; if
+    /// this set is one range it takes no memory.
     pub fn narrowed_round(self, other: &Ranges, version: u64) -> Result<Ranges, NoMemory>
         ensures { IfOk result (λ r. (w : ℕ)
             → contains r w ≡ (contains self w && all_between (contains other.now) version w)) }
@@ -183,7 +183,7 @@ impl Ranges {
         }
     }
 
-    /// Of these versions, in place of them, those in a range.
+    /// In place of these versions, those of them in a range.
     fn within(self, range: Range) -> Result<Ranges, NoMemory>
         requires { is_before range.from range.to ≡ true }
         ensures { IfOk result (λ r. (w : ℕ) → contains r w ≡ (contains self w && is_in range w)) }

@@ -28,7 +28,7 @@ use Rattle.versioned_graph.proofs.Tails.{more_edges, written_tailed}
 use Rattle.std.proofs.lemmas.List.{take_all}
 
 module _ {K V : Type 0} (eq : K → K → Bool) (m : Meaning K V) (law : IsLawful m) (veq : V → V → Bool) (same : AreSame veq) (C : List (List (K × V))) where
-  -- the entry that is written is true, where the new one and the one that was there are
+  -- the entry that is written is true, if the new one and the one that was there are
   joined_true : (k : K) (e n : Kept K V) (b : Bool) → e.value ≡ n.value → m.is_transient e.value ≡ false → IsTrue eq m C k e → IsTrue eq m C k n
       → IsTrue eq m C k (record { value = e.value; trace = cond b n.trace e.trace; ranges = λ w. e.ranges w || n.ranges w; version = cond b n.version e.version })
   joined_true k e n true s lasts p q = record {
@@ -173,7 +173,7 @@ module _ {K V : Type 0} (eq : K → K → Bool) (equality : IsEquality eq) (m : 
     edges_on : (i j : K) → Edges eq m es i j → Edges eq m fs i j
     edges_on i j h = records.edges i j ∙ or_left (is_edge eq es i j) (eq k j && (goes_in m veq (entry_at eq es k) n && (records.opened && is_asked eq A i))) h
 
-    -- where the new entry goes in and is open, there is an edge from each key of its trace
+    -- if the new entry goes in and is open, there is an edge from each key of its trace
     edges_new : goes_in m veq (entry_at eq es k) n ≡ true → IsOpenAt (length C) n.ranges → (j : K) → HasKey A j → Edges eq m fs j k
     edges_new g o j h =
         let i : records.opened ≡ true = records.is_open.1 (length C, o) in

@@ -1,4 +1,4 @@
--- What a look-up finds, and what stays true where one entry is written.
+-- What a look-up finds, and what stays true if one entry is written.
 use Rattle.std.proofs.Common.{◌≡◌, ◌≤◌, inl, inr, ◌⊎◌, ℕ, Bool, true, false, cond, max, List, length, Option, Some, refl, ap, sym, ◌∙◌, subst, arith}
 use Rattle.std.proofs.lemmas.Bool.{cases_lt}
 use Rattle.std.proofs.lemmas.Option.{same_Some}
@@ -26,7 +26,7 @@ module _ {K V : Type 0} (eq : K → K → Bool) (m : Meaning K V) (C : List (Lis
       by_range true r p = let q : e.value ≡ x = cc in subst (HasValue eq m C v k) q ((t k e h).0.holds v r l)
       by_range false r p = absurd (by_transient (m.is_transient e.value) p)
 
-  -- where one entry is written, all are true afterwards where the new one is and the others are
+  -- if one entry is written, all are true afterwards if the new one is and the others are
   pub true_with : (same : AreSame eq) (k : K) (o : Option (Kept K V)) (es fs : List (K × Stored K V)) → ((q : K) → entry_at eq fs q ≡ cond (eq k q) o (entry_at eq es q))
       → ((e : Kept K V) → o ≡ Some e → IsTrue eq m C k e × IsTailed eq m C (length C) (Edges eq m fs) k e)
       → ((q : K) (e : Kept K V) → entry_at eq es q ≡ Some e → IsTrue eq m C q e × IsTailed eq m C (length C) (Edges eq m fs) q e)

@@ -67,7 +67,7 @@ at_same eq same f k q o h = by_test (eq k q) refl
     by_test true e = ap f (sym (same k q e)) ∙ h
     by_test false e = refl
 
--- what is read at k is read at q, where one entry is written that has what was there and more
+-- what is read at k is read at q, if one entry is written that has what was there and more
 put-edge : {K : Type 0} (eq : K → K → Bool) (same : AreSame eq) (f : K → Bool) (k q : K) (u x : Bool) → x ≡ (f k || u) → cond (eq k q) x (f q) ≡ (f q || (eq k q && u))
 put-edge eq same f k q u x h = by_test (eq k q) refl
   where

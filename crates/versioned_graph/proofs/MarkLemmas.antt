@@ -29,7 +29,8 @@ module _ {K V : Type 0} (eq : K → K → Bool) (m : Meaning K V) (law : IsLawfu
   input_value : (w : ℕ) (d : K) → m.kind d ≡ Injected → HasValue eq m C w d (input eq m C w d)
   input_value w d p = record { depth = 1; gives = rw p refl }
 
-  -- at a version that is known for a dependency it has the value that it had where it was asked
+  -- at a version that is known for a dependency it has the value that it had at the version at
+  -- which it was asked
   pub known_true : (v w : ℕ) → v ≤ length C → w ≤ length C → (d : K) (a : V) → HasValue eq m C v d a → known m veq at es v w d ≡ true → HasValue eq m C w d a
   known_true v w hv hw d a i e = by_kinds (m.kind d) refl e
     where

@@ -15,7 +15,7 @@ use Rattle.versioned_graph.specs.Entries.{Kept, joined, written, goes_in, cut_at
 use Rattle.versioned_graph.specs.Sound.{IsOpenAt, IsTrue, IsTailed, IsRecorded}
 
 module _ {K V : Type 0} (eq : K → K → Bool) (m : Meaning K V) (C : List (List (K × V))) (v : ℕ) where
-  -- where two ranges are joined, one of them is open
+  -- if two ranges are joined, one of them is open
   either_open : (e n : Kept K V) (Edge : K → K → Type 0) (k : K) (r : ℕ → Bool) → IsTailed eq m C v Edge k e → IsTailed eq m C v Edge k n → ((w : ℕ) → r w ≡ (e.ranges w || n.ranges w))
       → (w : ℕ) → r w ≡ true → v < w → IsOpenAt v e.ranges ⊎ IsOpenAt v n.ranges
   either_open e n Edge k r p q s w h l = elim (or_cases (e.ranges w) (n.ranges w) (sym (s w) ∙ h)) as (λ _. IsOpenAt v e.ranges ⊎ IsOpenAt v n.ranges) [ inl i ↦ inl (p.tail w i l) | inr i ↦ inr (q.tail w i l) ]
@@ -96,7 +96,8 @@ module _ {K V : Type 0} (eq : K → K → Bool) (m : Meaning K V) (C : List (Lis
     reaches_on a b d here q = through q here
     reaches_on a b d (through p r) q = through p (reaches_on _ b d r q)
 
-    -- where the reached keys of an open entry are recorded, one that the commit reaches leads to the key itself
+    -- if the reached keys of an open entry are recorded, one that the commit reaches leads to the
+    -- key itself
     chain_back : (a d : K) → Reaches eq m C N a d → ((b : K) → Reaches eq m C N a b → m.kind b ≢ Injected → IsRecorded eq m C N Edge b) → R d ≡ true → R a ≡ true
     chain_back a d here f h = h
     chain_back a d (through {i = i} p r) f h = closed i a ((f a here p.computed).edges i p) (chain_back i d r (λ b s t. f b (through p s) t) h)

@@ -13,7 +13,7 @@ use Rattle.versioned_graph.proofs.CutLemmas.{cut_from}
 use Rattle.versioned_graph.proofs.Tails.{trace_stable}
 
 module _ {K V : Type 0} (eq : K → K → Bool) (same_keys : AreSame eq) (m : Meaning K V) (C : List (List (K × V))) where
-  -- what stands after a finish that made n: the trace is n's where the finish writes it
+  -- what stands after a finish that made n: the trace is n's if the finish writes it
   written_traced : (veq : V → V → Bool) → AreSame veq → (k : K) (u : ℕ) (o : Option (Kept K V)) (n : Kept K V) → ((e : Kept K V) → o ≡ Some e → IsTracedAt eq m C u k e) → IsTrace eq m C n.version k n.trace n.value
       → IsTracedAt eq m C (cond (writes_trace o n.version) n.version u) k (written m veq o n)
   written_traced veq same k u None n p t = (omega arith, t)

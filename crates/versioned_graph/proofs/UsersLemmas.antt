@@ -41,7 +41,7 @@ module _ {K A B S : Type 0} (eq : K → K → Bool) where
       by_test true p = refl
       by_test false p = refl
 
-  -- what stands in the lists still does, where it does in the one that is written
+  -- what stands in the lists still does, if it does in the one that is written
   pub set-more : (same : AreSame eq) (k : K) (a : Arc K A) (es fs : List (Arc K A × HashSet (Arc K B) S)) (p o : Option (HashSet (Arc K B) S)) → lookup (λ y. eq k (arc_value y)) es ≡ p
       → ((q : Arc K A) → lookup (λ y. eq (arc_value q) (arc_value y)) fs ≡ cond (eq k (arc_value q)) o (lookup (λ y. eq (arc_value q) (arc_value y)) es))
       → ((q : K) → Has (or_none (option_map keys_in p)) q → Has (or_none (option_map keys_in o)) q)
@@ -79,7 +79,7 @@ module _ {K B : Type 0} (eq : K → K → Bool) (law : IsEquality eq) where
   now_in old new k marks = any_has eq law (map arc_value new) k (any_map eq k new ∙ (marks k ∙ ap (λ b. cond b true (list_any (λ y. eq k (arc_value y)) old)) (law.itself k)))
 
 module _ {K : Type 0} (eq : K → K → Bool) (same : AreSame eq) where
-  -- what stands in the lists still does, where one that had none is written
+  -- what stands in the lists still does, if one that had none is written
   pub all_stay : (k : K) (us vs : List (K × List K)) → users_of eq us k ≡ [] → ((j q : K) → eq k j ≡ false → Has (users_of eq us j) q → Has (users_of eq vs j) q) → (j q : K) → Has (users_of eq us j) q → Has (users_of eq vs j) q
   all_stay k us vs none others j q h = by_test (eq k j) refl
     where

@@ -44,7 +44,8 @@ abbrev pub writes_trace : {K V : Type 0} → Option (Kept K V) → ℕ → Bool
 writes_trace None v = true
 writes_trace (Some e) v = nat_le e.version v
 
--- of each key the version of the finish that wrote its trace, after one of k at v: where this writes the trace, v
+-- of each key the version of the finish that wrote its trace, after one of k at v: if this writes
+-- the trace, v
 abbrev pub writers_with : {K : Type 0} → (K → K → Bool) → K → Bool → ℕ → (K → ℕ) → K → ℕ
 writers_with eq k writes v w q = cond (eq k q && writes) v (w q)
 
@@ -66,20 +67,21 @@ abbrev pub all_of : {K V : Type 0} → (K → Bool) → List (Answered K V) → 
 all_of f [] = true
 all_of f (b ∷ bs) = list_all f b.keys && all_of f bs
 
--- whether version w is known by the entry of a dependency that was asked at v: the versions round v up to which the entry's ranges
--- go on. Where they have v, the answer at v was the entry's value, since both are the dependency's value there.
+-- whether version w is known by the entry of a dependency that was asked at v: the versions round v
+-- up to which the entry's ranges go on. If they have v, the answer at v was the entry's value,
+-- since both are the dependency's value there.
 abbrev pub known_by : {K V : Type 0} → Option (Kept K V) → ℕ → ℕ → Bool
 known_by None v w = false
 known_by (Some e) v w = all_between e.ranges v w
 
 module _ {K V : Type 0} (m : Meaning K V) (veq : V → V → Bool) where
-  -- whether version w is known for a dependency that was asked at v: of an injected one the versions round v up to which its input
-  -- stays as it is there
+  -- whether version w is known for a dependency that was asked at v: of an injected one the
+  -- versions round v up to which its input stays as it is there
   abbrev pub known : (ℕ → K → V) → (K → Option (Kept K V)) → ℕ → ℕ → K → Bool
   known at es v w d = if_injected (m.kind d) (stays veq (λ u. at u d) v w) (known_by (es d) v w)
 
-  -- whether a finish at v with value x and trace A marks version w: v itself, and, where the value is not transient, the versions
-  -- that are known for every dependency
+  -- whether a finish at v with value x and trace A marks version w: v itself, and, if the value is
+  -- not transient, the versions that are known for every dependency
   abbrev pub marked : (ℕ → K → V) → (K → Option (Kept K V)) → ℕ → V → List (Answered K V) → ℕ → Bool
   marked at es v x A w = nat_eq w v || (not (m.is_transient x) && all_of (known at es v w) A)
 
@@ -87,7 +89,8 @@ module _ {K V : Type 0} (m : Meaning K V) (veq : V → V → Bool) where
   abbrev pub finished : (ℕ → K → V) → (K → Option (Kept K V)) → ℕ → V → List (Answered K V) → Kept K V
   finished at es v x A = record { value = x; trace = A; ranges = marked at es v x A; version = v }
 
-  -- an entry with the ranges of a new one of the same value, and with its trace and version where they are not older
+  -- an entry with the ranges of a new one of the same value, and with its trace and version if they
+  -- are not older
   abbrev pub joined : Kept K V → Kept K V → Kept K V
   joined e n = record {
     value = e.value;
@@ -96,8 +99,8 @@ module _ {K V : Type 0} (m : Meaning K V) (veq : V → V → Bool) where
     version = cond (nat_le e.version n.version) n.version e.version;
   }
 
-  -- what stands after a finish that makes the entry n; the first case that holds: there was none; the value is the same and not
-  -- transient; the new one is not older; else the old one stays
+  -- what stands after a finish that makes the entry n; the first case that holds: there was none;
+  -- the value is the same and not transient; the new one is not older; otherwise the old one stays
   abbrev pub written : Option (Kept K V) → Kept K V → Kept K V
   written None n = n
   written (Some e) n = cond (veq e.value n.value && not (m.is_transient e.value)) (joined e n) (cond (nat_le e.version n.version) n e)

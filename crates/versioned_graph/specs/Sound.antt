@@ -13,9 +13,9 @@ abbrev pub IsOpenAt : ℕ → (ℕ → Bool) → Type 0
 IsOpenAt v r = (w : ℕ) → v ≤ w → r w ≡ true
 
 module _ {K V : Type 0} (eq : K → K → Bool) (m : Meaning K V) where
-  -- of an entry of k: its value is that of k at each version of its ranges up to the newest; its trace is that of k at some
-  -- version, `finished`, which is at most its own, and k has the same value at both; its own version is in its ranges, and is the
-  -- only one of a transient value
+  -- of an entry of k: its value is that of k at each version of its ranges up to the newest; its
+  -- trace is that of k at some version, `finished`, which is at most its own, and k has the same
+  -- value at both; its own version is in its ranges, and is the only one of a transient value
   pub record IsTrue (C : List (List (K × V))) (k : K) (e : Kept K V) : Type 0 where
     pub finished : ℕ
     pub before : finished ≤ e.version
@@ -31,8 +31,8 @@ module _ {K V : Type 0} (eq : K → K → Bool) (m : Meaning K V) where
     pub lasts : (x : V) → HasValue eq m C v d x → m.is_transient x ≡ false
     pub edges : (j : K) → AsksFor eq m C v d j → Edge j d
 
-  -- of an entry of k, where v is the newest version: its ranges have a version above the newest only where they have the newest and
-  -- all above it; and then all that k reaches at the newest is recorded
+  -- of an entry of k, if v is the newest version: its ranges have a version above the newest only
+  -- if they have the newest and all above it; and then all that k reaches at the newest is recorded
   pub record IsTailed (C : List (List (K × V))) (v : ℕ) (Edge : K → K → Type 0) (k : K) (e : Kept K V) : Type 0 where
     pub tail : (w : ℕ) → e.ranges w ≡ true → v < w → IsOpenAt v e.ranges
     pub recorded : IsOpenAt v e.ranges → (d : K) → Reaches eq m C v k d → m.kind d ≢ Injected → IsRecorded C v Edge d
@@ -49,7 +49,8 @@ module _ {K V : Type 0} (eq : K → K → Bool) (m : Meaning K V) where
   abbrev pub IsTracedAt : List (List (K × V)) → ℕ → K → Kept K V → Type 0
   IsTracedAt C v k e = (v ≤ e.version) × IsTrace eq m C v k e.trace e.value
 
-  -- so is that of each entry, at the version that w tells of its key: that of the finish that wrote the trace
+  -- so is that of each entry, at the version that w tells of its key: that of the finish that wrote
+  -- the trace
   abbrev pub AreTracedAt : List (List (K × V)) → (K → ℕ) → List (K × Stored K V) → Type 0
   AreTracedAt C w es = (k : K) (e : Kept K V) → entry_at eq es k ≡ Some e → IsTracedAt C (w k) k e
 

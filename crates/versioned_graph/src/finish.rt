@@ -15,8 +15,8 @@ use std::collections::HashSet;
 use std::sync::Arc;
 use version_ranges::Ranges;
 
-/// Where these ranges have no end, the keys of a trace, of each of which the key is a user then;
-/// else none.
+/// If these ranges have no end, the keys of a trace, and the key becomes a user of each; otherwise
+/// none.
 pub(crate) fn link_open<U: Universe>(
     alloc: Global,
     ranges: &Ranges,
@@ -41,7 +41,7 @@ pub(crate) fn link_open<U: Universe>(
     }
 }
 
-/// The keys of a trace, of each of which the key is a user then.
+/// The keys of a trace; the key becomes a user of each.
 fn link<U: Universe>(
     alloc: Global,
     users: &mut Users<U>,

@@ -113,7 +113,7 @@ impl<U: Universe> Graph<U> {
     }
 
     /// Keeps the value of a key at a version, by the trace through which it came there, with the
-    /// other versions at which the value is then known; where these have no end and go into the
+    /// other versions at which the value is then known; if these have no end and go into the
     /// entry, an edge to the key is recorded from each key of the trace. At an error all is as
     /// before.
     ///
@@ -145,7 +145,7 @@ impl<U: Universe> Graph<U> {
             (arc_value value) → AreTrue U.Key.eq U.meaning C self.old
             → AreTrue U.Key.eq U.meaning C self.new) }
 
-        // Where the entry was not newer, its trace is the one that was given, and of this version;
+        // If the entry was not newer, its trace is the one that was given, and of this version;
         // each other one is as before. (`w` tells of each key the version of the finish that wrote
         // its trace.)
         ensures traced { OnOk result ((C : List (List (U.Key × U.Value))) (w : U.Key → ℕ)
@@ -171,11 +171,11 @@ impl<U: Universe> Graph<U> {
         Ok(())
     }
 
-    /// A commit changes the inputs of these keys, from the version on: the tails of all that it
+    /// A commit changes the inputs of these keys, from the version on. The tails of all that it
     /// reaches by recorded edges are cut there, and all edges to what it reaches are taken away. At
     /// an error all is as before.
     ///
-    /// The entries stay true where these are all the keys that the commit sets, and its version is
+    /// The entries stay true if these are all the keys that the commit sets, and its version is
     /// the one after the newest. It costs a look-up for each key that has used one that is reached
     /// since that was last reached.
     pub fn commit(&mut self, changed: &[Arc<U::Key>], version: u64) -> Result<(), NoMemory>

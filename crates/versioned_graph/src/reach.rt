@@ -35,8 +35,8 @@ pub(crate) fn reached<U: Universe>(
     Ok(reached)
 }
 
-/// Adds all keys to which chains of recorded edges lead from those that are to do, and those
-/// themselves.
+/// Adds all keys to which chains of recorded edges lead from those that are still to be followed,
+/// and those themselves.
 fn walk<U: Universe>(
     store: &Store<U>,
     users: &Users<U>,

@@ -1,4 +1,4 @@
--- The first key that is not injected, or stands earlier, is the first fault; and where there is none the keys can be set.
+-- The first key that is not injected, or stands earlier, is the first fault; and if there is none the keys can be set.
 use Rattle.std.proofs.Common.{◌≡◌, sym, ap, subst, ◌∙◌}
 use Rattle.std.specs.Arc.{arc_value}
 use Rattle.std.specs.Map.{keys_of}

@@ -3,7 +3,7 @@ use Rattle.journal.specs.Tell.{reason_of}
 use Rattle.journal.specs.Texts.{spaced, reason_words}
 use Rattle.journal.proofs.line.cause.Goals as goal
 
--- what stands behind a text, written in two steps or in one
+-- what stands after a text, written in two steps or in one
 two_steps : (a b t u : List ℕ) → u ≡ (a ++ b) ++ t → u ≡ a ++ (b ++ (t ++ []))
 two_steps a b t u h = h ∙ (append_assoc a b t ∙ ap (λ x. a ++ (b ++ x)) (sym (append-nil t)))
 

@@ -1,4 +1,4 @@
--- The last range is joined with the next one, or the next one is put behind it.
+-- The last range is joined with the next one, or the next one is put after it.
 use Rattle.std.proofs.Common.{◌≡◌, ◌≤◌, ◌-◌, ◌++◌, ◌∷◌, [], true, false, length, refl, sym, ◌∙◌, subst, arith, get_or}
 use Rattle.std.proofs.lemmas.Bool.{or_left}
 use Rattle.std.proofs.lemmas.List.{nil_from_length}

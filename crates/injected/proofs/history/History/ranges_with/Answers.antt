@@ -1,4 +1,4 @@
--- The numbers are those of the wanted value where the values are.
+-- The numbers are those of the wanted value if the values are.
 use Rattle.std.proofs.Common.{◌≡◌, ◌∙◌, ℕ, ap, sym, subst}
 use Rattle.std.specs.Arc.{arc_value}
 use Rattle.std.proofs.lemmas.Result.{IfOk-weaker}

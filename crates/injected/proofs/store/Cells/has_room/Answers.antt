@@ -1,4 +1,4 @@
--- Where there is a history its room tells.
+-- If there is a history its room tells.
 use Rattle.std.proofs.Common.{◌∙◌, ltb, ap, sym}
 use Rattle.std.specs.Option.{option_copied}
 use Rattle.injected.specs.Seen.{room_in}
