@@ -5,6 +5,7 @@ ghost use Rattle.lists.specs.Lists.{AreDistinct};
 use job_line::{JobLine, Pass, Putter};
 use std::alloc::{AllocError, Global};
 use std::sync::Wait;
+use std::sync::atomic::{AtomicBool, Ordering};
 use std::test::Fail;
 use std::thread;
 use std::thread::{Threads, join};
@@ -61,9 +62,6 @@ fn jobs_that_are_left_end_with_the_line(rt: HostRuntime) -> Result<(), Fail> {
 
 const JOBS: u64 = 10_000;
 
-// A taker that finds the line empty so often gives up: the putter had no memory.
-const PATIENCE: u64 = 1 << 24;
-
 // Puts the numbers below `JOBS`, and then two orders to stop. Answers whether all were put.
 fn put_all<R: Wait>(rt: &R, line: &JobLine<Order>, mut putter: Putter<Order>) -> bool
     requires { putter.line ≡ line.now }
@@ -77,11 +75,12 @@ fn put_all<R: Wait>(rt: &R, line: &JobLine<Order>, mut putter: Putter<Order>) ->
     true
 }
 
-// Takes jobs up to an order to stop, and answers them.
+// Takes jobs up to an order to stop, and answers them. If the line is empty after the putter has ended, the order could not be put.
 fn take_all<R: Wait>(
     rt: &R,
     alloc: Global,
     line: &JobLine<Order>,
+    ended: &AtomicBool,
     mut pass: Pass<Order>,
 ) -> (Pass<Order>, Result<Vec<u64>, AllocError>)
     requires { pass.line ≡ line.now }
@@ -89,6 +88,7 @@ fn take_all<R: Wait>(
 {
     let mut taken = Vec::new(alloc);
     for _ in rt.forever() {
+        let last = ended.load(Ordering::Acquire);
         match line.take(rt, &mut pass) {
             Some(Some(job)) => {
                 if taken.push(job).is_err() {
@@ -96,7 +96,7 @@ fn take_all<R: Wait>(
                 }
             }
             Some(None) => return (pass, Ok(taken)),
-            None if pass.empties() >= PATIENCE => return (pass, Err(AllocError)),
+            None if last => return (pass, Err(AllocError)),
             None => thread::yield_now(),
         }
     }
@@ -105,7 +105,7 @@ fn take_all<R: Wait>(
 
 type Takers = (Pass<Order>, Result<Vec<u64>, AllocError>);
 
-// One thread puts, and two take.
+// One thread puts, and two take. The one that puts stands last: if no thread can be made for the others, it goes first.
 fn take_in_two_threads<R: Wait + Threads + Sync>(
     rt: &R,
     alloc: Global,
@@ -116,16 +116,21 @@ fn take_in_two_threads<R: Wait + Threads + Sync>(
     let Ok(other) = line.split(&mut pass) else {
         return Err(AllocError);
     };
-    let shared = &line;
-    let (put, (one, two)) = join(
+    let over = AtomicBool::new(false);
+    let (shared, ended) = (&line, &over);
+    let ((one, two), put) = join(
         rt,
-        move || -> bool
-            requires { putter.line ≡ shared.now }
-        { put_all(rt, shared, putter) },
         move || -> (Takers, Takers)
             requires { (pass.line ≡ shared.now) × (other.line ≡ shared.now) }
             ensures { (result.0.0.line ≡ shared.entry.now) × (result.1.0.line ≡ shared.entry.now) }
-        { take_twice(rt, alloc, shared, pass, other) },
+        { take_twice(rt, alloc, shared, ended, pass, other) },
+        move || -> bool
+            requires { putter.line ≡ shared.now }
+        {
+            let put = put_all(rt, shared, putter);
+            ended.store(true, Ordering::Release);
+            put
+        },
     );
     let ((mut pass, first), (other, second)) = (one, two);
     let none = places_of_both(rt, &line, &mut pass, other);
@@ -136,6 +141,7 @@ fn take_twice<R: Wait + Threads + Sync>(
     rt: &R,
     alloc: Global,
     line: &JobLine<Order>,
+    ended: &AtomicBool,
     pass: Pass<Order>,
     other: Pass<Order>,
 ) -> (Takers, Takers)
@@ -147,11 +153,11 @@ fn take_twice<R: Wait + Threads + Sync>(
         move || -> Takers
             requires { pass.line ≡ line.now }
             ensures { result.0.line ≡ line.entry.now }
-        { take_all(rt, alloc, line, pass) },
+        { take_all(rt, alloc, line, ended, pass) },
         move || -> Takers
             requires { other.line ≡ line.now }
             ensures { result.0.line ≡ line.entry.now }
-        { take_all(rt, alloc, line, other) },
+        { take_all(rt, alloc, line, ended, other) },
     )
 }
 
