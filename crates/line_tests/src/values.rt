@@ -1,53 +1,39 @@
 //! Values on a shelf, on the example universe.
-ghost use Rattle.std.specs.Prelude.{IfOk, ◌≡◌};
-ghost use Rattle.dice_model.specs.Log.{IsCommit, pairs_of};
-ghost use Rattle.tiny_universe.specs.Tiny.{tiny};
+ghost use Rattle.std.specs.Prelude.{IfOk, ◌≡◌, [], ◌∷◌};
+ghost use Rattle.std.specs.Arc.{arc_value};
+ghost use Rattle.dice_model.specs.Log.{pairs_of};
+ghost use Rattle.tiny_universe.specs.declared.place.Place.TheVariants.{Cell};
+ghost use Rattle.tiny_universe.specs.declared.place.Value.TheVariants.{Number};
 
-use dice_key::{Kind, NoMemory, Universe};
+use dice_key::NoMemory;
 use shelf::{LookRefusal, Reader, ShelfOp, Shelver};
 use std::alloc::Global;
 use std::sync::{Arc, Wait};
 use std::test::Fail;
 use tiny_universe::{Place, Tiny, Value};
 
-/// A commit that sets one cell.
-fn one_cell(
+/// The changes of a commit that sets one cell.
+fn one_change(
     alloc: Global,
-    cell: u32,
-    number: u64,
+    key: &Arc<Place>,
+    value: &Arc<Value>,
 ) -> Result<Vec<(Arc<Place>, Arc<Value>)>, NoMemory>
-    ensures { IfOk result (λ c. IsCommit tiny (pairs_of c.items)) }
+    ensures { IfOk result (λ c. pairs_of c.items ≡ (arc_value key.now, arc_value value.now) ∷ []) }
 {
     let mut changes = Vec::new(alloc);
-    changes.push((
-        Arc::new(alloc, Place::Cell(cell))?,
-        Arc::new(alloc, Value::Number(number))?,
-    ))?;
+    changes.push((Arc::try_clone(key)?, Arc::try_clone(value)?))?;
     Ok(changes)
 }
 
-/// Appends the row that an injected key has before all commits. Answers whether the key is one.
-fn append_first_row<U: Universe>(
-    universe: &U,
-    shelver: &mut Shelver<U>,
-    key: Arc<U::Key>,
-) -> Result<bool, NoMemory> {
-    match universe.kind(&key) {
-        Kind::Injected => {
-            let value = Arc::try_clone(universe.absent(&key))?;
-            shelver.append(ShelfOp::Row(0, key, value))?;
-            Ok(true)
-        }
-        _ => Ok(false),
-    }
-}
-
-/// Appends a commit and a row.
-fn fill(alloc: Global, universe: &Tiny, shelver: &mut Shelver<Tiny>) -> Result<bool, NoMemory> {
-    let changes = one_cell(alloc, 2, 40)?;
-    let commit = Arc::new(alloc, changes)?;
-    shelver.append(ShelfOp::Commit(commit))?;
-    append_first_row(universe, shelver, Arc::new(alloc, Place::Cell(2))?)
+/// Appends a commit of one cell, and the row of that cell at the version that the commit makes.
+fn fill(alloc: Global, shelver: &mut Shelver<Tiny>) -> Result<(), NoMemory>
+    requires { shelver.old.list ≡ [] }
+{
+    let key = Arc::new(alloc, Place::Cell(2))?;
+    let value = Arc::new(alloc, Value::Number(40))?;
+    let changes = one_change(alloc, &key, &value)?;
+    shelver.append(ShelfOp::Commit(Arc::new(alloc, changes)?))?;
+    shelver.append(ShelfOp::Row(1, key, value))
 }
 
 type Looked = Result<Option<Arc<Value>>, LookRefusal>;
@@ -63,33 +49,30 @@ fn number(looked: &Looked) -> Option<u64> {
     }
 }
 
-/// What looks find before a publish, after it, and after the reader learnt of it.
+/// What looks find before a publish, and after it, once the reader learnt of it: at the row's version and at the next one.
 fn looks<R: Wait>(
     rt: &R,
     alloc: Global,
     shelver: &mut Shelver<Tiny>,
     reader: &mut Reader<Tiny>,
-) -> Result<[Looked; 4], NoMemory> {
-    let universe = Tiny::new(alloc)?;
-    let full = fill(alloc, &universe, shelver)?;
-    let before = reader.look(0, &Place::Cell(2));
+) -> Result<[Looked; 4], NoMemory>
+    requires { shelver.old.list ≡ [] }
+{
+    fill(alloc, shelver)?;
+    let before = reader.look(1, &Place::Cell(2));
     shelver.publish(rt)?;
-    let after = reader.look(0, &Place::Cell(2));
-    reader.learn(shelver);
-    let told = reader.look(0, &Place::Cell(2));
-    let other = if full {
-        reader.look(1, &Place::Cell(2))
-    } else {
-        Err(LookRefusal::NoMemory)
-    };
-    Ok([before, after, told, other])
+    let after = reader.look(1, &Place::Cell(2));
+    reader.learn(shelver.told());
+    let told = reader.look(1, &Place::Cell(2));
+    let next = reader.look(2, &Place::Cell(2));
+    Ok([before, after, told, next])
 }
 
 /// Whether the looks find what they have to.
 fn are_as_wanted(found: &[Looked; 4]) -> bool {
     matches!(found[0], Ok(None))
-        && number(&found[1]) == Some(0)
-        && number(&found[2]) == Some(0)
+        && number(&found[1]) == Some(40)
+        && number(&found[2]) == Some(40)
         && matches!(found[3], Ok(None))
 }
 
@@ -104,7 +87,7 @@ fn a_reader_sees_what_is_published(rt: HostRuntime) -> Result<(), Fail> {
     let mut shut = false;
     let mut refused = 0;
     if let Some(reader) = readers.first_mut() {
-        shut = matches!(reader.look(0, &Place::Cell(2)), Err(LookRefusal::Shut));
+        shut = matches!(reader.look(1, &Place::Cell(2)), Err(LookRefusal::Shut));
         refused = reader.refused();
     }
     let as_wanted = match &found {

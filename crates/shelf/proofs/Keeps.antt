@@ -9,10 +9,9 @@ use Rattle.atomic_table.proofs.Lists.{at_set, at_snoc, set_again}
 use Rattle.dice_key.specs.Meaning.{Meaning}
 use Rattle.shelf.specs.declared.op.ShelfOp.{ShelfOp}
 use Rattle.shelf.specs.declared.op.Plain.{Plain}
-use Rattle.shelf.specs.declared.store.Store.{Store}
 use Rattle.shelf.specs.declared.rule.Seen.{Seen}
 use Rattle.shelf.specs.Ops.{plain, commits_in, MayFollow, SoundAfter, IsSound}
-use Rattle.shelf.specs.Rule.{ops_of, with_op, newcomer, informed, Shelved, Saw}
+use Rattle.shelf.specs.Rule.{with_op, newcomer, informed, Shelved, Saw}
 
 module _ {K V : Type 0} where
   further : (seen xs ys : List (Plain K V)) → IsPrefix seen xs → IsPrefix seen (xs ++ ys)
@@ -58,41 +57,41 @@ module _ {K V : Type 0} (eq : K → K → Bool) (m : Meaning K V) where
   still_sound (Ok a) xs ys old new op same h s may = subst (IsSound eq m) (sym (one_more xs ys old new op same h)) (sound_next (fold with_op xs old) (plain op) s may)
   still_sound (Err b) xs ys old new op same h s may = subst (IsSound eq m) (sym (λ i. fold with_op (same i) (h.1 i))) s
 
-  pub begins : (s : Store K V) → s.log.items ≡ [] → Shelved eq m s (newcomer ∷ [])
-  begins s empty = (subst (λ (l : List (ShelfOp K V)). IsSound eq m (map plain l)) (sym empty) tt, one)
+  pub begins : (s : List (Plain K V)) → s ≡ [] → Shelved eq m s (newcomer ∷ [])
+  begins s empty = (subst (IsSound eq m) (sym empty) tt, one)
     where
-      one : (id : ℕ) (v : Seen K V) → get_elem? (newcomer ∷ []) id ≡ some v → IsPrefix v.seen (ops_of s)
+      one : (id : ℕ) (v : Seen K V) → get_elem? (newcomer ∷ []) id ≡ some v → IsPrefix v.seen s
       one id v e =
-          ⊎_elim (λ (t : get_elem? [] id ≡ some v). absurd (some-ne-none v (sym t))) (λ (t : newcomer ≡ v). subst (λ (y : Seen K V). IsPrefix y.seen (ops_of s)) t (ops_of s, refl)) (at_snoc [] newcomer v id e)
+          ⊎_elim (λ (t : get_elem? [] id ≡ some v). absurd (some-ne-none v (sym t))) (λ (t : newcomer ≡ v). subst (λ (y : Seen K V). IsPrefix y.seen s) t (s, refl)) (at_snoc [] newcomer v id e)
 
-  pub admits : Admits {T = Store K V} (Shelved eq m) newcomer
-  admits s views h = (h.0, λ j u e. ⊎_elim (h.1 j u) (λ (t : newcomer ≡ u). subst (λ (y : Seen K V). IsPrefix y.seen (ops_of s)) t (ops_of s, refl)) (at_snoc views newcomer u j e))
+  pub admits : Admits {T = List (Plain K V)} (Shelved eq m) newcomer
+  admits s views h = (h.0, λ j u e. ⊎_elim (h.1 j u) (λ (t : newcomer ≡ u). subst (λ (y : Seen K V). IsPrefix y.seen s) t (s, refl)) (at_snoc views newcomer u j e))
 
   -- a step that only adds, and keeps the list sound
-  rises : (id : ℕ) (v : Seen K V) (s t : Store K V) (rest : List (Plain K V)) → ops_of t ≡ ops_of s ++ rest → (IsSound eq m (ops_of s) → IsSound eq m (ops_of t)) → TurnsAt (Shelved eq m) id v s t (Saw eq m)
+  rises : (id : ℕ) (v : Seen K V) (s t : List (Plain K V)) (rest : List (Plain K V)) → t ≡ s ++ rest → (IsSound eq m s → IsSound eq m t) → TurnsAt (Shelved eq m) id v s t (Saw eq m)
   rises id v s t rest is sound views h at =
-      let w : Seen K V = record { seen = ops_of t } in
-      let up : (ys : List (Plain K V)) → IsPrefix ys (ops_of s) → IsPrefix ys (ops_of t) = λ ys p. subst (IsPrefix ys) (sym is) (further ys (ops_of s) rest p) in (
+      let w : Seen K V = record { seen = t } in
+      let up : (ys : List (Plain K V)) → IsPrefix ys s → IsPrefix ys t = λ ys p. subst (IsPrefix ys) (sym is) (further ys s rest p) in (
         w,
-        (sound h.0, seats_set (λ u. IsPrefix u.seen (ops_of t)) views id w ([], append-nil (ops_of t)) (λ j u _ e. up u.seen (h.1 j u e))),
+        (sound h.0, seats_set (λ u. IsPrefix u.seen t) views id w ([], append-nil t) (λ j u _ e. up u.seen (h.1 j u e))),
         (refl, up v.seen (h.1 id v at), sound h.0),
       )
 
-  pub looks : (id : ℕ) (v : Seen K V) (s : Store K V) → TurnsAt (Shelved eq m) id v s s (Saw eq m)
-  looks id v s = rises id v s s [] (sym (append-nil (ops_of s))) (λ x. x)
+  pub looks : (id : ℕ) (v : Seen K V) (s : List (Plain K V)) → TurnsAt (Shelved eq m) id v s s (Saw eq m)
+  looks id v s = rises id v s s [] (sym (append-nil s)) (λ x. x)
 
-  pub publishes : (id : ℕ) (v : Seen K V) (s t : Store K V) (xs : List (ShelfOp K V)) → ops_of t ≡ fold with_op (ops_of s) xs → IsSound eq m (fold with_op (ops_of s) xs) → TurnsAt (Shelved eq m) id v s t (Saw eq m)
-  publishes id v s t xs is sound = rises id v s t (map plain xs) (is ∙ folded (ops_of s) xs) (λ _. subst (IsSound eq m) (sym is) sound)
+  pub publishes : (id : ℕ) (v : Seen K V) (s t : List (Plain K V)) (xs : List (ShelfOp K V)) → t ≡ fold with_op s xs → IsSound eq m (fold with_op s xs) → TurnsAt (Shelved eq m) id v s t (Saw eq m)
+  publishes id v s t xs is sound = rises id v s t (map plain xs) (is ∙ folded s xs) (λ _. subst (IsSound eq m) (sym is) sound)
 
-  pub forks : (id : ℕ) (v : Seen K V) → Forks {T = Store K V} (Shelved eq m) id v v v
+  pub forks : (id : ℕ) (v : Seen K V) → Forks {T = List (Plain K V)} (Shelved eq m) id v v v
   forks id v s views h at = (
     h.0,
     λ j u e. ⊎_elim (λ was. h.1 j u (subst (λ (l : List (Seen K V)). get_elem? l j ≡ some u) (set_again views id v at) was))
-        (λ (t : v ≡ u). subst (λ (y : Seen K V). IsPrefix y.seen (ops_of s)) t (h.1 id v at)) (at_snoc (set views id v) v u j e),
+        (λ (t : v ≡ u). subst (λ (y : Seen K V). IsPrefix y.seen s) t (h.1 id v at)) (at_snoc (set views id v) v u j e),
   )
 
-  pub merges : (id : ℕ) (v : Seen K V) (other : ℕ) (u : Seen K V) → Merges {T = Store K V} (Shelved eq m) id v other u (informed v u) newcomer
+  pub merges : (id : ℕ) (v : Seen K V) (other : ℕ) (u : Seen K V) → Merges {T = List (Plain K V)} (Shelved eq m) id v other u (informed v u) newcomer
   merges id v other u s views h at apart there =
-      let P : Seen K V → Type 0 = λ y. IsPrefix y.seen (ops_of s) in
+      let P : Seen K V → Type 0 = λ y. IsPrefix y.seen s in
       let was : get_elem? views other ≡ some u = ⊎_elim (λ (t : (other ≡ id) × (u ≡ u)). absurd (apart t.0)) (λ (t : (other ≢ id) × (get_elem? views other ≡ some u)). t.1) (at_set views id other u u there) in
-      (h.0, seats_set P (set views id u) other newcomer (ops_of s, refl) (λ j y _ e. seats_set P views id u (h.1 other u was) (λ i z _ e'. h.1 i z e') j y e))
+      (h.0, seats_set P (set views id u) other newcomer (s, refl) (λ j y _ e. seats_set P views id u (h.1 other u was) (λ i z _ e'. h.1 i z e') j y e))

@@ -1,3 +1,4 @@
 pub mod Ops
+pub mod Rows
 pub mod Rule
 pub mod Ends

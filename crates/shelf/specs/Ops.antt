@@ -1,5 +1,6 @@
 -- Operations as plain data, and when a list of them is sound.
-use Rattle.std.specs.Prelude.{ℕ, ◌≤◌, List, [], ◌∷◌, ◌++◌, Bool, false, ◌&&◌, ◌==◌, length, if◌then◌else◌, Option, Some, None}
+use Rattle.std.specs.Prelude.{ℕ, ◌≤◌, List, [], ◌∷◌, ◌++◌, Bool, false, ◌&&◌, nat_eq, length, if◌then◌else◌, Option, Some, None}
+use mathlib.Core.List.{IsPrefix}
 use Rattle.std.specs.Arc.{arc_value}
 use Rattle.dice_key.specs.Meaning.{Meaning}
 use Rattle.dice_model.specs.Log.{IsCommit, pairs_of}
@@ -23,7 +24,7 @@ module _ {K V : Type 0} where
   -- whether it is the row of that version and key
   abbrev pub is_row : (K → Bool) → ℕ → Plain K V → Bool
   is_row test v (bare.Commit changes) = false
-  is_row test v (bare.Row version key value) = version == v && test key
+  is_row test v (bare.Row version key value) = nat_eq v version && test key
 
   -- the value of a row
   abbrev pub value_of : Plain K V → Option V
@@ -48,3 +49,7 @@ module _ {K V : Type 0} (eq : K → K → Bool) (m : Meaning K V) where
 
   abbrev pub IsSound : List (Plain K V) → Type 0
   IsSound xs = SoundAfter [] xs
+
+  -- a beginning of a sound list is sound
+  abbrev pub BeginningsAreSound : Type 0
+  BeginningsAreSound = (xs ys : List (Plain K V)) → IsPrefix xs ys → IsSound ys → IsSound xs

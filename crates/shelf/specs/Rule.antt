@@ -1,20 +1,15 @@
 -- The rule of the shelf, which holds between any two steps: the published list is sound, and what an end has seen or was told last is a beginning of it.
-use Rattle.std.specs.Prelude.{◌≡◌, Bool, ℕ, List, [], ◌∷◌, ◌++◌, map}
+use Rattle.std.specs.Prelude.{◌≡◌, Bool, ℕ, List, [], ◌∷◌, ◌++◌}
 use mathlib.Core.List.{IsPrefix}
 use mathlib.Core.Option as core
 use lib.ListN.{get_elem?}
 use Rattle.dice_key.specs.Meaning.{Meaning}
 use Rattle.shelf.specs.declared.op.ShelfOp.{ShelfOp}
 use Rattle.shelf.specs.declared.op.Plain.{Plain}
-use Rattle.shelf.specs.declared.store.Store.{Store}
 use Rattle.shelf.specs.declared.rule.Seen.{Seen}
 use Rattle.shelf.specs.Ops.{plain, IsSound}
 
 module _ {K V : Type 0} where
-  -- the operations of a copy
-  abbrev pub ops_of : Store K V → List (Plain K V)
-  ops_of s = map plain s.log.items
-
   -- a list with one more operation
   abbrev pub with_op : List (Plain K V) → ShelfOp K V → List (Plain K V)
   with_op xs x = xs ++ plain x ∷ []
@@ -27,9 +22,9 @@ module _ {K V : Type 0} where
   informed v w = w
 
 module _ {K V : Type 0} (eq : K → K → Bool) (m : Meaning K V) where
-  abbrev pub Shelved : Store K V → List (Seen K V) → Type 0
-  Shelved s views = IsSound eq m (ops_of s) × ((id : ℕ) (v : Seen K V) → get_elem? views id ≡ core.some v → IsPrefix v.seen (ops_of s))
+  abbrev pub Shelved : List (Plain K V) → List (Seen K V) → Type 0
+  Shelved s views = IsSound eq m s × ((id : ℕ) (v : Seen K V) → get_elem? views id ≡ core.some v → IsPrefix v.seen s)
 
   -- An end sees what is then published: it begins with what this end saw before, and is sound.
-  abbrev pub Saw : Seen K V → Store K V → Store K V → Seen K V → Type 0
-  Saw v s t w = (w.seen ≡ ops_of t) × IsPrefix v.seen w.seen × IsSound eq m w.seen
+  abbrev pub Saw : Seen K V → List (Plain K V) → List (Plain K V) → Seen K V → Type 0
+  Saw v s t w = (w.seen ≡ t) × IsPrefix v.seen w.seen × IsSound eq m w.seen

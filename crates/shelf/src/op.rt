@@ -1,8 +1,6 @@
 //! What is put on the shelf.
 ghost use Rattle.std.specs.Prelude.{◌≡◌, IfOk};
-ghost use Rattle.std.specs.Arc.{arc_value};
-ghost use Rattle.std.specs.Option.{option_map};
-ghost use Rattle.shelf.specs.Ops.{plain, is_row, value_of};
+ghost use Rattle.shelf.specs.Ops.{plain};
 
 use dice_key::NoMemory;
 use std::alloc::AllocError;
@@ -42,28 +40,6 @@ impl<K: Drop, V: Drop> ShelfOp<K, V> {
                 Arc::try_clone(key)?,
                 Arc::try_clone(value)?,
             )),
-        }
-    }
-
-    // The value, if it is a row.
-    pub(crate) fn value(&self) -> Option<&Arc<V>>
-        ensures { option_map (λ x. arc_value x.now) result ≡ value_of (plain self.now) }
-    {
-        match self {
-            ShelfOp::Commit(_) => None,
-            ShelfOp::Row(_, _, value) => Some(value),
-        }
-    }
-}
-
-impl<K: Eq + Drop, V: Drop> ShelfOp<K, V> {
-    // Whether it is the row of that version and key.
-    pub(crate) fn is_row(&self, version: u64, key: &K) -> bool
-        ensures { result ≡ is_row (K.eq key.now) version (plain self.now) }
-    {
-        match self {
-            ShelfOp::Commit(_) => false,
-            ShelfOp::Row(at, of, _) => *at == version && *key == **of,
         }
     }
 }

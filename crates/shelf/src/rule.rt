@@ -59,3 +59,9 @@ pub(crate) type RawReader<U> = reader::Reader<
     Seen<<U as Universe>::Key, <U as Universe>::Value>,
     OnShelf<U>,
 >;
+
+pub(crate) type RawReading<U> = reader::Reading<
+    Store<<U as Universe>::Key, <U as Universe>::Value>,
+    Seen<<U as Universe>::Key, <U as Universe>::Value>,
+    OnShelf<U>,
+>;

@@ -1,15 +1,17 @@
 //! What the writing end does.
-ghost use Rattle.std.specs.Prelude.{◌≡◌, ℕ, ◌^◌, ◌<◌, [], ◌∷◌, ◌++◌, map, drop, fold, length, ◌≤◌, vec_capacity, All, IfOk, IfErr, OnErr};
+ghost use Rattle.std.specs.Prelude.{◌≡◌, ℕ, ◌^◌, ◌<◌, [], ◌∷◌, ◌++◌, map, drop, fold, length, ◌≤◌, vec_capacity, All, IfOk, IfErr, IfSome, OnErr};
 ghost use Rattle.left_right.specs.Sides.{view};
 ghost use Rattle.shelf.specs.Ops.{plain, commits_in, MayFollow, IsSound};
-ghost use Rattle.shelf.specs.Rule.{ops_of, with_op};
+ghost use Rattle.shelf.specs.Rule.{with_op};
 ghost use Rattle.shelf.specs.Ends.{no_pen, IsNewReader};
 
+use crate::door::Door;
 use crate::op::{Plain, ShelfOp};
 use crate::pen::{Keeping, Pen};
 use crate::reader::Reader;
 use crate::rule::{OnShelf, See, Seen};
 use crate::store::Store;
+use crate::told::{Told, told_place};
 use dice_key::{NoMemory, Universe};
 use left_right::writer;
 use std::alloc::{AllocError, Global};
@@ -45,13 +47,16 @@ pub(crate) type RawWriter<U> = writer::Writer<
     OnShelf<U>,
 >;
 
+// So many places a shelf has at most.
+const MOST_PLACES: usize = (1 << 32) - 1;
+
 // Shows readers all that was appended.
 fn publish_raw<U: Universe, R: Wait>(
     rt: &R,
     writer: RawWriter<U>,
 ) -> (RawWriter<U>, Result<(), AllocError>)
-    requires sound { IsSound U.Key.eq U.meaning (fold with_op (ops_of writer.desk.shown.value) (drop writer.behind writer.log.items)) }
-    ensures published { IfOk result.1 (λ _. (ops_of result.0.desk.shown.value ≡ fold with_op (ops_of writer.desk.shown.value) (drop writer.behind writer.log.items)) × (drop result.0.behind result.0.log.items ≡ []) × ((view result.0.desk.place).seen ≡ ops_of result.0.desk.shown.value)) }
+    requires sound { IsSound U.Key.eq U.meaning (fold with_op writer.desk.shown.value (drop writer.behind writer.log.items)) }
+    ensures published { IfOk result.1 (λ _. (result.0.desk.shown.value ≡ fold with_op writer.desk.shown.value (drop writer.behind writer.log.items)) × (drop result.0.behind result.0.log.items ≡ []) × ((view result.0.desk.place).seen ≡ result.0.desk.shown.value)) }
     ensures refused { IfErr result.1 (λ _. (result.0.desk.shown.value ≡ writer.desk.shown.value) × (drop result.0.behind result.0.log.items ≡ drop writer.behind writer.log.items) × (view result.0.desk.place ≡ view writer.desk.place)) }
 {
     writer.publish_as::<See<U>, R>(rt)
@@ -62,11 +67,11 @@ fn append_raw<U: Universe>(
     writer: &mut RawWriter<U>,
     op: ShelfOp<U::Key, U::Value>,
 ) -> Result<(), ShelfOp<U::Key, U::Value>>
-    requires sound { IsSound U.Key.eq U.meaning (fold with_op (ops_of writer.old.desk.shown.value) (drop writer.old.behind writer.old.log.items)) }
-    requires may { MayFollow U.Key.eq U.meaning (commits_in (fold with_op (ops_of writer.old.desk.shown.value) (drop writer.old.behind writer.old.log.items))) (plain op) }
+    requires sound { IsSound U.Key.eq U.meaning (fold with_op writer.old.desk.shown.value (drop writer.old.behind writer.old.log.items)) }
+    requires may { MayFollow U.Key.eq U.meaning (commits_in (fold with_op writer.old.desk.shown.value (drop writer.old.behind writer.old.log.items))) (plain op) }
     ensures desk { writer.new.desk ≡ writer.old.desk }
-    ensures sound { IsSound U.Key.eq U.meaning (fold with_op (ops_of writer.new.desk.shown.value) (drop writer.new.behind writer.new.log.items)) }
-    ensures ok { IfOk result (λ _. fold with_op (ops_of writer.new.desk.shown.value) (drop writer.new.behind writer.new.log.items) ≡ fold with_op (ops_of writer.old.desk.shown.value) (drop writer.old.behind writer.old.log.items) ++ plain op ∷ []) }
+    ensures sound { IsSound U.Key.eq U.meaning (fold with_op writer.new.desk.shown.value (drop writer.new.behind writer.new.log.items)) }
+    ensures ok { IfOk result (λ _. fold with_op writer.new.desk.shown.value (drop writer.new.behind writer.new.log.items) ≡ fold with_op writer.old.desk.shown.value (drop writer.old.behind writer.old.log.items) ++ plain op ∷ []) }
     ensures err { IfErr result (λ _. drop writer.new.behind writer.new.log.items ≡ drop writer.old.behind writer.old.log.items) }
 {
     writer.append(op)
@@ -76,9 +81,9 @@ fn append_raw<U: Universe>(
 fn reader_of<U: Universe>(writer: &RawWriter<U>) -> Reader<U>
     ensures { IsNewReader result }
 {
+    let raw = writer.factory().reader().ok();
     Reader {
-        raw: writer.factory().reader().ok(),
-        refused: 0,
+        door: Door::new(Told { raw }),
     }
 }
 
@@ -98,7 +103,7 @@ fn fill<U: Universe>(
 }
 
 impl<U: Universe> Shelver<U> {
-    /// An empty shelf, and so many readers of it. A reader for which there was no place is refused each look.
+    /// An empty shelf, and so many readers of it, with as many places again for what readers are told. A reader for which there was no place is refused each look.
     #[tactic(auto, using(crate::proofs::Keeps::begins))]
     pub fn new(alloc: Global, readers: u32) -> Result<(Shelver<U>, Vec<Reader<U>>), NoMemory>
         requires { 0 < readers }
@@ -106,13 +111,9 @@ impl<U: Universe> Shelver<U> {
         ensures readers { IfOk result (λ t. (length t.1.items ≡ readers) × All IsNewReader t.1.items) }
     {
         let ends = Vec::with_capacity(alloc, readers as usize)?;
-        let first = Store {
-            log: Vec::new(alloc),
-        };
-        let second = Store {
-            log: Vec::new(alloc),
-        };
-        let writer: RawWriter<U> = writer::Writer::new(alloc, first, second, readers as usize)?;
+        let (first, second) = (Store::new(alloc), Store::new(alloc));
+        let places = (2 * readers as usize).min(MOST_PLACES);
+        let writer: RawWriter<U> = writer::Writer::new(alloc, first, second, places)?;
         let ends = fill::<U>(&writer, ends, readers);
         Ok((Pen { raw: Some(writer) }, ends))
     }
@@ -144,6 +145,19 @@ impl<U: Universe> Shelver<U> {
         let none = mem::replace(&mut self.raw, Some(writer));
         let None = none else { unreachable!() };
         Ok(done?)
+    }
+
+    /// Tells what is published, once for a reader that learns it. It has a place until then; there are as many as readers, and if none is free it tells nothing. It waits for nobody and takes no memory.
+    pub fn told(&mut self) -> Told<U>
+        ensures told { IfSome result (λ xs. xs ≡ self.old.published) }
+        ensures same { self.new ≡ self.old }
+    {
+        let Some(writer) = &mut self.raw else {
+            unreachable!()
+        };
+        Told {
+            raw: told_place::<U>(writer),
+        }
     }
 
     /// Ends the shelf. It waits for readers that still look, and later looks are refused.

@@ -1,30 +1,47 @@
 //! One of the two copies of the shelf.
-ghost use Rattle.std.specs.Prelude.{◌≡◌, map, IfOk};
+ghost use Rattle.std.specs.Prelude.{◌≡◌, [], IfOk};
 ghost use Rattle.std.specs.Arc.{arc_value};
 ghost use Rattle.std.specs.Option.{option_map};
-ghost use Rattle.shelf.specs.Ops.{plain, row_at};
+ghost use Rattle.shelf.specs.Ops.{row_at};
 
 use crate::op::{Plain, ShelfOp};
+use crate::row::{Rows, note, row_in};
+use indexmap::IndexMap;
 use left_right::Absorb;
 use std::alloc::{AllocError, Global};
 use std::collections::LinkedList;
+use std::hash::Hash;
+use std::marker::Model;
 use std::sync::Arc;
 
-/// All operations, in order.
+/// All operations in order, and beside them the rows in a hash map. Contracts see it as the list of its operations.
 #[derive(Drop)]
-pub struct Store<K: Drop, V: Drop> {
-    pub log: Vec<ShelfOp<K, V>>,
+pub struct Store<K: Eq + Hash + Drop, V: Drop> {
+    log: Vec<ShelfOp<K, V>>,
+    rows: Rows<K, V>,
 }
 
-impl<K: Drop, V: Drop> Absorb<ShelfOp<K, V>> for Store<K, V> {
-    ghost use Rattle.std.specs.Prelude.{map, ◌++◌, ◌∷◌, []};
+impl<K: Eq + Hash + Drop, V: Drop> Model for Store<K, V> {
+    ghost use Rattle.std.specs.Prelude.{List, map};
     ghost use Rattle.shelf.specs.Ops.{plain};
+    ghost use Rattle.shelf.specs.Rows.{Agrees};
+    ghost use Rattle.shelf.specs.declared.op.Plain.{Plain as Bare};
+
+    ghost Value = { List (Bare K V) };
+
+    ghost view = { λ s. map plain s.log.items };
+
+    ghost invariant = { λ s. Agrees K.eq s.rows.entries (map plain s.log.items) };
+}
+
+impl<K: Eq + Hash + Drop, V: Drop> Absorb<ShelfOp<K, V>> for Store<K, V> {
+    ghost use Rattle.shelf.specs.Rule.{with_op};
 
     type State = LinkedList<Plain<K, V>>;
 
-    ghost state = { λ s. map plain s.log.items };
+    ghost state = { λ s. s };
 
-    ghost applied = { λ ops op. ops ++ plain op ∷ [] };
+    ghost applied = { with_op };
 
     fn absorb_first(
         &mut self,
@@ -32,23 +49,28 @@ impl<K: Drop, V: Drop> Absorb<ShelfOp<K, V>> for Store<K, V> {
         _other: &Store<K, V>,
     ) -> Result<(), AllocError> {
         let op = operation.again()?;
-        match self.log.push(op) {
-            Ok(()) => Ok(()),
-            Err(_) => Err(AllocError),
-        }
+        self.log.reserve(1)?;
+        note(&mut self.rows, &op)?;
+        self.log.push_reserved(op);
+        Ok(())
     }
 }
 
-impl<K: Eq + Drop, V: Drop> Store<K, V> {
-    // The value of the first row of that version and key.
-    pub(crate) fn row(&self, version: u64, key: &K) -> Option<&Arc<V>>
-        ensures { option_map (λ x. arc_value x.now) result ≡ row_at (K.eq key.now) version (map plain self.now.log.items) }
+impl<K: Eq + Hash + Drop, V: Drop> Store<K, V> {
+    /// No operations.
+    pub(crate) fn new(alloc: Global) -> Store<K, V>
+        ensures { result ≡ [] }
     {
-        for op in &self.log {
-            if op.is_row(version, key) {
-                return op.value();
-            }
+        Store {
+            log: Vec::new(alloc),
+            rows: IndexMap::new(alloc),
         }
-        None
+    }
+
+    /// The value of the first row of that version and key, by one look-up in the hash map.
+    pub(crate) fn row(&self, version: u64, key: &K) -> Option<&Arc<V>>
+        ensures { option_map (λ x. arc_value x.now) result ≡ row_at (K.eq key.now) version self.now }
+    {
+        row_in(&self.rows, version, key)
     }
 }

@@ -1,5 +1,5 @@
 use Rattle.shelf.proofs.Keeps.{admits, forks, merges}
-use Rattle.shelf.proofs.reader.told_reader.Goals as goal
+use Rattle.shelf.proofs.told.told_place.Goals as goal
 
 pub reader-requires : goal.reader-requires
 reader-requires g c = admits _ _
