@@ -10,7 +10,7 @@ ghost use Rattle.task_share.specs.Asked.{By, Promised, Tasked, is_by, IsDone, Ta
 ghost use Rattle.task_share.specs.Askers.{by_of};
 ghost use Rattle.task_share.specs.Lent.{LendsTask};
 ghost use Rattle.task_share.specs.Seen.{task_at, is_live, asks, waits_at, asked_of, ask_count, live_count, IsMirrored, has_place, promise_room, asker_room, wait_room, KeepsTasks, KeepsAsks, KeepsRoom, KeepsOtherRoom, UsesRoomOf};
-ghost use Rattle.task_share.specs.Numbers.{key_at, number_of, keys_of};
+ghost use Rattle.task_share.specs.Numbers.{key_at, number_of, askers_by, keys_of};
 ghost use Rattle.lists.specs.Lists.{AreDistinct};
 
 use crate::asker::{Asker, Askers, Wait};
@@ -382,6 +382,16 @@ impl<K: Eq + Hash + Drop, T: Drop> Table<K, T> {
         ensures none { IfNone result (lookup (K.eq (arc_value key.now)) self.now ≡ None) }
     {
         self.places.get_index_of(key)
+    }
+
+    /// The numbers of the keys whose tasks ask for the key of a number, in no order.
+    pub fn askers_of(&self, number: usize) -> &[usize]
+        ensures { result.now ≡ askers_by K.eq self.now number }
+    {
+        match self.places.get_index(number) {
+            Some((_, place)) => place.askers.keys().as_slice(),
+            None => &[],
+        }
     }
 
     /// The key of a number.
