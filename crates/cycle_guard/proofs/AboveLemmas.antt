@@ -1,5 +1,5 @@
 -- Walks over the numbers of a table from tasks to those that ask for them, and the same by key.
-use Rattle.std.proofs.Common.{◌≡◌, ◌<◌, ◌⊎◌, inl, inr, ℕ, suc, zero, Bool, true, false, List, [], ◌∷◌, length, map, Option, Some, None, refl, sym, ap, ◌∙◌, subst, arith, slice_get}
+use Rattle.std.proofs.Common.{◌≡◌, ◌<◌, ◌⊎◌, inl, inr, ℕ, suc, zero, Bool, true, false, cond, List, [], ◌∷◌, length, map, Option, Some, None, refl, sym, ap, ◌∙◌, subst, arith, slice_get}
 use Rattle.std.specs.Map.{lookup, keys_of}
 use Rattle.std.specs.List.{list_any}
 use Rattle.std.proofs.lemmas.Option.{same_Some, none-some}
@@ -9,9 +9,10 @@ use Rattle.lists.specs.Lists.{AreDistinct, Has}
 use Rattle.lists.proofs.Members.{has_map, has_mapped}
 use Rattle.number_walk.specs.Reach.{Reaches, stays, waits_on, AreBelow, AreAllFrom}
 use Rattle.task_share.specs.Asked as asked
-use Rattle.task_share.specs.Asked.{Tasked, Leads, asks_on, AreAbove, AreCounted}
+use Rattle.task_share.specs.Asked.{Tasked, Leads, asks_on}
 use Rattle.task_share.specs.Seen.{Share, is_for, has_by, list_for, asks, waits_at, asked_of, IsMirrored}
-use Rattle.task_share.specs.Numbers.{key_at, number_of, askers_by, names_at, with_name}
+use Rattle.task_share.specs.Numbers.{key_at, number_of, names_at, with_name}
+use Rattle.task_share.specs.Above.{askers_by, AreAbove, AreCounted}
 use Rattle.cycle_guard.proofs.WayLemmas.{within, has_got, has_name, named_first, first_at}
 
 module _ {K T : Type 0} (eq : K → K → Bool) (law : IsEquality eq) (ps : List (K × Share K T)) (distinct : AreDistinct (keys_of ps)) (mirror : IsMirrored eq ps) where

@@ -5,7 +5,7 @@ use Rattle.std.specs.Map.{lookup, set_value, keys_of, values_of}
 use Rattle.std.specs.List.{list_any, sum_by, position, position_or_len, IsDistinct, AllByRecursion}
 use Rattle.std.proofs.lemmas.List.Sums.{position_or_len_is}
 use Rattle.dice_key.proofs.KeySets.{has_any}
-use Rattle.task_share.specs.Numbers.{key_at, number_of, waits_by, askers_by}
+use Rattle.task_share.specs.Numbers.{key_at, number_of, waits_by}
 use Rattle.task_share.proofs.TableLemmas.{distinct_values}
 use Rattle.std.specs.Option.{option_map}
 use Rattle.std.specs.declared.sync.Arc.{Arc}
@@ -390,12 +390,6 @@ module _ {K A T : Type 0} (eq : K → K → Bool) (law : IsEquality eq) (es : Li
 
   pub no_waits : (n : ℕ) → slice_get es n ≡ None → waits_by eq (shares_of es) n ≡ []
   no_waits n g = ap (list_for (λ (p : K × Share K T). map (number_of eq (shares_of es)) p.1.waits)) (slice_get-map entry_of es n ∙ ap (option_map entry_of) g)
-
-  pub askers_numbered : IsLinked eq es → (n : ℕ) (a : Arc K A) (h : Place K T) → slice_get es n ≡ Some (a, h) → askers_by eq (shares_of es) n ≡ keys_of h.askers.entries
-  askers_numbered l n a h g = ap (list_for (λ (p : K × Share K T). map (number_of eq (shares_of es)) p.1.askers)) (slice_get-map entry_of es n ∙ ap (option_map entry_of) g) ∙ numbers_named h.askers.entries (l.askers (a, h) (has_at es n (a, h) g))
-
-  pub no_askers : (n : ℕ) → slice_get es n ≡ None → askers_by eq (shares_of es) n ≡ []
-  no_askers n g = ap (list_for (λ (p : K × Share K T). map (number_of eq (shares_of es)) p.1.askers)) (slice_get-map entry_of es n ∙ ap (option_map entry_of) g)
 
   pub distinct_keys : AreDistinct (keys_of (shares_of es))
   distinct_keys = subst AreDistinct (sym (keys_shares es ∙ names_keys es)) (distinct_values eq law (keys_of es) distinct)

@@ -1,6 +1,6 @@
 -- Tasks and who asks for them, and what the cascade drops.
-use Rattle.std.specs.Prelude.{◌≡◌, ℕ, Bool, true, false, not, ◌&&◌, nat_eq, List, [], ◌∷◌, length}
-use Rattle.lists.specs.Lists.{AreDistinct, Has}
+use Rattle.std.specs.Prelude.{◌≡◌, ℕ, Bool, true, false, not, ◌&&◌, nat_eq, List, [], ◌∷◌}
+use Rattle.lists.specs.Lists.{Has}
 
 -- who asks for a task: a promise by its number, or another task by its key
 pub data By (K : Type 0) : Type 0 where
@@ -29,16 +29,6 @@ module _ {K : Type 0} (s : Asked K) where
   pub data Leads : K → K → Type 0 where
     stays : {k : K} → Leads k k
     asks_on : {k i j : K} → s.asks i (Tasked k) ≡ true → Leads i j → Leads k j
-
-  -- just the keys whose tasks ask for this one, directly or through others, and the key itself
-  pub record AreAbove (k : K) (ks : List K) : Type 0 where
-    pub all : (j : K) → Leads j k → Has ks j
-    pub only : (j : K) → Has ks j → Leads j k
-    pub distinct : AreDistinct ks
-
-  -- how many these are
-  abbrev pub AreCounted : K → ℕ → Type 0
-  AreCounted k n = (ks : List K) × AreAbove k ks × (length ks ≡ n)
 
   -- the asks of tasks form no cycle
   abbrev pub HasNoCycle : Type 0

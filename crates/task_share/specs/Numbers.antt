@@ -16,10 +16,6 @@ number_of eq ps k = position_or_len (eq k) (keys_of ps)
 abbrev pub waits_by : {K T : Type 0} → (K → K → Bool) → List (K × Share K T) → ℕ → List ℕ
 waits_by eq ps n = list_for (λ p. map (number_of eq ps) p.1.waits) (slice_get ps n)
 
--- the numbers of the keys whose tasks ask for the key of a number
-abbrev pub askers_by : {K T : Type 0} → (K → K → Bool) → List (K × Share K T) → ℕ → List ℕ
-askers_by eq ps n = list_for (λ p. map (number_of eq ps) p.1.askers) (slice_get ps n)
-
 abbrev pub with_name : {K : Type 0} → Option K → List K → List K
 with_name None ks = ks
 with_name (Some k) ks = k ∷ ks

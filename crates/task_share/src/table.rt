@@ -6,11 +6,12 @@ ghost use Rattle.std.specs.Map.{lookup};
 ghost use Rattle.std.specs.Option.{option_copied, option_copied_mut, option_map};
 ghost use Rattle.std.specs.Borrow.{sem};
 ghost use Rattle.dice_key.specs.Lawful.{IsEquality};
+ghost use Rattle.task_share.specs.Above.{askers_by};
 ghost use Rattle.task_share.specs.Asked.{By, Promised, Tasked, is_by, IsDone, Takes};
 ghost use Rattle.task_share.specs.Askers.{by_of};
 ghost use Rattle.task_share.specs.Lent.{LendsTask};
 ghost use Rattle.task_share.specs.Seen.{task_at, is_live, asks, waits_at, asked_of, ask_count, live_count, IsMirrored, has_place, promise_room, asker_room, wait_room, KeepsTasks, KeepsAsks, KeepsRoom, KeepsOtherRoom, UsesRoomOf};
-ghost use Rattle.task_share.specs.Numbers.{key_at, number_of, askers_by, keys_of};
+ghost use Rattle.task_share.specs.Numbers.{key_at, number_of, keys_of};
 ghost use Rattle.lists.specs.Lists.{AreDistinct};
 
 use crate::asker::{Asker, Askers, Wait};

@@ -1,7 +1,7 @@
 use Rattle.std.proofs.Common.{◌≡◌, [], List, sym, ◌∙◌, subst}
 use Rattle.task_share.specs.Seen.{Share}
-use Rattle.task_share.specs.Numbers.{askers_by}
-use Rattle.task_share.proofs.NumberLemmas.{askers_numbered, no_askers}
+use Rattle.task_share.specs.Above.{askers_by}
+use Rattle.task_share.proofs.AboveLemmas.{askers_numbered, no_askers}
 use Rattle.task_share.proofs.table.Table.askers_of.Goals as goal
 
 pub returns-in-Some : goal.returns-in-Some
