@@ -58,8 +58,15 @@ askers-preserved g c =
     let same = given_path (length n.0) c.args.how c.askers.rest n.6 in
     elim (c.tell_one.ensures.some c.askers-test.true) [
       | inl z ↦ (let a = subst (λ x. EndsAsker eq v x c.askers.tasks c.tell_one.new.tasks c.askers.desk c.tell_one.new.desk) same z.0 in record {
-        ends = (n.0 ++ (a.asker, a.came) ∷ [], all_more eq c.laws_of.ensures.keys v p k n.0 _ _ _ _ _ _ n.1 a (n.2 a.key a.listed), listed_more eq c.laws_of.ensures.keys v p k n.0 _ _ _ _ _ _ n.1 a n.2, untold_more eq c.laws_of.ensures.keys v p k n.0 _ _ _ _ _ _ n.1 a n.3, has_more n.0 (a.asker, a.came) (k, ends_so p) n.4,
-          above_more eq v p k n.0 _ _ _ _ _ _ n.1 n.5 a (n.2 a.key a.listed), one_given c.args.how c.askers.rest c.tell_one.new.how n.0 (a.asker, a.came) n.6 z.1);
+        ends = (
+          n.0 ++ (a.asker, a.came) ∷ [],
+          all_more eq c.laws_of.ensures.keys v p k n.0 _ _ _ _ _ _ n.1 a (n.2 a.key a.listed),
+          listed_more eq c.laws_of.ensures.keys v p k n.0 _ _ _ _ _ _ n.1 a n.2,
+          untold_more eq c.laws_of.ensures.keys v p k n.0 _ _ _ _ _ _ n.1 a n.3,
+          has_more n.0 (a.asker, a.came) (k, ends_so p) n.4,
+          above_more eq v p k n.0 _ _ _ _ _ _ n.1 n.5 a (n.2 a.key a.listed),
+          one_given c.args.how c.askers.rest c.tell_one.new.how n.0 (a.asker, a.came) n.6 z.1,
+        );
         tasked = λ h. tasked_end eq c.laws_of.ensures.keys v a.asker a.held a.came _ _ _ _ a.ends.tells.ends (c.askers.invariant.tasked h);
         kept = λ w owed work. asker_ended eq c.laws_of.ensures.keys m c.laws_of.ensures.lawful v p w owed _ _ _ _ a (c.askers.invariant.kept w owed work);
       })
