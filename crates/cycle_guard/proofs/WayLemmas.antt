@@ -17,13 +17,13 @@ use Rattle.task_share.specs.Numbers.{key_at, number_of, waits_by, names_at, with
 use Rattle.cycle_guard.specs.WaitCycle.{WouldWait, IsRound, IsSecond, IsWaitCycle}
 
 module _ {K : Type 0} where
-  has_got : (ks : List K) (n : ℕ) (k : K) → slice_get ks n ≡ Some k → Has ks k
+  pub has_got : (ks : List K) (n : ℕ) (k : K) → slice_get ks n ≡ Some k → Has ks k
   has_got [] n k g = absurd (none-some k g)
   has_got (x ∷ ks) zero k g = inl (same_Some x k g)
   has_got (x ∷ ks) (suc n) k g = inr (has_got ks n k g)
 
   -- a key that these numbers name
-  has_name : (names : List K) (ns : List ℕ) (k : K) → Has (names_at names ns) k → (n : ℕ) × Has ns n × (slice_get names n ≡ Some k)
+  pub has_name : (names : List K) (ns : List ℕ) (k : K) → Has (names_at names ns) k → (n : ℕ) × Has ns n × (slice_get names n ≡ Some k)
   has_name names [] k h = absurd h
   has_name names (m ∷ ns) k h = by_name (has_name names ns k) (slice_get names m) refl h
     where
@@ -32,7 +32,7 @@ module _ {K : Type 0} where
       by_name f (Some j) e (inl s) = (m, inl refl, e ∙ ap Some s)
       by_name f (Some j) e (inr h) = let r = f h in (r.0, inr r.1, r.2)
 
-  named_first : (names : List K) (n : ℕ) (ns : List ℕ) (k : K) → slice_get names n ≡ Some k → names_at names (n ∷ ns) ≡ k ∷ names_at names ns
+  pub named_first : (names : List K) (n : ℕ) (ns : List ℕ) (k : K) → slice_get names n ≡ Some k → names_at names (n ∷ ns) ≡ k ∷ names_at names ns
   named_first names n ns k e = ap (λ o. with_name o (names_at names ns)) e
 
 module _ {K : Type 0} (names : List K) where
@@ -69,7 +69,7 @@ module _ {K : Type 0} (eq : K → K → Bool) (law : IsEquality eq) where
   pub apart_by : (a b : K) → eq a b ≡ false → a ≡ b → ⊥
   apart_by a b e f = let t : eq a b ≡ true = ap (eq a) (sym f) ∙ law.itself a in cc
 
-  first_at : (ks : List K) (n : ℕ) (k : K) → AreDistinct ks → slice_get ks n ≡ Some k → position_or_len (eq k) ks ≡ n
+  pub first_at : (ks : List K) (n : ℕ) (k : K) → AreDistinct ks → slice_get ks n ≡ Some k → position_or_len (eq k) ks ≡ n
   first_at [] n k d g = absurd (none-some k g)
   first_at (x ∷ ks) zero k d g = let t : eq k x ≡ true = ap (eq k) (same_Some x k g) ∙ law.itself k in ap (λ b. cond (not b) (1 + position_or_len (eq k) ks) 0) t
   first_at (x ∷ ks) (suc n) k d g =

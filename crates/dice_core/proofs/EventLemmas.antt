@@ -106,15 +106,14 @@ module _ {K V : Type 0} (v : ℕ) where
   all_both Q [] E a b = b
   all_both Q (d ∷ D) E a b = (a.0, all_both Q D E a.1 b)
 
-  -- ends by a cycle, or since no memory was left
+  -- ends that come of a cycle, or since memory was refused
   module _ (path : Option (List K)) where
     tells_so : (k : K) (o : Outcome K V) → ComesOf path o → EndsSo (told_end v k o)
     tells_so k o h = by_path path h
       where
         by_path : (p : Option (List K)) → ComesOf p o → EndsSo (told_end v k o)
         by_path None e = subst (λ z. EndsSo (told_end v k z)) (sym e) refl
-        by_path (Some p) (inl e) = subst (λ z. EndsSo (told_end v k z)) (sym e) refl
-        by_path (Some p) (inr e) = subst (λ z. EndsSo (told_end v k z)) (sym e) refl
+        by_path (Some p) e = subst (λ z. EndsSo (told_end v k z)) (sym e) refl
 
     pub all_tell : (es : List (K × Outcome K V)) → ((p : K × Outcome K V) → Has es p → ComesOf path p.1) → AllByRecursion EndsSo (map (λ (p : K × Outcome K V). told_end v p.0 p.1) es)
     all_tell [] h = tt

@@ -10,7 +10,7 @@ use Rattle.journal.specs.declared.event.Told.{Told}
 use Rattle.journal.specs.declared.event.Told.TheVariants.{Start, Keep, Drop}
 use Rattle.journal.specs.declared.event.Reason.TheVariants.{Differs}
 use Rattle.injected.specs.Seen.{Seen}
-use Rattle.core_laws.specs.Tasks.{IsReady, IsOut, IsWaiting, Outcome, WithValue}
+use Rattle.core_laws.specs.Tasks.{IsReady, IsOut, IsWaiting, Outcome, WithValue, WithCycle}
 use Rattle.core_laws.specs.Desk.{out_in}
 use Rattle.dice_steps.specs.Batches.{IsOfMakes, IsGiven, IsToldOf, TakesUp, ending_events}
 use Rattle.dice_steps.specs.Finishings.{EndsAndWakes}
@@ -97,7 +97,7 @@ module _ {K V : Type 0} (eq : K → K → Bool) (equality : IsEquality eq) (s : 
       home_of : (R : List (Told K V)) → IsGiven eq m v s.job ks R qs → (a : Assigned K V) → task_at eq qs s.job.name.key ≡ Some (held_of a IsOut) → ⊥
       home_of R (inl h) = home_by _ refl h.1
       home_of R (inr (inl h)) = home_by (held_of s.job (IsWaiting ks)) refl h
-      home_of R (inr (inr h)) = home_by (held_ended s.job.name h.1) refl h.3
+      home_of R (inr (inr h)) = home_by (held_ended s.job.name (WithCycle h.0)) refl h.1
 
       works_of : (xs : List (Told K V)) → IsToldOf eq m v s.job ks xs → AllByRecursion (IsWorkAt v) xs
       works_of xs (inl a) = all_makes v ks xs a

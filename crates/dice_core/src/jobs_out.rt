@@ -83,7 +83,7 @@ pub(crate) fn fail_named<U: Universe>(
     let Some(tasks) = versions.get_mut(&version) else {
         return false;
     };
-    give_up::<U>(desk, tasks, version, name.key(), None, &How::Lost);
+    give_up::<U>(desk, tasks, version, name.key(), How::Lost);
     true
 }
 

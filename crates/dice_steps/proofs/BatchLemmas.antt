@@ -348,7 +348,7 @@ module _ {U K V R : Type 0} (eq : K → K → Bool) (equality : IsEquality eq) (
 module _ {K V : Type 0} (eq : K → K → Bool) (m : Meaning K V) (v : ℕ) (a : Assigned K V) (ks : List K) (ps qs : List (K × Share K (Held K V))) (d e : DeskSeen K V) where
   pub ends_given : (path : List K) → GivesUp eq v (Some path) a.name.key ps d qs e → task_at eq ps a.name.key ≡ Some (held_of a IsOut) → TakesUp eq m v a ks ps d qs e
   ends_given path g out = record {
-    given = inr (inr (path, g.came, g.comes, g.is ∙ ap (λ (h : Held K V). Some (held_ended h.name g.came)) (same_Some g.was (held_of a IsOut) (sym g.there ∙ out))));
+    given = inr (inr (path, g.is ∙ ap (λ (h : Held K V). Some (held_ended h.name (WithCycle path))) (same_Some g.was (held_of a IsOut) (sym g.there ∙ out))));
     out = g.out;
     events = ending_events v g.outcomes g.drops;
     told = g.told;

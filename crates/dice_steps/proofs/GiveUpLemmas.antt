@@ -38,8 +38,7 @@ module _ {K V : Type 0} (v : ℕ) where
   -- a task that is given up ends with a cycle, or with nothing
   gives_up : (path : Option (List K)) (o : Outcome K V) → ComesOf path o → ((p : List K) × (o ≡ WithCycle p)) ⊎ (o ≡ WithNothing)
   gives_up None o c = inr c
-  gives_up (Some p) o (inl e) = inl (p, e)
-  gives_up (Some p) o (inr e) = inr e
+  gives_up (Some p) o c = inl (p, c)
 
   -- so each event of such an end says so
   told_so : (P : Told K V → Type 0) (k : K) → ((p : List K) → P (told_end v k (WithCycle p))) → P (told_end v k WithNothing) → (path : Option (List K)) (o : Outcome K V) → ComesOf path o → P (told_end v k o)
@@ -141,9 +140,7 @@ module _ {K V : Type 0} (eq : K → K → Bool) (equality : IsEquality eq) where
         let kept : task_at eq qs k ≡ task_at eq rs k = drops.tasks k ∙ ap (λ b. cond b None (task_at eq rs k)) (spared eq equality ds (asked_of eq rs) (asked_of eq qs) k drops.cascade off) in record {
           was = w.0;
           there = w.1;
-          came = first.0;
-          comes = ends.comes (k, first.0) first.1;
-          is = kept ∙ w.3;
+          is = kept ∙ (w.3 ∙ ap (λ (o : Outcome K V). Some (held_ended w.0.name o)) (ends.comes (k, first.0) first.1));
           out = given_up_out;
           outcomes = os;
           each = ends.comes;

@@ -137,7 +137,7 @@ module _ {K V : Type 0} (eq : K → K → Bool) (m : Meaning K V) (v : ℕ) (ps 
 
     -- whatever was planned
     pub done_from : {U R : Type 0} (owed : ℕ) (z : Plan U K V R) → IfEnds z ((qs ≡ ps) × (e ≡ d)) → IsPlanDone eq m v owed a ks qs e es s z rs f fs → IsBatchDone eq m v a ks s ps d es rs f fs
-    done_from owed (plan.Ends path own) still h = inl (subst (λ (x : List (K × Share K (Held K V))). EndsByCycle eq m v a ks s x d es rs f fs) still.0 (subst (λ (x : DeskSeen K V). EndsByCycle eq m v a ks s qs x es rs f fs) still.1 h))
+    done_from owed (plan.Ends owners) still h = inl (subst (λ (x : List (K × Share K (Held K V))). EndsByCycle eq m v a ks s x d es rs f fs) still.0 (subst (λ (x : DeskSeen K V). EndsByCycle eq m v a ks s qs x es rs f fs) still.1 h))
     done_from owed (plan.GoesOn xs n) still h = inr (inr (makes_from h.0, goes_from h.1))
     done_from owed (plan.Waits xs ws) still h = inr (inl (makes_from h.0, waits_from h.1))
 

@@ -9,12 +9,12 @@ use Rattle.journal.specs.declared.event.Told.{Told}
 use Rattle.journal.specs.declared.event.Told.TheVariants.{Start, Keep, Drop}
 use Rattle.journal.specs.Events.{commits_of}
 use Rattle.versioned_graph.specs.Entries.{Stored}
-use Rattle.core_laws.specs.Tasks.{IsReady, IsOut, IsWaiting, Outcome, is_going, value_of}
+use Rattle.core_laws.specs.Tasks.{IsReady, IsOut, IsWaiting, Outcome, WithCycle, is_going, value_of}
 use Rattle.core_laws.specs.Desk.{World}
 use Rattle.dice_tasks.specs.Helds.{Held, held_of, held_ended}
 use Rattle.dice_tasks.specs.Hands.{DeskSeen, Working, tasks_of}
 use Rattle.dice_tasks.specs.Entries.{EntriesStand}
-use Rattle.dice_tasks.specs.Endings.{ComesOf, told_end}
+use Rattle.dice_tasks.specs.Endings.{ComesOf, ends_so, told_end}
 use Rattle.dice_tasks.specs.Makings.{IsFree, MayMake}
 use Rattle.dice_steps.specs.Orders.{IsBefore}
 use Rattle.dice_steps.specs.Plans.{key_in, IsPart}
@@ -101,9 +101,7 @@ module _ {K V : Type 0} (eq : K → K → Bool) (v : ℕ) (path : Option (List K
   pub record GivesUp (ps : List (K × Share K (Held K V))) (d : DeskSeen K V) (qs : List (K × Share K (Held K V))) (e : DeskSeen K V) : Type 0 where
     pub was : Held K V
     pub there : task_at eq ps k ≡ Some was
-    pub came : Outcome K V
-    pub comes : ComesOf path came
-    pub is : task_at eq qs k ≡ Some (held_ended was.name came)
+    pub is : task_at eq qs k ≡ Some (held_ended was.name (ends_so path))
     pub out : LeavesOut eq k ps qs
     pub outcomes : List (K × Outcome K V)
     pub each : (p : K × Outcome K V) → Has outcomes p → ComesOf path p.1
@@ -112,15 +110,15 @@ module _ {K V : Type 0} (eq : K → K → Bool) (v : ℕ) (path : Option (List K
 
 module _ {K V : Type 0} (eq : K → K → Bool) (m : Meaning K V) (v : ℕ) (a : Assigned K V) (ks : List K) where
   -- the task of a's key, which was out with the job a and asked the batch ks: it goes on with the keys' values, waits for them, or has ended with a
-  -- cycle that one of them comes to, or since no memory was left
+  -- cycle that one of them comes to
   abbrev pub IsGiven : List (Told K V) → List (K × Share K (Held K V)) → Type 0
   IsGiven R qs = ((xs : List V) × (task_at eq qs a.name.key ≡ Some (held_of (answered_more a ks xs) IsReady)) × AllZip (HasValue eq m (commits_of R) v) ks xs)
       ⊎ (task_at eq qs a.name.key ≡ Some (held_of a (IsWaiting ks)))
-      ⊎ ((path : List K) × (o : Outcome K V) × ComesOf (Some path) o × (task_at eq qs a.name.key ≡ Some (held_ended a.name o)))
+      ⊎ ((path : List K) × (task_at eq qs a.name.key ≡ Some (held_ended a.name (WithCycle path))))
 
-  -- what the step tells: keys of the batch are started or kept; or tasks end with a cycle, or since no memory was left, and others are dropped
+  -- what the step tells: keys of the batch are started or kept; or tasks end with a cycle, and others are dropped
   abbrev pub IsToldOf : List (Told K V) → Type 0
-  IsToldOf xs = AllByRecursion (IsOfMakes v ks) xs ⊎ ((path : List K) × (os : List (K × Outcome K V)) × (ds : List K) × ((p : K × Outcome K V) → Has os p → ComesOf (Some path) p.1) × (xs ≡ ending_events v os ds))
+  IsToldOf xs = AllByRecursion (IsOfMakes v ks) xs ⊎ ((path : List K) × (os : List (K × Outcome K V)) × (ds : List K) × ((p : K × Outcome K V) → Has os p → p.1 ≡ WithCycle path) × (xs ≡ ending_events v os ds))
 
   -- the batch is taken up
   pub record TakesUp (ps : List (K × Share K (Held K V))) (d : DeskSeen K V) (qs : List (K × Share K (Held K V))) (e : DeskSeen K V) : Type 0 where

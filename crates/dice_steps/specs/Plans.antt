@@ -7,6 +7,7 @@ use Rattle.dice_key.specs.Meaning.{Meaning}
 use Rattle.dice_key.specs.declared.universe.Kind.TheVariants.{Injected}
 use Rattle.dice_jobs.specs.Jobs.{Assigned, answered_more}
 use Rattle.task_share.specs.Asked.{WaitOf, Leads}
+use Rattle.task_share.specs.Above.{AreCounted}
 use Rattle.task_share.specs.Seen.{Share, is_live, asked_of, has_place, asker_room, wait_room}
 use Rattle.injected.specs.Seen.{Seen, cell_at}
 use Rattle.versioned_graph.specs.Entries.{Stored, entry_at}
@@ -111,18 +112,18 @@ module _ {U K V R : Type 0} (eq : K → K → Bool) (m : Meaning K V) (v owed : 
 
   -- what was planned, with the memory for it
   abbrev pub IsPlan : Plan U K V R → Type 0
-  IsPlan (plan.Ends path own) = IsPathOf eq ps m a.name.key ks (arc_value path) × (arc_value own ≡ arc_value path)
+  IsPlan (plan.Ends owners) = IsPathOf eq ps m a.name.key ks owners.path × AreCounted (asked_of eq ps) a.name.key owners.count
   IsPlan (plan.GoesOn xs n) = GoesOnSo xs.items n
   IsPlan (plan.Waits xs ws) = WaitsSo xs.items ws.items
 
   -- what is done if this was planned, from the tasks ps, the desk d, the entries es and the cells s
   abbrev pub IsPlanDone : Plan U K V R → List (K × Share K (Held K V)) → DeskSeen K V → List (K × Stored K V) → Type 0
-  IsPlanDone (plan.Ends path own) qs e fs = EndsByCycle eq m v a ks s ps d es qs e fs
+  IsPlanDone (plan.Ends owners) qs e fs = EndsByCycle eq m v a ks s ps d es qs e fs
   IsPlanDone (plan.GoesOn xs n) qs e fs = MakesTasks eq m v a ks s ps d es qs e fs × GoesOnWith eq m v a ks s ps d es qs e fs
   IsPlanDone (plan.Waits xs ws) qs e fs = MakesTasks eq m v a ks s ps d es qs e fs × WaitsFor eq m v a ks s ps d es qs e fs
 
 -- P holds if the plan is an end
 abbrev pub IfEnds : {U K V R : Type 0} → Plan U K V R → Type 0 → Type 0
-IfEnds (plan.Ends path own) P = P
+IfEnds (plan.Ends owners) P = P
 IfEnds (plan.GoesOn xs n) P = Unit {0}
 IfEnds (plan.Waits xs ws) P = Unit {0}

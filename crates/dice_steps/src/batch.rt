@@ -1,7 +1,6 @@
 //! A batch that a task asks: it waits for the answers, goes on with them, or ends with a cycle.
 ghost use Rattle.std.specs.Prelude.{◌≡◌, ◌+◌, ℕ, List, length, reverse, Some, true, OnErr, OnOk, IfErr, IfOk};
 ghost use Rattle.std.specs.Arc.{arc_value};
-ghost use Rattle.std.specs.Option.{option_map};
 ghost use Rattle.dice_jobs.specs.Jobs.{Wanting};
 ghost use Rattle.task_share.specs.Seen.{Share, task_at, is_live, KeepsTasks, KeepsAsks, KeepsRoom};
 ghost use Rattle.injected.specs.Seen.{Seen};
@@ -14,7 +13,7 @@ ghost use Rattle.dice_steps.specs.AtHand.{AtHand};
 ghost use Rattle.dice_tasks.specs.Helds.{held_of};
 ghost use Rattle.dice_tasks.specs.Hands.{KeepsHands, KeepsDeskRoom, Working};
 ghost use Rattle.dice_tasks.specs.Entries.{EntriesStand};
-ghost use Rattle.dice_tasks.specs.Endings.{ReachesPath, GivesUpAll, path_of};
+ghost use Rattle.dice_tasks.specs.Endings.{ReachesPath, GivesUpAll, IsEnough, path_of};
 ghost use Rattle.dice_tasks.specs.Makings.{CanMake, IsMade, IsMaking, IsOfKey, MakesAlone, MayMake};
 ghost use Rattle.dice_steps.specs.Plans.{IsPlan, IsPlanDone, IfEnds, key_in};
 ghost use Rattle.dice_steps.specs.Taken.{IsBatchDone};
@@ -22,7 +21,7 @@ ghost use Rattle.dice_steps.specs.Batches.{AreMakable, GivesUp, HasRoomToMake, M
 
 use crate::plan::{Part, Plan, plan_batch};
 use dice_jobs::{Parked, Report, Step};
-use dice_key::{KeyRef, NoMemory, Path, Universe, laws_of};
+use dice_key::{KeyRef, NoMemory, Universe, laws_of};
 use dice_tasks::{Desk, How, Tasks, cascade, end_all, go_on, make, park};
 use injected::{Cells, cells_are_the_inputs};
 use std::alloc::Global;
@@ -30,8 +29,8 @@ use std::sync::Arc;
 use versioned_graph::Graph;
 
 /// Gives up the task at work of a key: it ends as lost, or with a cycle that the key reaches, and with it all that ask for it, for
-/// one of these, and so on; and what nobody asks for then is dropped. It takes no memory: the task of the key ends with its `own`
-/// cycle, and any other one ends as lost if there is no memory for its copy.
+/// one of these, and so on; and what nobody asks for then is dropped. Of the cycle's path there is an owner for each of them. It takes
+/// no memory.
 ///
 /// It costs the number of tasks that it ends and drops, and of the keys that they waited for.
 pub fn give_up<U: Universe>(
@@ -39,19 +38,18 @@ pub fn give_up<U: Universe>(
     tasks: &mut Tasks<U>,
     version: u64,
     key: &KeyRef<U>,
-    own: Option<Arc<Path<U::Key>>>,
-    how: &How<'_, U::Key>,
+    how: How<U::Key>,
 )
     requires hand { (w : World U.Key U.Value) × (owed : ℕ) × (es : List (U.Key × Stored U.Key U.Value)) × (s : Seen U.Key U.Value) × AtHand U.Key.eq U.meaning version w owed tasks.old desk.old es s }
     requires live { is_live U.Key.eq tasks.old (arc_value key.now) ≡ true }
-    requires own { option_map arc_value own ≡ path_of how.now }
-    requires reached { ReachesPath U.Key.eq U.meaning (path_of how.now) (commits_of (reverse desk.old.events)) version (arc_value key.now) }
-    ensures ends { GivesUpAll U.Key.eq version (path_of how.now) (arc_value key.now) tasks.old tasks.new desk.old desk.new }
-    ensures given { GivesUp U.Key.eq version (path_of how.now) (arc_value key.now) tasks.old desk.old tasks.new desk.new }
+    requires enough { IsEnough U.Key.eq tasks.old (arc_value key.now) how }
+    requires reached { ReachesPath U.Key.eq U.meaning (path_of how) (commits_of (reverse desk.old.events)) version (arc_value key.now) }
+    ensures ends { GivesUpAll U.Key.eq version (path_of how) (arc_value key.now) tasks.old tasks.new desk.old desk.new }
+    ensures given { GivesUp U.Key.eq version (path_of how) (arc_value key.now) tasks.old desk.old tasks.new desk.new }
     ensures kept { (w : World U.Key U.Value) (owed : ℕ) (es : List (U.Key × Stored U.Key U.Value)) (s : Seen U.Key U.Value) → AtHand U.Key.eq U.meaning version w owed tasks.old desk.old es s → AtHand U.Key.eq U.meaning version w owed tasks.new desk.new es s }
 {
     laws_of::<U>();
-    end_all(desk, tasks, version, key, own, how);
+    end_all(desk, tasks, version, key, how);
     cascade(desk, tasks, version);
 }
 
@@ -116,9 +114,7 @@ fn take_up<U: Universe>(
     laws_of::<U>();
     cells_are_the_inputs::<U>();
     match plan {
-        Plan::Ends(path, own) => {
-            give_up::<U>(desk, tasks, version, key, Some(own), &How::Cycle(&path));
-        }
+        Plan::Ends(owners) => give_up::<U>(desk, tasks, version, key, How::Cycle(owners)),
         Plan::GoesOn(parts, next) => {
             make_all::<U>(desk, tasks, graph, version, parts);
             go_on::<U>(desk, tasks, version, key, parked, next);

@@ -18,10 +18,10 @@ ghost use Rattle.dice_steps.specs.Taken.{HasNoPath, IsPathAt};
 ghost use Rattle.lists.specs.Lists.{Has};
 
 use crate::noted::note;
-use cycle_guard::would_close;
+use cycle_guard::{count_above, would_close};
 use dice_jobs::Assignment;
 use dice_key::{Answers, Batch, KeyRef, Kind, NoMemory, Path, Universe, ValueRef, laws_of};
-use dice_tasks::{Desk, Making, Next, Tasks, looked, prepare};
+use dice_tasks::{Desk, Making, Next, Owners, Tasks, looked, prepare};
 use injected::Cells;
 use std::alloc::Global;
 use std::collections::HashSet;
@@ -52,8 +52,8 @@ pub(crate) enum Survey<U: Universe> {
 /// What a batch comes to, with all the memory that it takes.
 #[derive(Drop)]
 pub(crate) enum Plan<U: Universe> {
-    /// The task that asks it ends with this cycle, of which it has its own copy.
-    Ends(Arc<Path<U::Key>>, Arc<Path<U::Key>>),
+    /// The task that asks it ends with this cycle, with all that ask for it. Its path has an owner for each of them.
+    Ends(Owners<U::Key>),
     /// After these are made, all keys have values, and the task goes on.
     GoesOn(Vec<Part<U>>, Next<U>),
     /// After these are made, the task waits.
@@ -63,7 +63,8 @@ pub(crate) enum Plan<U: Universe> {
 /// Plans what comes of the batch that the job of this assignment asks, in the order of its keys. It takes all the memory for it, and
 /// makes room for `owed` events beside; nothing else changes, even if memory is refused.
 ///
-/// It costs a look-up for each key, and a walk over the waits that begin there.
+/// It costs a look-up for each key, and a walk over the waits that begin there; if there is a cycle, also a walk over the tasks that
+/// end with it.
 pub(crate) fn plan_batch<U: Universe>(
     alloc: Global,
     universe: &U,
@@ -91,8 +92,8 @@ pub(crate) fn plan_batch<U: Universe>(
     let born = told_so_far::<U>(desk);
     let parts = match look_over::<U>(alloc, universe, graph, tasks, version, own, batch, born)? {
         Survey::Cycle(path) => {
-            let own = Arc::try_clone(&path)?;
-            return Ok(Plan::Ends(path, own));
+            let count = count_above(alloc, tasks, own)?;
+            return Ok(Plan::Ends(Owners::new(alloc, path, count)?));
         }
         Survey::Parts(parts) => parts,
     };

@@ -230,8 +230,3 @@ module _ {K V : Type 0} (eq : K → K → Bool) (equality : IsEquality eq) (v : 
       where
         ended : e.ended ≡ d.ended ++ k ∷ []
         ended = ap (λ (y : DeskSeen K V). y.ended) l.desk ∙ ap (λ xs. xs ++ k ∷ []) (told_ended eq v k h o (told_end v k o) ps qs d l.mid l.tells)
-
--- so the first may end
-pub comes_so : {K : Type 0} (V : Type 0) (path : Option (List K)) → ComesOf {V = V} path (ends_so path)
-comes_so V None = refl
-comes_so V (Some p) = inl refl

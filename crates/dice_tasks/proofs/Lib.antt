@@ -14,6 +14,7 @@ pub mod LooksLemmas
 pub mod MakeFrames
 pub mod MakeLemmas
 pub mod ParkLemmas
+pub mod OwnersLemmas
 pub mod Parts
 pub mod TakeLemmas
 pub mod TaskedLemmas

@@ -12,18 +12,11 @@ use Rattle.core_laws.proofs.Turns.{stands_here}
 use Rattle.core_laws.proofs.StepsWaits.{told_stand}
 use Rattle.dice_tasks.specs.Helds.{Held}
 use Rattle.dice_tasks.specs.Hands.{DeskSeen, desk_of, tasks_of, seen_world, with_event, with_ended, with_told_next, KeepsDesk, Working}
-use Rattle.dice_tasks.specs.declared.end.How.{How}
-use Rattle.dice_tasks.specs.declared.end.How.TheVariants.{Lost, Cycle}
-use Rattle.dice_tasks.specs.Endings.{path_of, Knows, TellsEnd, ListsEnd, ComesOf, told_end, ReachesPath, Telling, EndsAsker, HasTold}
+use Rattle.dice_tasks.specs.Endings.{Knows, TellsEnd, ListsEnd, ComesOf, told_end, ReachesPath, Telling, EndsAsker, HasTold}
 use Rattle.dice_tasks.proofs.EndsLemmas.{back_more, quits_keeps, same_table}
 use Rattle.dice_tasks.proofs.EndedLemmas.{lost_on, cycle_on, listed_on}
 use Rattle.lists.proofs.Members.{has_last, has_more}
 use Rattle.lists.specs.Lists.{Has}
-
--- how a task ends that is given up
-pub comes_lost : {K V : Type 0} (h : How K) (o : Outcome K V) → o ≡ WithNothing → ComesOf (path_of h) o
-comes_lost Lost o e = e
-comes_lost (Cycle p) o e = inr e
 
 module _ {K V : Type 0} where
   -- an end tells of no commit
@@ -53,10 +46,7 @@ module _ {K V : Type 0} (eq : K → K → Bool) (equality : IsEquality eq) (m : 
   pub comes_on : (path : Option (List K)) (k : K) (h : Held K V) (o : Outcome K V) (ps qs : List (K × Share K (Held K V))) (d e : DeskSeen K V) → TellsEnd eq v k h o (told_end v k o) ps qs d e → ComesOf path o
       → (W : List K) (w : World K V) (owed : ℕ) → Working eq m v W w owed ps d → ReachesPath eq m path (commits_of (reverse d.events)) v k → Working eq m v (k ∷ W) w owed qs e
   comes_on None k h o ps qs d e tells comes W w owed work reach = lost_on eq equality m law v k h ps qs d e (subst (λ (z : Outcome K V). TellsEnd eq v k h z (told_end v k z) ps qs d e) comes tells) W w owed work
-  comes_on (Some p) k h o ps qs d e tells comes W w owed work reach = elim comes as (λ _. Working eq m v (k ∷ W) w owed qs e) [
-    | inl i ↦ cycle_on eq equality m law v k h ps qs d e p (subst (λ (z : Outcome K V). TellsEnd eq v k h z (told_end v k z) ps qs d e) i tells) W w owed work reach
-    | inr i ↦ lost_on eq equality m law v k h ps qs d e (subst (λ (z : Outcome K V). TellsEnd eq v k h z (told_end v k z) ps qs d e) i tells) W w owed work
-  ]
+  comes_on (Some p) k h o ps qs d e tells comes W w owed work reach = cycle_on eq equality m law v k h ps qs d e p (subst (λ (z : Outcome K V). TellsEnd eq v k h z (told_end v k z) ps qs d e) comes tells) W w owed work reach
 
   module _ (path : Option (List K)) (w : World K V) (owed : ℕ) where
     -- a task ends and is put on the list

@@ -1,9 +1,9 @@
 -- Tasks that end, and tasks that are dropped.
-use Rattle.std.specs.Prelude.{◌≡◌, ◌≤◌, ◌*◌, ◌<◌, ◌⊎◌, ℕ, Bool, true, false, cond, not, ◌&&◌, List, ◌++◌, map, reverse, Option, Some, None}
-use Rattle.std.specs.Arc.{arc_value}
+use Rattle.std.specs.Prelude.{◌≡◌, ◌≤◌, ◌+◌, ◌*◌, ◌<◌, ◌⊎◌, ℕ, Bool, true, false, cond, not, ◌&&◌, List, ◌++◌, map, reverse, Option, Some, None}
 use Rattle.std.specs.List.{list_any}
 use Rattle.dice_key.specs.Meaning.{Meaning}
-use Rattle.task_share.specs.Asked.{By, Promised, Tasked, is_by, Takes, Cascade}
+use Rattle.task_share.specs.Above.{AreCounted}
+use Rattle.task_share.specs.Asked.{By, Promised, Tasked, is_by, Leads, Takes, Cascade}
 use Rattle.task_share.specs.Seen.{Share, task_at, is_live, asks, asked_of, KeepsTasks, KeepsAsks, KeepsRoom, KeepsOtherRoom}
 use Rattle.journal.specs.declared.event.Told.{Told}
 use Rattle.journal.specs.declared.event.Told.TheVariants.{Drop}
@@ -80,20 +80,30 @@ module _ {K V : Type 0} (eq : K → K → Bool) (v : ℕ) where
     pub tells : TellsEnd k h o x ps qs d mid
     pub desk : e ≡ with_told_next mid k
 
--- how tasks that are given up with one end: as lost, or with this cycle; if there is no memory for the cycle, as lost too
+-- how a task ends that is given up: with the cycle, if there is one, otherwise as lost
+abbrev pub ends_so : {K V : Type 0} → Option (List K) → Outcome K V
+ends_so None = WithNothing
+ends_so (Some p) = WithCycle p
+
 abbrev pub ComesOf : {K V : Type 0} → Option (List K) → Outcome K V → Type 0
-ComesOf None o = o ≡ WithNothing
-ComesOf (Some p) o = (o ≡ WithCycle p) ⊎ (o ≡ WithNothing)
+ComesOf path o = o ≡ ends_so path
 
 -- the cycle, if there is one
 abbrev pub path_of : {K : Type 0} → How K → Option (List K)
 path_of Lost = None
-path_of (Cycle p) = Some (arc_value p.now)
+path_of (Cycle c) = Some c.path
 
--- how the first of them ends: with the cycle, if there is one, otherwise as lost
-abbrev pub ends_so : {K V : Type 0} → Option (List K) → Outcome K V
-ends_so None = WithNothing
-ends_so (Some p) = WithCycle p
+-- there are so many owners of its path
+abbrev pub HasOwners : {K : Type 0} → ℕ → How K → Type 0
+HasOwners n Lost = Unit {0}
+HasOwners n (Cycle c) = n ≤ c.count
+
+-- so many of them were given away
+abbrev pub AreGiven : {K : Type 0} → ℕ → How K → How K → Type 0
+AreGiven n Lost Lost = Unit {0}
+AreGiven n Lost (Cycle d) = ⊥
+AreGiven n (Cycle c) Lost = ⊥
+AreGiven n (Cycle c) (Cycle d) = (d.path ≡ c.path) × (c.count ≡ d.count + n)
 
 -- the event that tells how a task ended
 abbrev pub told_end : {K V : Type 0} → ℕ → K → Outcome K V → Told K V
@@ -167,6 +177,15 @@ module _ {K V : Type 0} (eq : K → K → Bool) where
   AreTasked ps = (k : K) (a : By K) → asks eq ps k a ≡ true → (h : Held K V) × (task_at eq ps k ≡ Some h)
 
 module _ {K V : Type 0} (eq : K → K → Bool) where
+  -- there is an owner of the path for each task that ends: that of k, and each that asks for it, directly or through others
+  abbrev pub IsEnough : List (K × Share K (Held K V)) → K → How K → Type 0
+  IsEnough ps k Lost = Unit {0}
+  IsEnough ps k (Cycle c) = AreCounted (asked_of eq ps) k c.count
+
+  -- these tasks are that of k, or ask for it, directly or through others
+  abbrev pub EndAbove : List (K × Outcome K V) → List (K × Share K (Held K V)) → K → Type 0
+  EndAbove es ps k = (q : K) (o : Outcome K V) → Has es (q, o) → Leads (asked_of eq ps) q k
+
   -- each task that asked for one of these is one of these
   abbrev pub EndWithAskers : List (K × Outcome K V) → List (K × Share K (Held K V)) → Type 0
   EndWithAskers es ps = (q j : K) (o : Outcome K V) → Has es (q, o) → asks eq ps q (Tasked j) ≡ true → (r : Outcome K V) × Has es (j, r)

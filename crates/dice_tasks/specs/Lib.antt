@@ -6,5 +6,6 @@ pub mod Helds
 pub mod Loads
 pub mod Makings
 pub mod Orders
+pub mod Owned
 pub mod Shelves
 pub mod Waitings

@@ -1,11 +1,10 @@
 //! Tasks that end, and tasks that nobody asks for any more.
 ghost use Rattle.std.specs.Prelude.{◌≡◌, ◌⊎◌, ℕ, List, [], ◌∷◌, true, false, map, reverse, Some, IfSome, IfNone};
 ghost use Rattle.std.specs.Arc.{arc_value};
-ghost use Rattle.std.specs.Option.{option_map};
 ghost use Rattle.dice_key.specs.Meaning.{Answered, Ends};
 ghost use Rattle.dice_model.specs.Asks.{IsTrace};
-ghost use Rattle.task_share.specs.Asked.{IsDone};
-ghost use Rattle.task_share.specs.Seen.{asked_of, task_at, is_live, KeepsTasks, KeepsAsks, KeepsRoom};
+ghost use Rattle.task_share.specs.Asked.{IsDone, Tasked};
+ghost use Rattle.task_share.specs.Seen.{asked_of, asks, task_at, is_live, KeepsTasks, KeepsAsks, KeepsRoom};
 ghost use Rattle.journal.specs.declared.event.Told.TheVariants.{Keep, End, Cyclic, Lost};
 ghost use Rattle.journal.specs.Events.{commits_of, ended_at};
 ghost use Rattle.journal.specs.Tell.{told};
@@ -14,12 +13,13 @@ ghost use Rattle.core_laws.specs.Desk.{World, ready_in, out_in};
 ghost use Rattle.dice_tasks.specs.Helds.{Held, came};
 ghost use Rattle.dice_tasks.specs.Loads.{AreCopies};
 ghost use Rattle.dice_tasks.specs.Hands.{Working, Cleaning};
-ghost use Rattle.dice_tasks.specs.Endings.{Quits, Knows, DropsTask, DropsTasks, EndsTask, TellsEnd, ListsEnd, ComesOf, path_of, told_end, ReachesPath, EndsAsker, HasTold, EndsTasks, EndWithAskers, AreTasked, ends_so};
+ghost use Rattle.dice_tasks.specs.Endings.{Quits, Knows, DropsTask, DropsTasks, EndsTask, TellsEnd, ListsEnd, path_of, HasOwners, AreGiven, IsEnough, told_end, ReachesPath, EndsAsker, HasTold, EndsTasks, EndWithAskers, AreTasked, ends_so};
 ghost use Rattle.lists.specs.Lists.{Has};
 ghost use Rattle.dice_jobs.specs.Jobs.{Checks, Computes};
 
 use crate::Tasks;
 use crate::desk::Desk;
+use crate::owners::Owners;
 use crate::task::{Spare, Task};
 use dice_key::{KeyRef, Path, Universe, ValueRef, laws_of};
 use journal::Event;
@@ -29,11 +29,11 @@ use task_state::Outcome;
 
 /// How tasks end that are given up together.
 #[derive(Drop)]
-pub enum How<'a, K: Drop> {
-    /// Since no memory was left.
+pub enum How<K> {
+    /// Since memory was refused.
     Lost,
-    /// Since their keys reach this cycle.
-    Cycle(&'a Arc<Path<K>>),
+    /// Since their keys reach this cycle, of whose path each is given an owner.
+    Cycle(Owners<K>),
 }
 
 /// Takes a task that is to end off the ready tasks and off those that are out.
@@ -165,44 +165,24 @@ fn end_cyclic<U: Universe>(
     desk.push_ended(second);
 }
 
-/// Ends the task at work of a key as is said, and puts the key on the list of those whose askers are still to be told. If there
-/// is no memory for the cycle, the task ends as lost.
+/// Ends the task at work of a key as is said, and puts the key on the list of those whose askers are still to be told. It takes no
+/// memory.
 fn end_one<U: Universe>(
     desk: &mut Desk<U>,
     tasks: &mut Tasks<U>,
     version: u64,
     key: &KeyRef<U>,
-    how: &How<'_, U::Key>,
+    how: &mut How<U::Key>,
 )
     requires known { Knows U.Key.eq version tasks.old desk.old }
     requires live { is_live U.Key.eq tasks.old (arc_value key.now) ≡ true }
-    ensures ended { (h : Held U.Key U.Value) × (o : Came U.Key U.Value) × ComesOf (path_of how.now) o × ListsEnd U.Key.eq version (arc_value key.now) h o (told_end version (arc_value key.now) o) tasks.old tasks.new desk.old desk.new }
+    requires owner { HasOwners 1 how.old }
+    ensures ended { (h : Held U.Key U.Value) × (o : Came U.Key U.Value) × (o ≡ ends_so (path_of how.old)) × ListsEnd U.Key.eq version (arc_value key.now) h o (told_end version (arc_value key.now) o) tasks.old tasks.new desk.old desk.new }
+    ensures given { AreGiven 1 how.old how.new }
 {
     match how {
         How::Lost => end_lost(desk, tasks, version, key),
-        How::Cycle(path) => match Arc::try_clone(path) {
-            Ok(path) => end_cyclic(desk, tasks, version, key, path),
-            Err(_) => end_lost(desk, tasks, version, key),
-        },
-    }
-}
-
-/// Ends the task at work of a key with its own cycle, or as lost if there is none, and puts the key on the list of those whose
-/// askers are still to be told. It takes no memory.
-fn end_own<U: Universe>(
-    desk: &mut Desk<U>,
-    tasks: &mut Tasks<U>,
-    version: u64,
-    key: &KeyRef<U>,
-    own: Option<Arc<Path<U::Key>>>,
-)
-    requires known { Knows U.Key.eq version tasks.old desk.old }
-    requires live { is_live U.Key.eq tasks.old (arc_value key.now) ≡ true }
-    ensures ended { (h : Held U.Key U.Value) × ListsEnd U.Key.eq version (arc_value key.now) h (ends_so (option_map arc_value own)) (told_end version (arc_value key.now) (ends_so {V = U.Value} (option_map arc_value own))) tasks.old tasks.new desk.old desk.new }
-{
-    match own {
-        Some(path) => end_cyclic(desk, tasks, version, key, path),
-        None => end_lost(desk, tasks, version, key),
+        How::Cycle(owners) => end_cyclic(desk, tasks, version, key, owners.give()),
     }
 }
 
@@ -211,10 +191,11 @@ fn tell_one<U: Universe>(
     desk: &mut Desk<U>,
     tasks: &mut Tasks<U>,
     version: u64,
-    how: &How<'_, U::Key>,
+    how: &mut How<U::Key>,
 ) -> bool
     requires known { Knows U.Key.eq version tasks.old desk.old }
-    ensures some { result ≡ true → EndsAsker U.Key.eq version (path_of how.now) tasks.old tasks.new desk.old desk.new ⊎ HasTold U.Key.eq tasks.old tasks.new desk.old desk.new }
+    requires owner { (q j : U.Key) → Has desk.old.ended q → asks U.Key.eq tasks.old q (Tasked j) ≡ true → HasOwners 1 how.old }
+    ensures some { result ≡ true → (EndsAsker U.Key.eq version (path_of how.old) tasks.old tasks.new desk.old desk.new × AreGiven 1 how.old how.new) ⊎ (HasTold U.Key.eq tasks.old tasks.new desk.old desk.new × (how.new ≡ how.old)) }
     ensures none { result ≡ false → (desk.old.ended ≡ []) × (desk.new ≡ desk.old) × (tasks.new ≡ tasks.old) }
 {
     laws_of::<U>();
@@ -234,8 +215,7 @@ fn tell_one<U: Universe>(
 }
 
 /// Ends the task at work of a key, each task that asks for it, each that asks for one of these, and so on: as lost, or with a
-/// cycle that the key reaches. It takes no memory: the task of the key ends with its `own` cycle, and any other one ends as lost if there
-/// is no memory for its copy.
+/// cycle that the key reaches, of whose path there is an owner for each of them. It takes no memory.
 ///
 /// It costs the number of tasks that it ends and of the keys that they waited for.
 pub fn end_all<U: Universe>(
@@ -243,20 +223,20 @@ pub fn end_all<U: Universe>(
     tasks: &mut Tasks<U>,
     version: u64,
     key: &KeyRef<U>,
-    own: Option<Arc<Path<U::Key>>>,
-    how: &How<'_, U::Key>,
+    how: How<U::Key>,
 )
     requires working { (w : World U.Key U.Value) × (owed : ℕ) × Working U.Key.eq U.meaning version [] w owed tasks.old desk.old }
     requires live { is_live U.Key.eq tasks.old (arc_value key.now) ≡ true }
     requires ended { desk.old.ended ≡ [] }
-    requires own { option_map arc_value own ≡ path_of how.now }
-    requires reached { ReachesPath U.Key.eq U.meaning (path_of how.now) (commits_of (reverse desk.old.events)) version (arc_value key.now) }
-    ensures ends { (es : List (U.Key × Came U.Key U.Value)) × EndsTasks U.Key.eq version (path_of how.now) (arc_value key.now) es tasks.old tasks.new desk.old desk.new × EndWithAskers U.Key.eq es tasks.old × Has es (arc_value key.now, ends_so (path_of how.now)) }
+    requires enough { IsEnough U.Key.eq tasks.old (arc_value key.now) how }
+    requires reached { ReachesPath U.Key.eq U.meaning (path_of how) (commits_of (reverse desk.old.events)) version (arc_value key.now) }
+    ensures ends { (es : List (U.Key × Came U.Key U.Value)) × EndsTasks U.Key.eq version (path_of how) (arc_value key.now) es tasks.old tasks.new desk.old desk.new × EndWithAskers U.Key.eq es tasks.old × Has es (arc_value key.now, ends_so (path_of how)) }
     ensures ended { desk.new.ended ≡ [] }
     ensures tasked { AreTasked U.Key.eq tasks.old → AreTasked U.Key.eq tasks.new }
     ensures kept { (w : World U.Key U.Value) (owed : ℕ) → Working U.Key.eq U.meaning version [] w owed tasks.old desk.old → Working U.Key.eq U.meaning version [] w owed tasks.new desk.new }
 {
     laws_of::<U>();
-    end_own(desk, tasks, version, key, own);
-    'askers: while tell_one(desk, tasks, version, how) {}
+    let mut rest = how;
+    end_one(desk, tasks, version, key, &mut rest);
+    'askers: while tell_one(desk, tasks, version, &mut rest) {}
 }

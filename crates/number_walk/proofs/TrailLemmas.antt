@@ -46,7 +46,7 @@ past (x ∷ xs) zero e = cc
 past (x ∷ xs) (suc i) e = let l = past xs i e in let f : length (x ∷ xs) ≡ suc (length xs) = refl in omega arith
 
 -- membership by test
-any_has : (xs : List ℕ) (q : ℕ) → list_any (eqb q) xs ≡ true → Has xs q
+pub any_has : (xs : List ℕ) (q : ℕ) → list_any (eqb q) xs ≡ true → Has xs q
 any_has [] q h = absurd (let z : false ≡ true = h in cc)
 any_has (x ∷ xs) q h = by_test (any_has xs q) (eqb q x) refl h
   where
@@ -54,7 +54,7 @@ any_has (x ∷ xs) q h = by_test (any_has xs q) (eqb q x) refl h
     by_test f true e g = inl (sym (eqb-true q x e))
     by_test f false e g = inr (f g)
 
-not_any : (xs : List ℕ) (q : ℕ) → list_any (eqb q) xs ≡ false → Has xs q → ⊥
+pub not_any : (xs : List ℕ) (q : ℕ) → list_any (eqb q) xs ≡ false → Has xs q → ⊥
 not_any [] q e h = h
 not_any (x ∷ xs) q e (inl s) = let t : eqb q x ≡ true = ap (eqb q) s ∙ eq-eqb q q refl in (let z : true ≡ false = sym (ap (λ b. b || list_any (eqb q) xs) t) ∙ e in cc)
 not_any (x ∷ xs) q e (inr h) = by_test (not_any xs q) (eqb q x) e h
@@ -207,7 +207,7 @@ module _ (waits : ℕ → List ℕ) where
       from n m h stays = h
       from n m h (waits_on {m = j} w r) = let i = got_has met n h in from j m (f i.0 n j (let l = slice_get_within met i.0 n i.1 in omega arith) i.1 w) r
 
-  leads_end : (a b c : ℕ) → Reaches waits a b → Has (waits b) c → Reaches waits a c
+  pub leads_end : (a b c : ℕ) → Reaches waits a b → Has (waits b) c → Reaches waits a c
   leads_end a b c stays h = waits_on h stays
   leads_end a b c (waits_on {m = i} w r) h = waits_on w (leads_end i b c r h)
 

@@ -12,6 +12,13 @@ pub record IsNoted (number parent : ℕ) (met parents later_met later_parents : 
   pub numbers : later_met ≡ met ++ cond (list_any (nat_eq number) met) [] (number ∷ [])
   pub indices : later_parents ≡ parents ++ cond (list_any (nat_eq number) met) [] (parent ∷ [])
 
+-- these numbers were noted: each that was not there before came to the end, once
+pub record NotesAll (numbers met later : List ℕ) : Type 0 where
+  pub grows : Grows met later
+  pub all : (m : ℕ) → Has numbers m → Has later m
+  pub only : (m : ℕ) → Has later m → Has met m ⊎ Has numbers m
+  pub distinct : AreDistinct met → AreDistinct later
+
 module _ (waits : ℕ → List ℕ) where
   -- zero or more waits lead from one number to another
   pub data Reaches : ℕ → ℕ → Type 0 where
@@ -21,6 +28,12 @@ module _ (waits : ℕ → List ℕ) where
   -- all that is waited for is below this number
   abbrev pub AreBelow : ℕ → Type 0
   AreBelow count = (n m : ℕ) → Has (waits n) m → m < count
+
+  -- just the numbers to which waits lead from the start, each once
+  pub record AreAllFrom (start : ℕ) (met : List ℕ) : Type 0 where
+    pub all : (n : ℕ) → Reaches start n → Has met n
+    pub only : (n : ℕ) → Has met n → Reaches start n
+    pub distinct : AreDistinct met
 
   -- the number at index i came there through the wait of an earlier one
   pub record CameBy (met parents : List ℕ) (i n : ℕ) : Type 0 where

@@ -4,4 +4,4 @@
 mod trail;
 mod walk;
 
-pub use walk::{Waits, way};
+pub use walk::{Waits, all_from, way};

@@ -7,7 +7,7 @@ use indexmap::IndexSet;
 use std::alloc::Global;
 
 /// How many numbers a walk mostly meets at most.
-const ROOM: usize = 28;
+pub(crate) const ROOM: usize = 28;
 
 /// The numbers that a walk has met, in their order, and beside each the index of the one through whose wait it was met.
 pub(crate) struct Trail {

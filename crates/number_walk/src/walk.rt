@@ -1,10 +1,11 @@
 //! The walk.
 ghost use Rattle.std.specs.Prelude.{◌≡◌, ◌<◌, true, false, slice_get, Some, List, ℕ, IfOk, IfSome, IfNone, OnOk};
 ghost use Rattle.lists.specs.Lists.{Has};
-ghost use Rattle.number_walk.specs.Reach.{Reaches, AreBelow, IsTrail, IsWaited, Grows, IsWay};
+ghost use Rattle.number_walk.specs.Reach.{Reaches, AreBelow, AreAllFrom, IsTrail, IsWaited, Grows, IsWay, NotesAll};
 
-use crate::trail::Trail;
+use crate::trail::{ROOM, Trail};
 use dice_key::NoMemory;
+use indexmap::IndexSet;
 use std::alloc::Global;
 
 /// Numbers that wait for numbers.
@@ -47,6 +48,39 @@ pub fn way<W: Waits>(
         head += 1;
     }
     Ok(None)
+}
+
+/// All numbers to which waits lead from `start`, which is among them, in the order in which a walk meets them.
+///
+/// Each number is met at most once, and each of its waits passed at most once.
+pub fn all_from<W: Waits>(
+    alloc: Global,
+    graph: &W,
+    start: usize,
+) -> Result<IndexSet<usize>, NoMemory>
+    requires below { AreBelow (W.waits graph.now) (W.count graph.now) }
+    requires start { start < W.count graph.now }
+    ensures { IfOk result (λ s. AreAllFrom (W.waits graph.now) start s.keys) }
+{
+    let mut met = IndexSet::with_capacity(alloc, ROOM)?;
+    met.insert(start)?;
+    let mut next = 0;
+    while let Some(number) = met.as_slice().get(next) {
+        let number = *number;
+        note_all(graph, &mut met, number)?;
+        next += 1;
+    }
+    Ok(met)
+}
+
+/// Notes all that a number waits for, but what was met before.
+fn note_all<W: Waits>(graph: &W, met: &mut IndexSet<usize>, number: usize) -> Result<(), NoMemory>
+    ensures { OnOk result (NotesAll (W.waits graph.now number) met.old.keys met.new.keys) }
+{
+    for awaited in graph.waits_of(number) {
+        met.insert(*awaited)?;
+    }
+    Ok(())
 }
 
 /// Notes all that the number at an index waits for; `true` if it waits for the goal.

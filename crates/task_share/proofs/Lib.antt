@@ -1,3 +1,4 @@
+pub mod AboveLemmas
 pub mod PlaceLemmas
 mod NumberLemmas
 pub mod TurnLemmas

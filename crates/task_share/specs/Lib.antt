@@ -4,3 +4,4 @@ pub mod Numbers
 pub mod Listed
 pub mod Askers
 pub mod Lent
+pub mod Above

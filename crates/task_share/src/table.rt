@@ -6,6 +6,7 @@ ghost use Rattle.std.specs.Map.{lookup};
 ghost use Rattle.std.specs.Option.{option_copied, option_copied_mut, option_map};
 ghost use Rattle.std.specs.Borrow.{sem};
 ghost use Rattle.dice_key.specs.Lawful.{IsEquality};
+ghost use Rattle.task_share.specs.Above.{askers_by};
 ghost use Rattle.task_share.specs.Asked.{By, Promised, Tasked, is_by, IsDone, Takes};
 ghost use Rattle.task_share.specs.Askers.{by_of};
 ghost use Rattle.task_share.specs.Lent.{LendsTask};
@@ -382,6 +383,16 @@ impl<K: Eq + Hash + Drop, T: Drop> Table<K, T> {
         ensures none { IfNone result (lookup (K.eq (arc_value key.now)) self.now ≡ None) }
     {
         self.places.get_index_of(key)
+    }
+
+    /// The numbers of the keys whose tasks ask for the key of a number, in no order.
+    pub fn askers_of(&self, number: usize) -> &[usize]
+        ensures { result.now ≡ askers_by K.eq self.now number }
+    {
+        match self.places.get_index(number) {
+            Some((_, place)) => place.askers.keys().as_slice(),
+            None => &[],
+        }
     }
 
     /// The key of a number.

@@ -1,5 +1,5 @@
 //! Cycles among waits, with numbers for keys.
-use cycle_guard::would_close;
+use cycle_guard::{count_above, would_close};
 use dice_key::NoMemory;
 use std::alloc::Global;
 use std::sync::Arc;
@@ -67,6 +67,19 @@ fn a_second_branch_is_searched(rt: HostRuntime) -> Result<(), Fail> {
     let table = waiting(rt.alloc(), &[(1, 4), (1, 2), (2, 4), (2, 3)])?;
     for row in &BRANCHES {
         assert!(rt; closes(rt.alloc(), &table, row)?);
+    }
+    Ok(())
+}
+
+/// A key, and how many tasks ask for it, directly or through others, with its own.
+const ABOVE: [(u32, usize); 5] = [(4, 3), (3, 3), (2, 2), (1, 1), (5, 1)];
+
+#[test]
+fn who_asks_through_others_is_counted_once(rt: HostRuntime) -> Result<(), Fail> {
+    let table = waiting(rt.alloc(), &[(1, 4), (1, 2), (2, 4), (2, 3)])?;
+    for row in &ABOVE {
+        let key = Arc::new(rt.alloc(), row.0)?;
+        assert_eq!(rt; count_above(rt.alloc(), &table, &key)?, row.1);
     }
     Ok(())
 }

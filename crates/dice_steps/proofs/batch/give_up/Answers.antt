@@ -1,4 +1,4 @@
-use Rattle.std.proofs.Common.{◌∙◌, ap, reverse}
+use Rattle.std.proofs.Common.{◌∙◌, ap, subst, sym, reverse}
 use Rattle.std.specs.Arc.{arc_value}
 use Rattle.journal.specs.Events.{ended_at}
 use Rattle.dice_tasks.specs.Endings.{path_of}
@@ -20,7 +20,7 @@ cascade-requires-clause-cleaning g c l o =
 pub cascade-requires-clause-after : goal.cascade-requires-clause-after
 cascade-requires-clause-after g c l o =
     let e = c.end_all.ensures.ends in
-    ap (λ es. ended_at (reverse es)) e.1.events ∙ ended_last c.args.version (path_of c.args.how.now) c.args.desk.now.events e.0 _ e.1.first.1 e.1.comes
+    ap (λ es. ended_at (reverse es)) e.1.events ∙ ended_last c.args.version (path_of c.args.how) c.args.desk.now.events e.0 _ e.1.first.1 e.1.comes
 
 pub returns-clause-ends : goal.returns-clause-ends
 returns-clause-ends g c =
@@ -34,7 +34,7 @@ returns-clause-ends g c =
       ended = e.1;
       own = e.3;
       askers = e.2;
-      once = told_once g.U.Key.PartialEq.eq c.laws_of.ensures.keys c.args.version (path_of c.args.how.now) (arc_value c.args.key.now) e.0 d.0 _ _ _ _ _ _ e.1 d.1;
+      once = told_once g.U.Key.PartialEq.eq c.laws_of.ensures.keys c.args.version (path_of c.args.how) (arc_value c.args.key.now) e.0 d.0 _ _ _ _ _ _ e.1 d.1;
       dropped = d.1;
     }
 
@@ -45,8 +45,8 @@ returns-clause-given g c =
     let d = c.cascade.ensures.dropped in
     let eq = g.U.Key.PartialEq.eq in
     let k = arc_value c.args.key.now in
-    given_up eq c.laws_of.ensures.keys c.args.version (path_of c.args.how.now) k e.0 d.0 _ _ _ _ _ _ e.1 d.1
-    (off_after eq c.laws_of.ensures.keys g.U.Universe.meaning c.args.version (path_of c.args.how.now) k e.0 _ _ _ _ e.1 _ r.0 r.1 (c.end_all.ensures.kept r.0 r.1 r.4.working))
+    given_up eq c.laws_of.ensures.keys c.args.version (path_of c.args.how) k e.0 d.0 _ _ _ _ _ _ e.1 d.1
+    (off_after eq c.laws_of.ensures.keys g.U.Universe.meaning c.args.version (path_of c.args.how) k e.0 _ _ _ _ e.1 _ r.0 r.1 (c.end_all.ensures.kept r.0 r.1 r.4.working))
 
 pub returns-clause-kept : goal.returns-clause-kept
 returns-clause-kept g c w owed es s hand =
@@ -55,5 +55,5 @@ returns-clause-kept g c w owed es s hand =
     let e = c.end_all.ensures.ends in
     let d = c.cascade.ensures.dropped in
     let work = c.end_all.ensures.kept w owed hand.working in
-    at_hand_after eq c.laws_of.ensures.keys m c.args.version (path_of c.args.how.now) (arc_value c.args.key.now) e.0 d.0 _ _ _ _ _ _ e.1 d.1 c.end_all.ensures.ended (c.cascade.ensures.tasked (c.end_all.ensures.tasked hand.tasked)) c.cascade.ensures.done w owed es s hand
+    at_hand_after eq c.laws_of.ensures.keys m c.args.version (path_of c.args.how) (arc_value c.args.key.now) e.0 d.0 _ _ _ _ _ _ e.1 d.1 c.end_all.ensures.ended (c.cascade.ensures.tasked (c.end_all.ensures.tasked hand.tasked)) c.cascade.ensures.done w owed es s hand
     (c.cascade.ensures.kept w owed (cleaning_of eq c.laws_of.ensures.keys m c.laws_of.ensures.lawful c.args.version w owed _ _ work))

@@ -1,5 +1,7 @@
 use Rattle.std.proofs.Common.{[], Some, refl, sym, ap, subst}
 use Rattle.std.specs.Arc.{arc_value}
+use Rattle.task_share.specs.Above.{AreCounted}
+use Rattle.task_share.specs.Seen.{asked_of}
 use Rattle.dice_steps.specs.Batches.{GivesUp}
 use Rattle.dice_tasks.specs.Endings.{GivesUpAll}
 use Rattle.dice_steps.specs.Plans.{IsPlan, IsPlanDone}
@@ -20,13 +22,15 @@ give_up-requires-clause-reached g c l o =
     let eq = g.U.Key.PartialEq.eq in
     let m = g.U.Universe.meaning in
     let r = c.requires.hand in
-    own_path eq c.laws_of.ensures.keys m c.laws_of.ensures.lawful c.args.version (arc_value c.args.key.now) c.args.parked.job c.requires.own.0 c.args.parked.keys r.0 r.1 _ _ _ r.2 r.3 c.requires.out c.requires.next (arc_value c.in-Ends.path)
+    own_path eq c.laws_of.ensures.keys m c.laws_of.ensures.lawful c.args.version (arc_value c.args.key.now) c.args.parked.job c.requires.own.0 c.args.parked.keys r.0 r.1 _ _ _ r.2 r.3 c.requires.out c.requires.next c.in-Ends.owners.path
     (subst (λ z. IsPlan eq m c.args.version r.1 c.args.parked.job c.args.parked.keys c.args.tasks.now c.args.desk.now c.args.graph.now r.2 z) c.in-Ends.is r.4).0
 
-pub give_up-requires-clause-own : goal.give_up-requires-clause-own
-give_up-requires-clause-own g c l o =
+pub give_up-requires-clause-enough : goal.give_up-requires-clause-enough
+give_up-requires-clause-enough g c l o =
+    let eq = g.U.Key.PartialEq.eq in
     let r = c.requires.hand in
-    ap Some (subst (λ z. IsPlan g.U.Key.PartialEq.eq g.U.Universe.meaning c.args.version r.1 c.args.parked.job c.args.parked.keys c.args.tasks.now c.args.desk.now c.args.graph.now r.2 z) c.in-Ends.is r.4).1
+    subst (λ z. AreCounted (asked_of eq c.args.tasks.now) z c.in-Ends.owners.count) c.requires.own.0
+    (subst (λ z. IsPlan eq g.U.Universe.meaning c.args.version r.1 c.args.parked.job c.args.parked.keys c.args.tasks.now c.args.desk.now c.args.graph.now r.2 z) c.in-Ends.is r.4).1
 
 pub make_all-requires-clause-hand : goal.make_all-requires-clause-hand
 make_all-requires-clause-hand g c l o =
@@ -110,8 +114,8 @@ returns-in-Ends-clause-given g c =
     let m = g.U.Universe.meaning in
     let r = c.requires.hand in
     let a = c.args.parked.job in
-    ends_given eq m c.args.version a c.args.parked.keys _ _ _ _ (arc_value c.in-Ends.path)
-    (subst (λ z. GivesUp eq c.args.version (Some (arc_value c.in-Ends.path)) z c.args.tasks.now c.args.desk.now c.give_up.new.tasks c.give_up.new.desk) (sym c.requires.own.0) c.give_up.ensures.given)
+    ends_given eq m c.args.version a c.args.parked.keys _ _ _ _ c.in-Ends.owners.path
+    (subst (λ z. GivesUp eq c.args.version (Some c.in-Ends.owners.path) z c.args.tasks.now c.args.desk.now c.give_up.new.tasks c.give_up.new.desk) (sym c.requires.own.0) c.give_up.ensures.given)
     (own_out eq c.laws_of.ensures.keys m c.laws_of.ensures.lawful c.args.version (arc_value c.args.key.now) a c.requires.own.0 c.args.parked.keys r.0 r.1 _ _ _ r.2 r.3 c.requires.out c.requires.next)
 
 pub returns-in-Ends-clause-kept : goal.returns-in-Ends-clause-kept
@@ -190,7 +194,7 @@ returns-in-Ends-clause-done g c w owed s hand plan =
     let eq = g.U.Key.PartialEq.eq in
     let m = g.U.Universe.meaning in
     let a = c.args.parked.job in
-    let path = arc_value c.in-Ends.path in
+    let path = c.in-Ends.owners.path in
     subst (λ z. IsPlanDone eq m c.args.version owed a c.args.parked.keys c.args.tasks.now c.args.desk.now c.args.graph.now s z c.give_up.new.tasks c.give_up.new.desk c.args.graph.now) (sym c.in-Ends.is)
     (record {
       path = path;
