@@ -175,13 +175,13 @@ module _ {K V : Type 0} (eq : K → K → Bool) (equality : IsEquality eq) (m : 
       c = (h.each k t there).computed
 
       found : Goes eq m (commits_of R) v k [] T × (m.next k T v ≡ Ends x) × HasValue eq m (commits_of R) v k x
-      found = same_answers eq m law (commits_of R) (commits_of R) seen.finished v k T x c seen.traced.goes seen.traced.ends seen.lasts (subst (AllTrue (HasValue eq m (commits_of R) v)) same a.work.2)
+      found = same_answers eq m law (commits_of R) (commits_of R) b v k T x c seen.traced.goes seen.traced.ends seen.lasts (subst (AllTrue (HasValue eq m (commits_of R) v)) same a.work.2)
 
   -- a check with a changed answer: its Start is allowed, with that cause, and its task computes from the answers that it has
   pub differs : (T A : List (Answered K V)) (x : V) (b : ℕ) (d : K) → t.standing ≡ Works (Checks x T b) IsOut A → ChangesFirst T A d → IsWanted eq m R v k → SameAsks eq s u → SameLives eq s u → Puts eq k (Some (record { born = t.born; standing = Works Computes IsReady A })) ts us
       → IsAllowed eq m R (Start v k (Differs b d)) × VersionStands eq m (Start v k (Differs b d) ∷ R) v W u us
   differs T A x b d e f wanted sa sl p = (
-    (wanted, (a.undecided, runs_as (Works (Checks x T b) IsOut A) e), (seen.base, seen.finished, backs, cause), c),
+    (wanted, (a.undecided, runs_as (Works (Checks x T b) IsOut A) e), (seen.base, b, backs, cause), c),
     task_turns eq equality m R (Start v k (Differs b d) ∷ R) v k (start_leaves eq equality R v k (Differs b d)) W s u ts us h t there (ap goes_on e) (Works Computes IsReady A) (ap waits_for e) refl refl sa sl p
         (record { undecided = a.undecided; work = goes; asks = tt }) (ap (λ b. b || is_running eq R v k) (named eq equality v k)),
   )
@@ -195,8 +195,8 @@ module _ {K V : Type 0} (eq : K → K → Bool) (equality : IsEquality eq) (m : 
       c : m.kind k ≢ Injected
       c = (h.each k t there).computed
 
-      backs : Backs eq m R seen.finished b k
-      backs = record { base = seen.finished_base; below = seen.below; alike = record { value = x; first = trace_value eq m (commits_of R) seen.finished law k T x c seen.traced.goes seen.traced.ends; second = seen.same } }
+      backs : Backs eq m R b b k
+      backs = record { base = seen.base; below = omega arith; alike = record { value = x; first = trace_value eq m (commits_of R) b law k T x c seen.traced.goes seen.traced.ends; second = seen.same } }
 
       last : Answered K V
       last = record { keys = f.batch.keys; values = f.answers }
@@ -207,11 +207,11 @@ module _ {K V : Type 0} (eq : K → K → Bool) (equality : IsEquality eq) (m : 
       there_now : AllTrue (HasValue eq m (commits_of R) v) (f.before ++ last ∷ [])
       there_now = subst (AllTrue (HasValue eq m (commits_of R) v)) answered a.work.2
 
-      was_traced : Goes eq m (commits_of R) seen.finished k [] (f.before ++ f.batch ∷ f.later)
-      was_traced = subst (Goes eq m (commits_of R) seen.finished k []) f.trace_is seen.traced.goes
+      was_traced : Goes eq m (commits_of R) b k [] (f.before ++ f.batch ∷ f.later)
+      was_traced = subst (Goes eq m (commits_of R) b k []) f.trace_is seen.traced.goes
 
       goes : Goes eq m (commits_of R) v k [] A
-      goes = subst (Goes eq m (commits_of R) v k []) (sym answered) (goes_changed eq m law (commits_of R) seen.finished v k f.before f.later f.batch f.answers was_traced there_now)
+      goes = subst (Goes eq m (commits_of R) v k []) (sym answered) (goes_changed eq m law (commits_of R) b v k f.before f.later f.batch f.answers was_traced there_now)
 
       split : AllTrue (HasValue eq m (commits_of R) v) f.before × AllZip (HasValue eq m (commits_of R) v) f.batch.keys f.answers
       split = last_values eq m (commits_of R) v f.before last there_now
@@ -220,7 +220,7 @@ module _ {K V : Type 0} (eq : K → K → Bool) (equality : IsEquality eq) (m : 
       first = zip_split (HasValue eq m (commits_of R) v) f.keys_before f.keys_later d f.same f.now_later f.now f.counted
           (subst (λ xs. AllZip (HasValue eq m (commits_of R) v) (f.keys_before ++ d ∷ f.keys_later) xs) f.answers_are (subst (λ ks. AllZip (HasValue eq m (commits_of R) v) ks f.answers) f.keys_are split.1))
 
-      cause : DiffersFirst eq m (commits_of R) seen.finished v k d
+      cause : DiffersFirst eq m (commits_of R) b v k d
       cause = record {
         computed = c;
         before = f.before;
@@ -228,7 +228,7 @@ module _ {K V : Type 0} (eq : K → K → Bool) (equality : IsEquality eq) (m : 
         later = f.later;
         goes = was_traced;
         value = x;
-        ends = subst (λ B. m.next k B seen.finished ≡ Ends x) f.trace_is seen.traced.ends;
+        ends = subst (λ B. m.next k B b ≡ Ends x) f.trace_is seen.traced.ends;
         agreed = split.0;
         keys_before = f.keys_before;
         keys_later = f.keys_later;

@@ -52,13 +52,10 @@ module _ {K V : Type 0} (eq : K → K → Bool) (m : Meaning K V) (R S : List (T
   -- what was seen was seen
   pub seen_on : (k : K) (x : V) (T : List (Answered K V)) (b : ℕ) → WasSeen eq m R k x T b → WasSeen eq m S k x T b
   seen_on k x T b s = record {
-    finished = s.finished;
-    traced = record { computed = s.traced.computed; goes = goes_on s.finished (let h = s.below in let l = s.within in omega arith) k T s.traced.goes; ends = s.traced.ends };
-    below = s.below;
+    traced = record { computed = s.traced.computed; goes = goes_on b s.within k T s.traced.goes; ends = s.traced.ends };
     within = versions_on b s.within;
     same = value_on b s.within k x s.same;
     lasts = s.lasts;
-    finished_base = c.bases s.finished k s.finished_base;
     base = c.bases b k s.base;
   }
 

@@ -31,7 +31,7 @@ module _ {K : Type 0} (eq : K → K → Bool) where
 module _ {K V : Type 0} (eq : K → K → Bool) (m : Meaning K V) (R : List (Told K V)) where
   start_work : (w : ℕ) (q : K) (c : Reason K) (v : ℕ) (k : K) (o : Work K V) (A : List (Answered K V)) → WorkStands eq m R v k o A → WorkStands eq m (Start w q c ∷ R) v k o A
   start_work w q c v k Computes A h = h
-  start_work w q c v k (Checks x T b) A h = (record { finished = h.0.finished; traced = h.0.traced; below = h.0.below; within = h.0.within; same = h.0.same; lasts = h.0.lasts; finished_base = h.0.finished_base; base = h.0.base }, h.1, h.2)
+  start_work w q c v k (Checks x T b) A h = (record { within = h.0.within; base = h.0.base; traced = h.0.traced; same = h.0.same; lasts = h.0.lasts }, h.1, h.2)
 
   start_standing : (w : ℕ) (q : K) (c : Reason K) (v : ℕ) (k : K) (p : Standing K V) → IsStanding eq m R v k p → IsStanding eq m (Start w q c ∷ R) v k p
   start_standing w q c v k (Works o p A) h = record { undecided = h.undecided; work = start_work w q c v k o A h.work; asks = h.asks }
@@ -55,13 +55,10 @@ module _ {K V : Type 0} (eq : K → K → Bool) (m : Meaning K V) (R : List (Tol
   keep_work w q b v k Computes A h = h
   keep_work w q b v k (Checks x T c) A h = (
     record {
-      finished = h.0.finished;
       traced = h.0.traced;
-      below = h.0.below;
       within = h.0.within;
       same = h.0.same;
       lasts = h.0.lasts;
-      finished_base = or_right (names_by eq w q h.0.finished k) (is_base eq R h.0.finished k) h.0.finished_base;
       base = or_right (names_by eq w q c k) (is_base eq R c k) h.0.base;
     },
     h.1,

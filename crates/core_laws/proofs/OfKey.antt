@@ -139,13 +139,10 @@ module _ {K V : Type 0} (eq : K → K → Bool) where
 module _ {K V : Type 0} (eq : K → K → Bool) (m : Meaning K V) (R S : List (Told K V)) (v : ℕ) (k : K) (f : LeavesOthers eq R S v k) where
   seen_on : (q : K) (x : V) (T : List (Answered K V)) (b : ℕ) → WasSeen eq m R q x T b → WasSeen eq m S q x T b
   seen_on q x T b h = record {
-    finished = h.finished;
     traced = rw f.commits h.traced;
-    below = h.below;
     within = rw f.commits h.within;
     same = rw f.commits h.same;
     lasts = h.lasts;
-    finished_base = f.bases h.finished q h.finished_base;
     base = f.bases b q h.base;
   }
 

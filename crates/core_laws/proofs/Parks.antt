@@ -33,14 +33,13 @@ module _ {K V : Type 0} (eq : K → K → Bool) (equality : IsEquality eq) (m : 
   pub asks_of_next : (k : K) (w : Work K V) (A : List (Answered K V)) (ks : List K) → WorkStands eq m R v k w A → AsksNext eq m v k w A (IsWaiting ks) → m.kind k ≢ Injected → (d : K) → Has ks d → AsksFor eq m (commits_of R) v k d
   asks_of_next k Computes A ks g n computed d h = record { computed = computed; before = A; goes = g; keys = ks; asks = n; among = h }
   asks_of_next k (Checks x T b) A ks g n computed d h =
-      let was = g.0.finished in
-      let f = goes_first eq m (commits_of R) was k [] A n.batch n.later (subst (λ S. Goes eq m (commits_of R) was k [] S) n.trace_is g.0.traced.goes) in
+      let f = goes_first eq m (commits_of R) b k [] A n.batch n.later (subst (λ S. Goes eq m (commits_of R) b k [] S) n.trace_is g.0.traced.goes) in
       record {
         computed = computed;
         before = A;
-        goes = goes_alike eq m law (commits_of R) (commits_of R) was v k [] A f.0 g.2;
+        goes = goes_alike eq m law (commits_of R) (commits_of R) b v k [] A f.0 g.2;
         keys = ks;
-        asks = law.asks_alike k A was v ks (subst (λ l. m.next k A was ≡ Asks l) n.keys_are f.1);
+        asks = law.asks_alike k A b v ks (subst (λ l. m.next k A b ≡ Asks l) n.keys_are f.1);
         among = h;
       }
 

@@ -14,17 +14,14 @@ use Rattle.dice_jobs.specs.Jobs.{Checks, Computes, Work}
 use Rattle.dice_jobs.specs.Truths.{Follows}
 
 module _ {K V : Type 0} (eq : K → K → Bool) (m : Meaning K V) where
-  -- a value x of k that was looked at, with its trace T and its version b: the trace is that of a base, which is at most b; b is a base;
-  -- k has the value at both; and it is not transient
+  -- a value x of k that was looked at, with its trace T and its version b: b is a base, at which k comes to x by T; and x is not
+  -- transient
   pub record WasSeen (R : List (Told K V)) (k : K) (x : V) (T : List (Answered K V)) (b : ℕ) : Type 0 where
-    pub finished : ℕ
-    pub traced : IsTrace eq m (commits_of R) finished k T x
-    pub below : finished ≤ b
     pub within : b ≤ length (commits_of R)
+    pub base : is_base eq R b k ≡ true
+    pub traced : IsTrace eq m (commits_of R) b k T x
     pub same : HasValue eq m (commits_of R) b k x
     pub lasts : m.is_transient x ≡ false
-    pub finished_base : is_base eq R finished k ≡ true
-    pub base : is_base eq R b k ≡ true
 
   -- an outcome is true, and the key was decided so
   abbrev pub OutcomeStands : List (Told K V) → ℕ → K → Outcome K V → Type 0

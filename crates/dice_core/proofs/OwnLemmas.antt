@@ -6,7 +6,7 @@ use Rattle.task_share.specs.Seen.{asked_of}
 use Rattle.journal.specs.declared.event.Told.{Told}
 use Rattle.journal.specs.Events.{commits_of}
 use Rattle.dice_jobs.specs.Jobs.{Name, Work, Computes, Checks, Assigned}
-use Rattle.dice_jobs.specs.Alike.{AreAlike, AnsweredTruly, IsAnsweredIn}
+use Rattle.dice_jobs.specs.Alike.{AreAlike, AreTrulyAnswered, AnsweredTruly, IsAnsweredIn}
 use Rattle.core_laws.specs.Tasks.{Phase, IsOut}
 use Rattle.core_laws.specs.Stands.{WorkStands, IsAtRest}
 use Rattle.dice_tasks.specs.Hands.{tasks_of}
@@ -14,9 +14,9 @@ use Rattle.dice_tasks.specs.Helds.{held_of, task_of}
 use Rattle.dice_core.specs.Cores.{CoreSeen, past_of, table_at, held_in}
 
 module _ {K V : Type 0} (eq : K → K → Bool) (m : Meaning K V) where
-  work_answered : (R : List (Told K V)) (n : Name K) (W : Work K V) (A : List (Answered K V)) → WorkStands eq m R n.version n.key W A → AnsweredTruly eq m (commits_of R) (record { name = n; answered = A; work = W })
-  work_answered R n Computes A h e = h
-  work_answered R n (Checks x T b) A h e = absurd (let z : Checks x T b ≡ Computes = e in cc)
+  work_answered : (R : List (Told K V)) (n : Name K) (W : Work K V) (A : List (Answered K V)) → WorkStands eq m R n.version n.key W A → AreTrulyAnswered eq m (commits_of R) n.version n.key W A
+  work_answered R n Computes A h = h
+  work_answered R n (Checks x T b) A h = (h.0.within, h.0.traced, h.1, h.2)
 
   module _ (c : CoreSeen K V) (rests : (v : ℕ) → IsAtRest eq m (past_of c) v (asked_of eq (table_at c.tables v)) (tasks_of eq (table_at c.tables v))) where
     -- the job of a task at work is answered with the values at its version

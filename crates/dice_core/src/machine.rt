@@ -290,7 +290,7 @@ impl<U: Universe> Core<U> {
         ensures none { IfNone result ((self.old.desk.ready ≡ []) × (self.new ≡ self.old)) }
         ensures some { IfSome result (λ j. TakesOut U.Key.eq j self.old self.new) }
 
-        // If the job computes, its answers are the values at its version, which is no later than the newest one.
+        // Its answers are the values at its version, which is no later than the newest one; what it checks is the key's value at its base.
         ensures answered { IfSome result (IsAnsweredIn U.Key.eq U.meaning (commits_of (past_of self.new))) }
         ensures events { events_of self.new ≡ events_of self.old }
         ensures rest { (self.new.entries ≡ self.old.entries) × (self.new.cells ≡ self.old.cells) × (self.new.sessions ≡ self.old.sessions) }
@@ -359,7 +359,7 @@ impl<U: Universe> Core<U> {
     }
 
     /// Takes up a step whose answers are known to be the values at its version, as of a job that this core gave out. All is
-    /// as by `give`; but the answers of a run are not compared, since no other answers could be as many.
+    /// as by `give`; but no values are compared, since no other answers could be as many, and a key has one trace at a base.
     pub fn give_own(&mut self, step: Step<U>) -> Result<Gave<U>, (NoMemory, Step<U>)>
         requires { AnsweredTruly U.Key.eq U.meaning (commits_of (past_of self.old)) step.job }
         ensures stale { IfOk result (λ g. IfSome (stale_of g) (HandsBack U.Key.eq U.meaning U.Value.eq step self.old self.new)) }

@@ -3,7 +3,7 @@ ghost use Rattle.std.specs.Prelude.{◌≡◌, [], length, IfOk, IsTrue, ◌↔�
 ghost use Rattle.std.specs.Option.{option_copied};
 ghost use Rattle.std.specs.Arc.{arc_value};
 ghost use Rattle.dice_jobs.specs.Jobs.{answered_more, computing, Computes};
-ghost use Rattle.dice_jobs.specs.Alike.{AreAlike};
+ghost use Rattle.dice_jobs.specs.Alike.{AreAlike, WorksAlike};
 ghost use Rattle.dice_jobs.specs.Shapes.{answers_in, batches_in, work_in, work_of};
 
 use crate::name::JobName;
@@ -218,15 +218,14 @@ impl<U: Universe> Assignment<U> {
             && are_same_work(&self.progress, &other.progress)
     }
 
-    /// Whether the two have the same name and work, and are equally far: of computations equally many batches are answered, of checks the
-    /// same ones. For computations it costs no more than a comparison of their keys.
+    /// Whether the two have the same name, compute or check a value of the same base, and are answered equally many batches. It costs
+    /// a comparison of their keys, and of no value.
     pub fn is_alike(&self, other: &Assignment<U>) -> bool
         ensures { IsTrue result ↔ AreAlike self.now other.now }
     {
-        match (&self.progress, &other.progress) {
-            (Progress::Checks(_), _) | (_, Progress::Checks(_)) => self.is_same(other),
-            (one, two) => self.name.is_same(&other.name) && batch_count(one) == batch_count(two),
-        }
+        self.name.is_same(&other.name)
+            && work_alike(&self.progress, &other.progress)
+            && batch_count(&self.progress) == batch_count(&other.progress)
     }
 }
 
@@ -333,6 +332,17 @@ fn are_same_batches<U: Universe>(a: &Progress<U>, b: &Progress<U>) -> bool
         (None, None) => true,
         (Some(one), None) | (None, Some(one)) => one.len() == 0,
         (Some(one), Some(other)) => one.is_same(other),
+    }
+}
+
+/// Whether both compute, or both check a value of the same base.
+fn work_alike<U: Universe>(a: &Progress<U>, b: &Progress<U>) -> bool
+    ensures { IsTrue result ↔ WorksAlike (work_in a.now) (work_in b.now) }
+{
+    match (earlier_of(a), earlier_of(b)) {
+        (None, None) => true,
+        (Some(one), Some(other)) => one.base == other.base,
+        (Some(_), None) | (None, Some(_)) => false,
     }
 }
 

@@ -38,8 +38,9 @@ pub fn steps_tell_the_truth<U: Universe>()
     laws_of::<U>();
 }
 
-/// Jobs that are alike are the same, if the answers of those that compute are the values at their version: no other answers could be
-/// as many. Such answers stay the values over every log that goes on.
+/// Jobs that are alike are the same, if their answers are the values at their version, and if what a check checks is the key's value
+/// at its base, with its trace: no other answers could be as many, and a key has one trace at a version. Such answers stay the values
+/// over every log that goes on.
 pub fn true_jobs_are_one<U: Universe>()
     ensures one { (C : List (List (U.Key × U.Value))) (a b : Assigned U.Key U.Value) → AreAlike a b → AnsweredTruly U.Key.eq U.meaning C a → AnsweredTruly U.Key.eq U.meaning C b → a ≡ b }
     ensures longer { (C D : List (List (U.Key × U.Value))) (a : Assigned U.Key U.Value) → IsAnsweredIn U.Key.eq U.meaning C a → IsAnsweredIn U.Key.eq U.meaning (C ++ D) a }

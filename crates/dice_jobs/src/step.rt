@@ -77,8 +77,8 @@ impl<U: Universe> Step<U> {
         self.assignment.is_same(assignment)
     }
 
-    /// Whether its job is like this assignment: of its name and work, and equally far. For a computation it costs no more than a
-    /// comparison of their keys.
+    /// Whether its job is like this assignment: of its name, of the same kind of work from the same base, and answered equally many
+    /// batches. It costs a comparison of their keys, and of no value.
     pub fn is_like(&self, assignment: &Assignment<U>) -> bool
         ensures { IsTrue result ↔ AreAlike self.now.job assignment.now }
     {

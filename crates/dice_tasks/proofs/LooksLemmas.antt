@@ -1,5 +1,5 @@
 -- What a look-up says, if the entries stand.
-use Rattle.std.proofs.Common.{◌≡◌, ◌≤◌, ◌⊎◌, inl, inr, ℕ, Bool, true, false, cond, ◌||◌, eqb, List, ◌∷◌, length, Option, Some, None, refl, sym, ap, ◌∙◌, subst}
+use Rattle.std.proofs.Common.{◌≡◌, ◌≤◌, ◌⊎◌, inl, inr, ℕ, Bool, true, false, cond, ◌||◌, eqb, List, ◌∷◌, length, Option, Some, None, refl, sym, ap, ◌∙◌, subst, arith}
 use Rattle.std.proofs.lemmas.Bool.{both_ways, and_right}
 use Rattle.dice_key.specs.Meaning.{Meaning, Answered}
 use Rattle.dice_model.specs.Eval.{HasValue}
@@ -112,15 +112,13 @@ module _ {K V : Type 0} (eq : K → K → Bool) (m : Meaning K V) (R : List (Tol
               let d : f.value ≡ x = cc in
               let j : f.trace ≡ T = cc in
               let i : f.version ≡ b = cc in
-              let from = h.backed k f p in
+              let s = (h.entries_true k f p).0 in
+              let a : IsTrace eq m (commits_of R) f.version k f.trace f.value = s.traced f.version (omega arith) s.own s.within in
               record {
-                finished = from.finished;
-                traced = subst (λ A. IsTrace eq m (commits_of R) from.finished k A x) j (subst (IsTrace eq m (commits_of R) from.finished k f.trace) d from.traced);
-                below = subst (λ n. from.finished ≤ n) i from.below;
-                within = subst (λ n. n ≤ length (commits_of R)) i (h.entries_true k f p).0.within;
+                traced = subst (λ n. IsTrace eq m (commits_of R) n k T x) i (subst (λ A. IsTrace eq m (commits_of R) f.version k A x) j (subst (IsTrace eq m (commits_of R) f.version k f.trace) d a));
+                within = subst (λ n. n ≤ length (commits_of R)) i s.within;
                 same = value_there f x b p d i;
                 lasts = ap m.is_transient (sym d) ∙ t;
-                finished_base = from.finished_base;
                 base = base_there f b p i;
               }
 
@@ -150,13 +148,10 @@ module _ {K V : Type 0} (eq : K → K → Bool) (m : Meaning K V) (R : List (Tol
   look_alike S c f (Computes why.New) h = λ b. sym (f b) ∙ h b
   look_alike S c f (Computes (why.Transient b)) h = (sym (f b) ∙ h.0, h.1, h.2, subst (λ C. HasValue eq m C b k h.2) c h.3, h.4)
   look_alike S c f (Checks x T b) h = record {
-    finished = h.finished;
-    traced = subst (λ C. IsTrace eq m C h.finished k T x) c h.traced;
-    below = h.below;
+    traced = subst (λ C. IsTrace eq m C b k T x) c h.traced;
     within = subst (λ C. b ≤ length C) c h.within;
     same = subst (λ C. HasValue eq m C b k x) c h.same;
     lasts = h.lasts;
-    finished_base = sym (f h.finished) ∙ h.finished_base;
     base = sym (f b) ∙ h.base;
   }
 

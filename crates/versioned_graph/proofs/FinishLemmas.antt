@@ -1,7 +1,7 @@
 -- `finish` keeps what is kept.
 use Rattle.std.proofs.Common.{◌≡◌, ◌≢◌, ◌≤◌, ◌<◌, inl, inr, ℕ, suc, Bool, true, false, not, ◌&&◌, ◌||◌, cond, nat_eq, nat_le, List, [], length, Option, Some, None, refl, sym, ap, ◌∙◌, subst, arith, eqb-true}
 use Rattle.std.specs.Prelude.{take}
-use Rattle.std.proofs.lemmas.Bool.{eq-eqb, and_from, and_parts, not-true, or_cases, or_left, or_right}
+use Rattle.std.proofs.lemmas.Bool.{leb-true, leb-false, eq-eqb, and_from, and_parts, not-true, or_cases, or_left, or_right}
 use Rattle.std.proofs.lemmas.Option.{same_Some}
 use Rattle.version_ranges.specs.declared.half_open.Range.{Range}
 use Rattle.version_ranges.specs.Members.{contains}
@@ -13,14 +13,15 @@ use Rattle.dice_model.specs.Log.{last_value_of}
 use Rattle.dice_model.specs.Eval.{HasValue}
 use Rattle.dice_model.specs.Asks.{IsTrace, Goes, Reaches, here, through}
 use Rattle.dice_model.proofs.EvalLaws.{one_value}
-use Rattle.dice_model.proofs.Traces.{trace_value}
+use Rattle.dice_model.proofs.Traces.{trace_value, one_trace}
 use Rattle.dice_model.proofs.Alike.{same_answers}
 use Rattle.versioned_graph.specs.Entries.{Kept, Stored, entry_at, if_injected, all_of, known_by, known, marked, joined, finished, goes_in, written}
 use Rattle.versioned_graph.specs.Edges.{is_edge, is_asked, Records}
 use Rattle.versioned_graph.specs.Sound.{IsOpenAt, IsTrue, IsRecorded, IsTailed, Edges, AreTrue, Holds}
 use Rattle.versioned_graph.proofs.Asked.{asked_in_trace, is_asked_of}
 use Rattle.versioned_graph.proofs.Bools.{all_map, HasKey, all_at}
-use Rattle.versioned_graph.proofs.MarkLemmas.{marked_true, trace_true}
+use Rattle.versioned_graph.proofs.MarkLemmas.{marked_trace, marked_true, trace_true}
+use Rattle.versioned_graph.proofs.Unbroken.{marked_sooner}
 use Rattle.version_ranges.proofs.Rounds.{there, longer}
 use Rattle.injected.specs.Rounds.{stays}
 use Rattle.injected.proofs.Rounds.{stays_longer}
@@ -28,25 +29,42 @@ use Rattle.versioned_graph.proofs.Tails.{more_edges, written_tailed}
 use Rattle.std.proofs.lemmas.List.{take_all}
 
 module _ {K V : Type 0} (eq : K → K → Bool) (m : Meaning K V) (law : IsLawful m) (veq : V → V → Bool) (same : AreSame veq) (C : List (List (K × V))) where
+  -- at a version that is not below either own one, and that the older one's ranges have, the trace of the newer one is the key's
+  trace_moved : (k : K) (e n : Kept K V) → e.value ≡ n.value → IsTrue eq m C k e → IsTrue eq m C k n → e.version ≤ n.version → (w : ℕ) → n.version ≤ w → e.ranges w ≡ true → w ≤ length C → IsTrace eq m C w k n.trace e.value
+  trace_moved k e n s p q o w l h i =
+      let j : e.ranges n.version ≡ true = p.unbroken n.version w o l h in
+      let t : e.trace ≡ n.trace = one_trace eq m C n.version k e.trace n.trace e.value n.value (p.traced n.version o j q.within) (q.traced n.version (omega arith) q.own q.within) in
+      subst (λ A. IsTrace eq m C w k A e.value) t (p.traced w (omega arith) h i)
+
   -- the entry that is written is true, if the new one and the one that was there are
-  joined_true : (k : K) (e n : Kept K V) (b : Bool) → e.value ≡ n.value → m.is_transient e.value ≡ false → IsTrue eq m C k e → IsTrue eq m C k n
+  joined_true : (k : K) (e n : Kept K V) (b : Bool) → nat_le e.version n.version ≡ b → e.value ≡ n.value → m.is_transient e.value ≡ false → IsTrue eq m C k e → IsTrue eq m C k n
       → IsTrue eq m C k (record { value = e.value; trace = cond b n.trace e.trace; ranges = λ w. e.ranges w || n.ranges w; version = cond b n.version e.version })
-  joined_true k e n true s lasts p q = record {
+  joined_true k e n true c s lasts p q = record {
     single = λ t. absurd (let z : true ≡ false = sym t ∙ lasts in cc);
-    finished = q.finished;
-    before = q.before;
     within = q.within;
-    traced = subst (IsTrace eq m C q.finished k n.trace) (sym s) q.traced;
+    unbroken = λ u w l i h. elim (or_cases (e.ranges w) (n.ranges w) h) as (λ _. (e.ranges u || n.ranges u) ≡ true) [
+      | inl j ↦ or_left (e.ranges u) (n.ranges u) (p.unbroken u w (omega (arith, leb-true e.version n.version c)) i j)
+      | inr j ↦ or_right (e.ranges u) (n.ranges u) (q.unbroken u w l i j)
+    ];
+    traced = λ w l h i. elim (or_cases (e.ranges w) (n.ranges w) h) as (λ _. IsTrace eq m C w k n.trace e.value) [
+      | inl j ↦ trace_moved k e n s p q (leb-true e.version n.version c) w l j i
+      | inr j ↦ subst (IsTrace eq m C w k n.trace) (sym s) (q.traced w l j i)
+    ];
     same = subst (HasValue eq m C n.version k) (sym s) q.same;
     own = or_right (e.ranges n.version) (n.ranges n.version) q.own;
     holds = λ w h l. elim (or_cases (e.ranges w) (n.ranges w) h) as (λ _. HasValue eq m C w k e.value) [ inl i ↦ p.holds w i l | inr i ↦ subst (HasValue eq m C w k) (sym s) (q.holds w i l) ];
   }
-  joined_true k e n false s lasts p q = record {
+  joined_true k e n false c s lasts p q = record {
     single = λ t. absurd (let z : true ≡ false = sym t ∙ lasts in cc);
-    finished = p.finished;
-    before = p.before;
     within = p.within;
-    traced = p.traced;
+    unbroken = λ u w l i h. elim (or_cases (e.ranges w) (n.ranges w) h) as (λ _. (e.ranges u || n.ranges u) ≡ true) [
+      | inl j ↦ or_left (e.ranges u) (n.ranges u) (p.unbroken u w l i j)
+      | inr j ↦ or_right (e.ranges u) (n.ranges u) (q.unbroken u w (omega (arith, leb-false e.version n.version c)) i j)
+    ];
+    traced = λ w l h i. elim (or_cases (e.ranges w) (n.ranges w) h) as (λ _. IsTrace eq m C w k e.trace e.value) [
+      | inl j ↦ p.traced w l j i
+      | inr j ↦ subst (IsTrace eq m C w k e.trace) (sym s) (trace_moved k n e (sym s) q p (omega (arith, leb-false e.version n.version c)) w l j i)
+    ];
     same = p.same;
     own = or_left (e.ranges e.version) (n.ranges e.version) p.own;
     holds = λ w h l. elim (or_cases (e.ranges w) (n.ranges w) h) as (λ _. HasValue eq m C w k e.value) [ inl i ↦ p.holds w i l | inr i ↦ subst (HasValue eq m C w k) (sym s) (q.holds w i l) ];
@@ -61,21 +79,20 @@ module _ {K V : Type 0} (eq : K → K → Bool) (m : Meaning K V) (law : IsLawfu
       by_version false = p e refl
 
       by_first : (b : Bool) → (veq e.value n.value && not (m.is_transient e.value)) ≡ b → IsTrue eq m C k (cond b (joined m veq e n) (cond (nat_le e.version n.version) n e))
-      by_first true h = joined_true k e n (nat_le e.version n.version) (same e.value n.value (and_parts (veq e.value n.value) _ h).0) (not-true (m.is_transient e.value) (and_parts (veq e.value n.value) _ h).1) (p e refl) q
+      by_first true h = joined_true k e n (nat_le e.version n.version) refl (same e.value n.value (and_parts (veq e.value n.value) _ h).0) (not-true (m.is_transient e.value) (and_parts (veq e.value n.value) _ h).1) (p e refl) q
       by_first false h = by_version (nat_le e.version n.version)
 
   module _ (at : ℕ → K → V) (holds : Holds eq m C at) (es : K → Option (Kept K V)) (true_ones : (k : K) (e : Kept K V) → es k ≡ Some e → IsTrue eq m C k e) where
-    -- the new entry is true, however M was cut
-    pub new_true : (k : K) (v : ℕ) (x : V) (A : List (Answered K V)) (r : ℕ → Bool) → v ≤ length C → IsTrace eq m C v k A x → ((w : ℕ) → r w ≡ true → marked m veq at es v x A w ≡ true) → r v ≡ true → IsTrue eq m C k (record { value = x; trace = A; ranges = r; version = v })
-    new_true k v x A r h t f own = record {
-      own = own;
-      single = λ tr w i. elim (or_cases (nat_eq w v) _ (f w i)) as (λ _. w ≡ v) [ inl p ↦ eqb-true w v p | inr q ↦ absurd (let z = not-true (m.is_transient x) (and_parts (not (m.is_transient x)) (all_of (known m veq at es v w) A) q).0 in let y : true ≡ false = sym tr ∙ z in cc) ];
-      finished = v;
-      before = omega arith;
+    -- the new entry is true
+    pub new_true : (k : K) (v : ℕ) (x : V) (A : List (Answered K V)) → v ≤ length C → IsTrace eq m C v k A x → IsTrue eq m C k (finished m veq at es v x A)
+    new_true k v x A h t = record {
+      own = or_left (nat_eq v v) (not (m.is_transient x) && all_of (known m veq at es v v) A) (eq-eqb v v refl);
+      single = λ tr w i. elim (or_cases (nat_eq w v) _ i) as (λ _. w ≡ v) [ inl p ↦ eqb-true w v p | inr q ↦ absurd (let z = not-true (m.is_transient x) (and_parts (not (m.is_transient x)) (all_of (known m veq at es v w) A) q).0 in let y : true ≡ false = sym tr ∙ z in cc) ];
       within = h;
-      traced = t;
+      unbroken = λ u w l n i. marked_sooner m veq at es v w u l n x A i;
+      traced = λ w _ i l. marked_trace eq m law veq same C at holds es true_ones v h k x A t w i l;
       same = trace_value eq m C v law k A x t.computed t.goes t.ends;
-      holds = λ w i l. marked_true eq m law veq same C at holds es true_ones v h k x A t w (f w i) l;
+      holds = λ w i l. marked_true eq m law veq same C at holds es true_ones v h k x A t w i l;
     }
 
 module _ {K V : Type 0} (eq : K → K → Bool) (m : Meaning K V) (law : IsLawful m) (veq : V → V → Bool) (same : AreSame veq) (C : List (List (K × V))) (at : ℕ → K → V) (holds : Holds eq m C at) (es : K → Option (Kept K V))
@@ -165,8 +182,7 @@ module _ {K V : Type 0} (eq : K → K → Bool) (equality : IsEquality eq) (m : 
   n = finished m veq at (entry_at eq es) v x A
 
   finished_true : IsTrue eq m C k n
-  finished_true = new_true eq m law veq same C at holds (entry_at eq es) (λ j e h. (true_ones j e h).0) k v x A (marked m veq at (entry_at eq es) v x A) within trace
-      (λ w h. h) (or_left (nat_eq v v) (not (m.is_transient x) && all_of (known m veq at (entry_at eq es) v v) A) (eq-eqb v v refl))
+  finished_true = new_true eq m law veq same C at holds (entry_at eq es) (λ j e h. (true_ones j e h).0) k v x A within trace
 
   module _ (records : Records eq m veq k n es fs) where
     -- no edge is taken away

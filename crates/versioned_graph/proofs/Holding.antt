@@ -46,20 +46,18 @@ module _ {K V : Type 0} (eq : K → K → Bool) (m : Meaning K V) (C : List (Lis
     where
       by_max : (max e.version v ≡ e.version) ⊎ ((max e.version v ≡ v) × (e.version ≤ v)) → IsTrue eq m C k (seen_at v e)
       by_max (inl h) = record {
-        finished = t.0.finished;
-        before = let b = t.0.before in omega arith;
         within = let b = t.0.within in omega arith;
-        traced = t.0.traced;
+        unbroken = λ u w n. t.0.unbroken u w (omega arith);
+        traced = λ w n. t.0.traced w (omega arith);
         same = subst (λ n. HasValue eq m C n k e.value) (sym h) t.0.same;
         own = subst (λ n. e.ranges n ≡ true) (sym h) t.0.own;
         single = λ s w i. t.0.single s w i ∙ sym h;
         holds = t.0.holds;
       }
       by_max (inr h) = record {
-        finished = t.0.finished;
-        before = let b = t.0.before in let i = h.1 in let j = h.0 in omega arith;
         within = let j = h.0 in omega arith;
-        traced = t.0.traced;
+        unbroken = λ u w n. t.0.unbroken u w (let i = h.1 in let j = h.0 in omega arith);
+        traced = λ w n. t.0.traced w (let i = h.1 in let j = h.0 in omega arith);
         same = subst (λ n. HasValue eq m C n k e.value) (sym h.0) (t.0.holds v r l);
         own = subst (λ n. e.ranges n ≡ true) (sym h.0) r;
         single = λ s w i. t.0.single s w i ∙ (sym (t.0.single s v r) ∙ sym h.0);

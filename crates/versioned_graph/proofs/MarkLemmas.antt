@@ -63,10 +63,14 @@ module _ {K V : Type 0} (eq : K → K → Bool) (m : Meaning K V) (law : IsLawfu
       let p = and_parts (list_all (known m veq at es v w) b.keys) (all_of (known m veq at es v w) bs) e in
       (batch_true v w hv hw b.keys b.values g.1 p.0, trace_true v w hv hw k (before ++ b ∷ []) bs g.2 p.1)
 
-  -- M is sound: at each version in it, up to the newest, the key has the finished value
-  pub marked_true : (v : ℕ) → v ≤ length C → (k : K) (x : V) (A : List (Answered K V)) → IsTrace eq m C v k A x → (w : ℕ) → marked m veq at es v x A w ≡ true → w ≤ length C → HasValue eq m C w k x
-  marked_true v hv k x A t w e h = elim (or_cases (nat_eq w v) _ e) as (λ _. HasValue eq m C w k x) [
-    | inl p ↦ subst (λ n. HasValue eq m C n k x) (sym (eqb-true w v p)) (trace_value eq m C v law k A x t.computed t.goes t.ends)
+  -- M is sound: at each version in it, up to the newest, the key comes to the finished value by the finished trace
+  pub marked_trace : (v : ℕ) → v ≤ length C → (k : K) (x : V) (A : List (Answered K V)) → IsTrace eq m C v k A x → (w : ℕ) → marked m veq at es v x A w ≡ true → w ≤ length C → IsTrace eq m C w k A x
+  marked_trace v hv k x A t w e h = elim (or_cases (nat_eq w v) _ e) as (λ _. IsTrace eq m C w k A x) [
+    | inl p ↦ subst (λ n. IsTrace eq m C n k A x) (sym (eqb-true w v p)) t
     | inr q ↦ (let b = and_parts (not (m.is_transient x)) (all_of (known m veq at es v w) A) q in
-        (same_answers eq m law C C v w k A x t.computed t.goes t.ends (not-true (m.is_transient x) b.0) (trace_true v w hv h k [] A t.goes b.1)).2)
+        let s = same_answers eq m law C C v w k A x t.computed t.goes t.ends (not-true (m.is_transient x) b.0) (trace_true v w hv h k [] A t.goes b.1) in
+        record { computed = t.computed; goes = s.0; ends = s.1 })
   ]
+
+  pub marked_true : (v : ℕ) → v ≤ length C → (k : K) (x : V) (A : List (Answered K V)) → IsTrace eq m C v k A x → (w : ℕ) → marked m veq at es v x A w ≡ true → w ≤ length C → HasValue eq m C w k x
+  marked_true v hv k x A t w e h = let s = marked_trace v hv k x A t w e h in trace_value eq m C w law k A x s.computed s.goes s.ends

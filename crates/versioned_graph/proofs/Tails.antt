@@ -10,7 +10,8 @@ use Rattle.dice_model.specs.Eval.{HasValue}
 use Rattle.dice_model.specs.Asks.{AsksFor, Reaches, here, through, IsTrace}
 use Rattle.dice_model.proofs.EvalLaws.{one_value}
 use Rattle.dice_model.proofs.Stable.{value_stable, goes_stable}
-use Rattle.dice_model.proofs.Alike.{alike, asks_back, reaches_back, reached_valued}
+use Rattle.dice_model.proofs.Alike.{same_answers, alike, asks_back, reaches_back, reached_valued}
+use Rattle.dice_model.proofs.Traces.{trace_asks}
 use Rattle.versioned_graph.specs.Entries.{Kept, joined, written, goes_in, cut_at}
 use Rattle.versioned_graph.specs.Sound.{IsOpenAt, IsTrue, IsTailed, IsRecorded}
 
@@ -61,16 +62,16 @@ module _ {K V : Type 0} (eq : K → K → Bool) (m : Meaning K V) (C : List (Lis
   pub longer : length D ≡ suc N
   longer = let h = length-append C (c ∷ []) in omega arith
 
-  still_traced : IsTrace eq m D is_true.finished k e.trace e.value
-  still_traced = let h = is_true.within in let l = is_true.before in trace_stable eq m C c k is_true.finished e.trace e.value (omega arith) is_true.traced
+  still_traced : (w : ℕ) → e.version ≤ w → e.ranges w ≡ true → w ≤ N → IsTrace eq m D w k e.trace e.value
+  still_traced w l h i = trace_stable eq m C c k w e.trace e.value i (is_true.traced w l h i)
 
   -- an entry whose tail is cut
   pub cut_true : IsTrue eq m D k (cut_at (suc N) e)
   cut_true = let in_log = is_true.within in let l = longer in record {
-    finished = is_true.finished;
-    before = is_true.before;
     within = omega arith;
-    traced = still_traced;
+    unbroken = λ u w l n i. (let b = and_parts (e.ranges w) (nat_lt w (suc N)) i in let h = ltb-true w (suc N) b.1 in
+        and_from (e.ranges u) (nat_lt u (suc N)) (is_true.unbroken u w l n b.0) (lt-ltb u (suc N) (omega arith)));
+    traced = λ w l i _. (let b = and_parts (e.ranges w) (nat_lt w (suc N)) i in let h = ltb-true w (suc N) b.1 in still_traced w l b.0 (omega arith));
     same = value_stable eq m C (c ∷ []) e.version in_log k e.value is_true.same;
     own = and_from (e.ranges e.version) (nat_lt e.version (suc N)) is_true.own (lt-ltb e.version (suc N) (omega arith));
     single = λ t w i. is_true.single t w (and_parts (e.ranges w) (nat_lt w (suc N)) i).0;
@@ -130,6 +131,13 @@ module _ {K V : Type 0} (eq : K → K → Bool) (m : Meaning K V) (C : List (Lis
       stays : (a : K) (x : V) → S a → HasValue eq m C N a x → HasValue eq m D (suc N) a x
       stays a x s i = alike eq m law C D N (suc N) S s_closed s_valued s_inputs s_lasting i.depth a x s i.gives
 
+      -- the trace of the key at the newest version stays too
+      trace_stays : IsTrace eq m C N k e.trace e.value → IsTrace eq m D (suc N) k e.trace e.value
+      trace_stays t =
+          let all = trace_asks eq m C N law (HasValue eq m D (suc N)) k t.computed [] e.trace tt t.goes (λ j y a i. stays j y (s_closed k j here a) i) in
+          let s = same_answers eq m law C D N (suc N) k e.trace e.value t.computed t.goes t.ends (s_lasting k e.value here t.computed now) all in
+          record { computed = t.computed; goes = s.0; ends = s.1 }
+
       still_recorded : (d : K) → Reaches eq m D (suc N) k d → m.kind d ≢ Injected → IsRecorded eq m D (suc N) Left d
       still_recorded d r p =
           let b = reaches_back eq m law C D N (suc N) S s_closed s_valued s_inputs s_lasting k d here r in
@@ -142,10 +150,9 @@ module _ {K V : Type 0} (eq : K → K → Bool) (m : Meaning K V) (C : List (Lis
     -- an entry that the commit does not reach
     pub left_true : IsTrue eq m D k e
     left_true = let in_log = is_true.within in let l = longer in record {
-      finished = is_true.finished;
-      before = is_true.before;
       within = omega arith;
-      traced = still_traced;
+      unbroken = is_true.unbroken;
+      traced = λ w n i h. trace_by_place w n i (elim (cases_lt w (suc N)) as (λ _. (w ≤ N) ⊎ (w ≡ suc N)) [ inl t ↦ inl (omega arith) | inr t ↦ inr (omega arith) ]);
       same = value_stable eq m C (c ∷ []) e.version in_log k e.value is_true.same;
       own = is_true.own;
       single = is_true.single;
@@ -157,6 +164,12 @@ module _ {K V : Type 0} (eq : K → K → Bool) (m : Meaning K V) (C : List (Lis
         by_place w i (inr h) =
             let o = tailed.tail w i (omega arith) in
             subst (λ n. HasValue eq m D n k e.value) (sym h) (stays o k e.value here (now o))
+
+        trace_by_place : (w : ℕ) → e.version ≤ w → e.ranges w ≡ true → (w ≤ N) ⊎ (w ≡ suc N) → IsTrace eq m D w k e.trace e.value
+        trace_by_place w l i (inl h) = still_traced w l i h
+        trace_by_place w l i (inr h) =
+            let o = tailed.tail w i (omega arith) in
+            subst (λ n. IsTrace eq m D n k e.trace e.value) (sym h) (trace_stays o (is_true.traced N is_true.within (o N (omega arith)) (omega arith)))
 
     pub left_tailed : IsTailed eq m D (suc N) Left k e
     left_tailed = record {

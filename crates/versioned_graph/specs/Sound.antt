@@ -13,18 +13,17 @@ abbrev pub IsOpenAt : ℕ → (ℕ → Bool) → Type 0
 IsOpenAt v r = (w : ℕ) → v ≤ w → r w ≡ true
 
 module _ {K V : Type 0} (eq : K → K → Bool) (m : Meaning K V) where
-  -- of an entry of k: its value is that of k at each version of its ranges up to the newest; its
-  -- trace is that of k at some version, `finished`, which is at most its own, and k has the same
-  -- value at both; its own version is in its ranges, and is the only one of a transient value
+  -- of an entry of k: its value is that of k at each version of its ranges up to the newest; its own version is in its ranges, and
+  -- is the only one of a transient value; from its own version on the ranges have no gap, and at each version in them, up to the
+  -- newest, its trace is that of k
   pub record IsTrue (C : List (List (K × V))) (k : K) (e : Kept K V) : Type 0 where
-    pub finished : ℕ
-    pub before : finished ≤ e.version
     pub within : e.version ≤ length C
-    pub traced : IsTrace eq m C finished k e.trace e.value
     pub same : HasValue eq m C e.version k e.value
     pub own : e.ranges e.version ≡ true
     pub single : m.is_transient e.value ≡ true → (w : ℕ) → e.ranges w ≡ true → w ≡ e.version
     pub holds : (w : ℕ) → e.ranges w ≡ true → w ≤ length C → HasValue eq m C w k e.value
+    pub unbroken : (u w : ℕ) → e.version ≤ u → u ≤ w → e.ranges w ≡ true → e.ranges u ≡ true
+    pub traced : (w : ℕ) → e.version ≤ w → e.ranges w ≡ true → w ≤ length C → IsTrace eq m C w k e.trace e.value
 
   -- the edges to d from what it asks at v are there, and its value there lasts
   pub record IsRecorded (C : List (List (K × V))) (v : ℕ) (Edge : K → K → Type 0) (d : K) : Type 0 where
