@@ -35,7 +35,8 @@ pub(crate) fn action_of(
     keys: &[Arc<Key>],
     values: &[Arc<Value>],
 ) -> Result<Result<ActionText, Fault>, NoMemory>
-    ensures { IfOk result (λ r. r ≡ action_of version action.now (map arc_value keys.now) (map arc_value values.now)) }
+    ensures { IfOk result (λ r. r
+        ≡ action_of version action.now (map arc_value keys.now) (map arc_value values.now)) }
 {
     let mut text = Vec::with_capacity(alloc, ROOM)?;
     push_head(&mut text, version, action)?;
@@ -134,7 +135,8 @@ fn push_named(
     name: &[u8],
     digest: &[u8; 32],
 ) -> Result<(), NoMemory>
-    ensures { OnOk result (text.new.items ≡ text.old.items ++ digest_line named name.now (encode_lower digest.now)) }
+    ensures { OnOk result
+        (text.new.items ≡ text.old.items ++ digest_line named name.now (encode_lower digest.now)) }
 {
     if named {
         text.extend_from_slice(name)?;
@@ -150,7 +152,8 @@ fn push_source(
     path: &Path,
     value: &Value,
 ) -> Result<Result<(), Fault>, NoMemory>
-    ensures { IfOk result (λ r. IsAppended text.old.items text.new.items r (file_line named path.now (source_in (Some value.now)))) }
+    ensures { IfOk result (λ r. IsAppended text.old.items text.new.items r
+        (file_line named path.now (source_in (Some value.now)))) }
 {
     let Value::Source(Some(bytes)) = value else {
         return Ok(Err(Fault::NoSource(path.try_clone()?)));
@@ -166,7 +169,8 @@ fn push_target(
     label: &Label,
     value: &Value,
 ) -> Result<Result<(), Fault>, NoMemory>
-    ensures { IfOk result (λ r. IsAppended text.old.items text.new.items r (target_line named label.now (digest_in (Some value.now)))) }
+    ensures { IfOk result (λ r. IsAppended text.old.items text.new.items r
+        (target_line named label.now (digest_in (Some value.now)))) }
 {
     match value {
         Value::Digest(Ok(digest)) => {
@@ -185,7 +189,8 @@ fn push_answer(
     key: &Key,
     value: &Value,
 ) -> Result<Result<(), Fault>, NoMemory>
-    ensures { IfOk result (λ r. IsAppended text.old.items text.new.items r (line_by named key.now value.now)) }
+    ensures { IfOk result
+        (λ r. IsAppended text.old.items text.new.items r (line_by named key.now value.now)) }
 {
     match key {
         Key::Source(path) => push_source(text, named, path, value),
@@ -201,7 +206,9 @@ fn push_answers(
     keys: &[Arc<Key>],
     values: &[Arc<Value>],
 ) -> Result<Result<(), Fault>, NoMemory>
-    ensures { IfOk result (λ r. text_or text.new.items r ≡ behind text.old.items (lines_by named (map arc_value keys.now) (map arc_value values.now))) }
+    ensures { IfOk result (λ r. text_or text.new.items r
+        ≡ behind text.old.items
+        (lines_by named (map arc_value keys.now) (map arc_value values.now))) }
 {
     for (key, value) in keys.iter().zip(values) {
         if let Err(fault) = push_answer(text, named, key, value)? {

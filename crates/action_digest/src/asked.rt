@@ -19,7 +19,8 @@ pub(crate) fn asked_by(
     asker: &Label,
     action: &Action,
 ) -> Result<Vec<Arc<Key>>, NoMemory>
-    ensures { IfOk result (λ ks. map arc_value ks.items ≡ asked_by (package_of asker.now) action.now) }
+    ensures { IfOk result
+        (λ ks. map arc_value ks.items ≡ asked_by (package_of asker.now) action.now) }
 {
     let mut keys = Vec::new(alloc);
     match action {
@@ -36,7 +37,8 @@ pub(crate) fn asked_by(
 
 /// Adds the key of each source.
 fn push_sources(keys: &mut Vec<Arc<Key>>, asker: &Label, sources: &[Source]) -> Result<(), NoMemory>
-    ensures { OnOk result (map arc_value keys.new.items ≡ map arc_value keys.old.items ++ map (key_in (package_of asker.now)) sources.now) }
+    ensures { OnOk result (map arc_value keys.new.items
+        ≡ map arc_value keys.old.items ++ map (key_in (package_of asker.now)) sources.now) }
 {
     let alloc = *keys.allocator();
     for source in sources {
@@ -55,7 +57,9 @@ fn push_locations(
     asker: &Label,
     labels: &[LabelText],
 ) -> Result<(), NoMemory>
-    ensures { OnOk result (map arc_value keys.new.items ≡ map arc_value keys.old.items ++ map (key_in (package_of asker.now)) (map source.Label labels.now)) }
+    ensures { OnOk result (map arc_value keys.new.items
+        ≡ map arc_value keys.old.items
+        ++ map (key_in (package_of asker.now)) (map source.Label labels.now)) }
 {
     let alloc = *keys.allocator();
     for label in labels {
@@ -66,14 +70,16 @@ fn push_locations(
 
 /// The key of a file of the asker's package.
 fn path_key(alloc: Global, asker: &Label, path: &Path) -> Result<Arc<Key>, NoMemory>
-    ensures { IfOk result (λ k. arc_value k ≡ key_in (package_of asker.now) (source.Path path.now)) }
+    ensures { IfOk result
+        (λ k. arc_value k ≡ key_in (package_of asker.now) (source.Path path.now)) }
 {
     Ok(Arc::new(alloc, Key::Source(asker.join(alloc, path)?))?)
 }
 
 /// The key of a target that is named in the file of the asker's package.
 fn label_key(alloc: Global, asker: &Label, label: &LabelText) -> Result<Arc<Key>, NoMemory>
-    ensures { IfOk result (λ k. arc_value k ≡ key_in (package_of asker.now) (source.Label label.now)) }
+    ensures { IfOk result
+        (λ k. arc_value k ≡ key_in (package_of asker.now) (source.Label label.now)) }
 {
     let label = label_of(alloc, asker, label)?;
     Ok(Arc::new(alloc, Key::Digest(label))?)

@@ -202,8 +202,10 @@ impl Buck {
         run: &Run,
         rule: Option<&Value>,
     ) -> Result<Move<Key, Value>, NoMemory>
-        requires { map arc_value run.now.asked.items ≡ asked_with label.now (rule_in (option_copied rule)) }
-        ensures { IfOk result (λ p. IsStep p (with_rule run.now.version label.now (rule_in (option_copied rule.entry)) (second_batch run.now.second))) }
+        requires { map arc_value run.now.asked.items
+            ≡ asked_with label.now (rule_in (option_copied rule)) }
+        ensures { IfOk result (λ p. IsStep p (with_rule run.now.version label.now
+            (rule_in (option_copied rule.entry)) (second_batch run.now.second))) }
     {
         let action = match rule {
             Some(Value::Rule(Ok(rule))) => rule.target().action(),
@@ -223,7 +225,9 @@ impl Buck {
 
     /// The next move of a run.
     fn step(&self, run: &Run) -> Result<Move<Key, Value>, NoMemory>
-        ensures { IfOk result (λ p. IsStep p (buck_next (arc_value run.now.key) (answered_so_far (arc_value run.now.key) run.now.version run.now.first run.now.second) run.now.version)) }
+        ensures { IfOk result (λ p. IsStep p (buck_next (arc_value run.now.key)
+            (answered_so_far (arc_value run.now.key) run.now.version run.now.first run.now.second)
+            run.now.version)) }
     {
         let key = &*run.key;
         let Some(first) = &run.first else {
@@ -264,7 +268,11 @@ impl Universe for Buck {
 
     ghost meaning = { buck };
 
-    ghost running = { λ r. record { key = arc_value r.key; version = r.version; answered = answered_so_far (arc_value r.key) r.version r.first r.second } };
+    ghost running = { λ r. record {
+      key = arc_value r.key;
+      version = r.version;
+      answered = answered_so_far (arc_value r.key) r.version r.first r.second;
+    } };
 
     fn kind(&self, key: &Key) -> Kind {
         match key {

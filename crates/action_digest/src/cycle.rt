@@ -19,8 +19,11 @@ use std::sync::Arc;
 /// target asks for the next one's digest, and the last for the first one's. The path may begin with
 /// any key of the cycle. It takes time linear in the path.
 pub fn labels_of_cycle(alloc: Global, path: &Path<Key>) -> Result<Vec<Label>, NoMemory>
-    ensures cycle { IfOk result (λ r. (C : List (List (Key × Value))) (v : ℕ) → IsCycle ⟦<Key as PartialEq>⟧.eq buck C v path.now → IsLabelCycle C v r.items) }
-    ensures reached { IfOk result (λ r. (C : List (List (Key × Value))) (v : ℕ) (k : Key) → IsCycle ⟦<Key as PartialEq>⟧.eq buck C v path.now → ReachesFirst C v k path.now → ReachesFirst C v k (keys_of r.items)) }
+    ensures cycle { IfOk result (λ r. (C : List (List (Key × Value))) (v : ℕ)
+        → IsCycle ⟦<Key as PartialEq>⟧.eq buck C v path.now → IsLabelCycle C v r.items) }
+    ensures reached { IfOk result (λ r. (C : List (List (Key × Value))) (v : ℕ) (k : Key)
+        → IsCycle ⟦<Key as PartialEq>⟧.eq buck C v path.now → ReachesFirst C v k path.now
+        → ReachesFirst C v k (keys_of r.items)) }
 {
     let mut labels = digest_labels(alloc, path.keys())?;
     let least = least_at(&labels);

@@ -22,7 +22,9 @@ use target_file::contents_by_grammar;
 /// Over every log and at every version a key has a value or reaches a cycle: what a key reaches
 /// stands in the finitely many target files of the log.
 pub fn keys_are_settled()
-    ensures { (C : List (List (Key × Value))) (v : ℕ) (k : Key) → ((x : Value) × HasValue ⟦<Key as PartialEq>⟧.eq buck C v k x) ⊎ ReachesCycle ⟦<Key as PartialEq>⟧.eq buck C v k }
+    ensures { (C : List (List (Key × Value))) (v : ℕ) (k : Key)
+        → ((x : Value) × HasValue ⟦<Key as PartialEq>⟧.eq buck C v k x)
+        ⊎ ReachesCycle ⟦<Key as PartialEq>⟧.eq buck C v k }
 {
     values_are_settled::<Buck>();
 }
@@ -30,14 +32,19 @@ pub fn keys_are_settled()
 /// Sources, packages and rules are on no cycle. The keys of a cycle, from one of them on, are in
 /// turn the digest and the action of distinct targets.
 pub fn cycles_are_of_labels()
-    ensures { (C : List (List (Key × Value))) (v : ℕ) (ks : List Key) → IsCycle ⟦<Key as PartialEq>⟧.eq buck C v ks → (front : List Key) × (back : List Key) × (ls : List (List ℕ)) × (ks ≡ front ++ back) × (back ++ front ≡ keys_of ls) × AreDistinct ls }
+    ensures { (C : List (List (Key × Value))) (v : ℕ) (ks : List Key)
+        → IsCycle ⟦<Key as PartialEq>⟧.eq buck C v ks
+        → (front : List Key) × (back : List Key) × (ls : List (List ℕ)) × (ks ≡ front ++ back)
+        × (back ++ front ≡ keys_of ls) × AreDistinct ls }
 {}
 
 /// A package is what the grammar of target files says of its bytes: the targets of the file that
 /// they are, or the fault with the line that the grammar gives it.
 pub fn packages_by_grammar()
-    ensures file { (p : List ℕ) (text : List ℕ) (f : List Located) → length text < 2 ^ 64 → IsFile text f → package_by p (Some text) ≡ Ok f }
-    ensures bad { (p : List ℕ) (text : List ℕ) (line : ℕ) → length text < 2 ^ 64 → IsBad text line → package_by p (Some text) ≡ Err (BadFile (target_file_of p) line) }
+    ensures file { (p : List ℕ) (text : List ℕ) (f : List Located) → length text < 2 ^ 64
+        → IsFile text f → package_by p (Some text) ≡ Ok f }
+    ensures bad { (p : List ℕ) (text : List ℕ) (line : ℕ) → length text < 2 ^ 64 → IsBad text line
+        → package_by p (Some text) ≡ Err (BadFile (target_file_of p) line) }
 {
     contents_by_grammar();
 }
@@ -45,5 +52,6 @@ pub fn packages_by_grammar()
 /// The full form of a label in a package's target file is what the grammar of labels says that it
 /// names there.
 pub fn labels_in_full()
-    ensures { (home : List ℕ) (text : List ℕ) (n : Name) → IsLabelIn home text n → full_label home text ≡ printed n }
+    ensures { (home : List ℕ) (text : List ℕ) (n : Name) → IsLabelIn home text n
+        → full_label home text ≡ printed n }
 {}

@@ -22,9 +22,9 @@ fn is_injected<U: Universe>(universe: &U, key: &KeyRef<U>) -> bool
     }
 }
 
-/// A seat asks for a key at a version, in an open transaction. If the key is not injected the ask is a promise of it, and if it
-/// has no task, or one that was given up, a task is made. The result is the index of the Ask. If memory is refused all is as
-/// before.
+/// A seat asks for a key at a version, in an open transaction. If the key is not injected the ask
+/// is a promise of it, and if it has no task, or one that was given up, a task is made. The result
+/// is the index of the Ask. If memory is refused all is as before.
 ///
 /// It costs a look-up or a few.
 pub(crate) fn ask_key<U: Universe>(
@@ -42,8 +42,10 @@ pub(crate) fn ask_key<U: Universe>(
     requires hand { MayBeWith U.Key.eq U.meaning version owed tasks.old desk.old graph.old }
     requires opened { IsOpenAt (reverse desk.old.events) version tx }
     ensures index { IfOk result (λ n. n ≡ length desk.old.events) }
-    ensures asked { OnOk result (AsksForKey U.Key.eq U.meaning version by tx (arc_value key.now) tasks.old tasks.new graph.old graph.new desk.old desk.new) }
-    ensures kept { OnOk result (OwesOneMore U.Key.eq U.meaning version owed tasks.old desk.old graph.old tasks.new desk.new graph.new) }
+    ensures asked { OnOk result (AsksForKey U.Key.eq U.meaning version by tx (arc_value key.now)
+        tasks.old tasks.new graph.old graph.new desk.old desk.new) }
+    ensures kept { OnOk result (OwesOneMore U.Key.eq U.meaning version owed tasks.old desk.old
+        graph.old tasks.new desk.new graph.new) }
     ensures err { OnErr result (KeepsAtHand U.Key.eq tasks.old tasks.new desk.old desk.new) }
     ensures graph { OnErr result (graph.new ≡ graph.old) }
 {

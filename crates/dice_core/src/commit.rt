@@ -58,15 +58,18 @@ impl<U: Universe> Display for CommitRefusal<'_, U> {
 
 impl<U: Universe> Error for CommitRefusal<'_, U> {}
 
-/// Tests changes in order: each key has to be injected, and to stand in no earlier pair. The first that fails is named.
+/// Tests changes in order: each key has to be injected, and to stand in no earlier pair. The first
+/// that fails is named.
 pub(crate) fn check_changes<'a, U: Universe>(
     alloc: Global,
     universe: &U,
     changes: &'a [(KeyRef<U>, ValueRef<U>)],
 ) -> Result<(), CommitRefusal<'a, U>>
     ensures ok { OnOk result (AreSettable U.meaning (keys_of (pairs_of changes.now))) }
-    ensures fault { IfErr result (λ e. IfSome (fault_of e) (IsFirstFault U.meaning (keys_of (pairs_of changes.now)))) }
-    ensures first { (f : Fault U.Key) → IsFirstFault U.meaning (keys_of (pairs_of changes.now)) f → MatchResult result (λ _. ⊥) (λ e. IfSome (fault_of e) (λ g. g ≡ f)) }
+    ensures fault { IfErr result
+        (λ e. IfSome (fault_of e) (IsFirstFault U.meaning (keys_of (pairs_of changes.now)))) }
+    ensures first { (f : Fault U.Key) → IsFirstFault U.meaning (keys_of (pairs_of changes.now)) f
+        → MatchResult result (λ _. ⊥) (λ e. IfSome (fault_of e) (λ g. g ≡ f)) }
 {
     laws_of::<U>();
     let mut seen = HashSet::new(alloc);
@@ -90,7 +93,8 @@ pub(crate) fn differing<U: Universe>(
     cells: &Cells<U>,
     changes: &[(KeyRef<U>, ValueRef<U>)],
 ) -> Result<Vec<(KeyRef<U>, ValueRef<U>)>, NoMemory>
-    ensures { IfOk result (λ cs. pairs_of cs.items ≡ differing_of U.Key.eq U.Value.eq U.meaning cells.now (pairs_of changes.now)) }
+    ensures { IfOk result (λ cs. pairs_of cs.items
+        ≡ differing_of U.Key.eq U.Value.eq U.meaning cells.now (pairs_of changes.now)) }
 {
     let mut differing = Vec::new(alloc);
     for (key, value) in changes {
@@ -159,7 +163,8 @@ pub(crate) fn set_cells<U: Universe>(
     requires rises { cells.old.last < version }
     ensures sets { AreSet U.Key.eq version (pairs_of changes.items) cells.old cells.new }
     ensures last { cells.new.last ≡ version }
-    ensures are { (C : List (List (U.Key × U.Value))) → AreOf U.Key.eq C cells.old → version ≡ suc (length C) → AreOf U.Key.eq (C ++ pairs_of changes.items ∷ []) cells.new }
+    ensures are { (C : List (List (U.Key × U.Value))) → AreOf U.Key.eq C cells.old
+        → version ≡ suc (length C) → AreOf U.Key.eq (C ++ pairs_of changes.items ∷ []) cells.new }
 {
     laws_of::<U>();
     cells_in_order(cells);
@@ -169,7 +174,8 @@ pub(crate) fn set_cells<U: Universe>(
     }
 }
 
-/// Commits the changes that differ, if all keys are injected and distinct. At an error all is as before.
+/// Commits the changes that differ, if all keys are injected and distinct. At an error all is as
+/// before.
 fn commit_settable<U: Universe>(
     alloc: Global,
     cells: &mut Cells<U>,
@@ -181,9 +187,14 @@ fn commit_settable<U: Universe>(
     requires settable { AreSettable U.meaning (keys_of (pairs_of changes.now)) }
     requires newest { cells.old.last < u64.MAX }
     ensures version { IfOk result (λ v. v ≡ cells.new.last) }
-    ensures ok { OnOk result (Commits U.Key.eq by (differing_of U.Key.eq U.Value.eq U.meaning cells.old (pairs_of changes.now)) cells.old cells.new desk.old.events desk.new.events) }
-    ensures err { OnErr result (IsAsBefore U.Key.eq cells.old cells.new desk.old.events desk.new.events) }
-    ensures cut { OnOk result (CommitsEntries U.Key.eq U.meaning (differing_of U.Key.eq U.Value.eq U.meaning cells.old (pairs_of changes.now)) (cells.old.last + 1) graph.old graph.new) }
+    ensures ok { OnOk result (Commits U.Key.eq by
+        (differing_of U.Key.eq U.Value.eq U.meaning cells.old (pairs_of changes.now)) cells.old
+        cells.new desk.old.events desk.new.events) }
+    ensures err { OnErr result
+        (IsAsBefore U.Key.eq cells.old cells.new desk.old.events desk.new.events) }
+    ensures cut { OnOk result (CommitsEntries U.Key.eq U.meaning
+        (differing_of U.Key.eq U.Value.eq U.meaning cells.old (pairs_of changes.now))
+        (cells.old.last + 1) graph.old graph.new) }
     ensures graph { OnErr result (graph.new ≡ graph.old) }
     ensures hands { KeepsWork desk.old desk.new }
 {
@@ -202,10 +213,12 @@ fn commit_settable<U: Universe>(
     Ok(version)
 }
 
-/// Commits the changes whose value is not the key's newest one: one event, and one version more; with none there is neither. The
-/// version is the newest one after it, and the tails of all entries that the commit reaches are cut there. At a refusal all is as before.
+/// Commits the changes whose value is not the key's newest one: one event, and one version more;
+/// with none there is neither. The version is the newest one after it, and the tails of all entries
+/// that the commit reaches are cut there. At a refusal all is as before.
 ///
-/// All room that was made stays. It costs a look-up for each change, and for each recorded user of what is reached.
+/// All room that was made stays. It costs a look-up for each change, and for each recorded user of
+/// what is reached.
 pub(crate) fn commit<'a, U: Universe>(
     alloc: Global,
     universe: &U,
@@ -219,21 +232,34 @@ pub(crate) fn commit<'a, U: Universe>(
 
     // Faults of the changes.
     ensures settable { OnOk result (AreSettable U.meaning (keys_of (pairs_of changes.now))) }
-    ensures fault { IfErr result (λ e. IfSome (fault_of e) (IsFirstFault U.meaning (keys_of (pairs_of changes.now)))) }
-    ensures first { (f : Fault U.Key) → IsFirstFault U.meaning (keys_of (pairs_of changes.now)) f → MatchResult result (λ _. ⊥) (λ e. IfSome (fault_of e) (λ g. g ≡ f)) }
+    ensures fault { IfErr result
+        (λ e. IfSome (fault_of e) (IsFirstFault U.meaning (keys_of (pairs_of changes.now)))) }
+    ensures first { (f : Fault U.Key) → IsFirstFault U.meaning (keys_of (pairs_of changes.now)) f
+        → MatchResult result (λ _. ⊥) (λ e. IfSome (fault_of e) (λ g. g ≡ f)) }
 
     // What is committed.
     ensures version { IfOk result (λ v. v ≡ cells.new.last) }
-    ensures ok { OnOk result (Commits U.Key.eq by (differing_of U.Key.eq U.Value.eq U.meaning cells.old (pairs_of changes.now)) cells.old cells.new desk.old.events desk.new.events) }
-    ensures err { OnErr result (IsAsBefore U.Key.eq cells.old cells.new desk.old.events desk.new.events) }
-    ensures cut { OnOk result (CommitsEntries U.Key.eq U.meaning (differing_of U.Key.eq U.Value.eq U.meaning cells.old (pairs_of changes.now)) (cells.old.last + 1) graph.old graph.new) }
+    ensures ok { OnOk result (Commits U.Key.eq by
+        (differing_of U.Key.eq U.Value.eq U.meaning cells.old (pairs_of changes.now)) cells.old
+        cells.new desk.old.events desk.new.events) }
+    ensures err { OnErr result
+        (IsAsBefore U.Key.eq cells.old cells.new desk.old.events desk.new.events) }
+    ensures cut { OnOk result (CommitsEntries U.Key.eq U.meaning
+        (differing_of U.Key.eq U.Value.eq U.meaning cells.old (pairs_of changes.now))
+        (cells.old.last + 1) graph.old graph.new) }
     ensures graph { OnErr result (graph.new ≡ graph.old) }
     ensures hands { KeepsWork desk.old desk.new }
 
     // What is kept.
-    ensures kept { CellsStand U.Key.eq (reverse desk.old.events) cells.old → CellsStand U.Key.eq (reverse desk.new.events) cells.new }
-    ensures allowed { OnOk result (CellsStand U.Key.eq (reverse desk.old.events) cells.old → AllByRecursion (IsAllowed U.Key.eq U.meaning (reverse desk.old.events)) (event_of by (differing_of U.Key.eq U.Value.eq U.meaning cells.old (pairs_of changes.now)))) }
-    ensures lawful { CellsStand U.Key.eq (reverse desk.old.events) cells.old → IsLawfulJournal U.Key.eq U.meaning desk.old.events → IsLawfulJournal U.Key.eq U.meaning desk.new.events }
+    ensures kept { CellsStand U.Key.eq (reverse desk.old.events) cells.old
+        → CellsStand U.Key.eq (reverse desk.new.events) cells.new }
+    ensures allowed { OnOk result (CellsStand U.Key.eq (reverse desk.old.events) cells.old
+        → AllByRecursion (IsAllowed U.Key.eq U.meaning (reverse desk.old.events))
+        (event_of by
+        (differing_of U.Key.eq U.Value.eq U.meaning cells.old (pairs_of changes.now)))) }
+    ensures lawful { CellsStand U.Key.eq (reverse desk.old.events) cells.old
+        → IsLawfulJournal U.Key.eq U.meaning desk.old.events
+        → IsLawfulJournal U.Key.eq U.meaning desk.new.events }
 {
     laws_of::<U>();
     cells_are_the_inputs::<U>();

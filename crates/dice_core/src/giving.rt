@@ -32,8 +32,8 @@ pub enum Gave<U: Universe> {
     Stale(Step<U>),
 }
 
-/// Takes up a step, if it is of the job of a task that is out; otherwise it is stale. If memory is refused all is as before, and the
-/// step is handed back.
+/// Takes up a step, if it is of the job of a task that is out; otherwise it is stale. If memory is
+/// refused all is as before, and the step is handed back.
 pub(crate) fn give_in<U: Universe>(
     alloc: Global,
     universe: &U,
@@ -44,13 +44,32 @@ pub(crate) fn give_in<U: Universe>(
     owed: usize,
     step: Step<U>,
 ) -> Result<Gave<U>, (NoMemory, Step<U>)>
-    requires stands { (x : SessionsSeen U.Key) × CoreStands U.Key.eq U.meaning (core_of desk.old versions.old.entries graph.old cells.now x) × (owed ≡ owed_of x) }
-    ensures stale { IfOk result (λ g. IfSome (stale_of g) (λ s. (s ≡ step) × (task_at U.Key.eq (table_at versions.old.entries step.job.name.version) step.job.name.key ≡ Some (held_of step.job IsOut) → ⊥) × (desk.new ≡ desk.old) × (versions.new.entries ≡ versions.old.entries) × (graph.new ≡ graph.old))) }
-    ensures taken { IfOk result (λ g. IfNone (stale_of g) (Turned U.Key.eq U.meaning step.job.name.version versions.old.entries versions.new.entries (λ ps qs. Gives U.Key.eq step.job.name.version step ps qs desk.old desk.new))) }
-    ensures does { IfOk result (λ g. IfNone (stale_of g) (Turned U.Key.eq U.meaning step.job.name.version versions.old.entries versions.new.entries (λ ps qs. IsTakenUp U.Key.eq U.meaning U.Value.eq step.job.name.version step cells.now ps qs graph.old graph.new desk.old desk.new step.outcome))) }
+    requires stands { (x : SessionsSeen U.Key)
+        × CoreStands U.Key.eq U.meaning
+        (core_of desk.old versions.old.entries graph.old cells.now x) × (owed ≡ owed_of x) }
+    ensures stale { IfOk result (λ g. IfSome (stale_of g) (λ s. (s ≡ step)
+        × (task_at U.Key.eq (table_at versions.old.entries step.job.name.version) step.job.name.key
+        ≡ Some (held_of step.job IsOut) → ⊥) × (desk.new ≡ desk.old)
+        × (versions.new.entries ≡ versions.old.entries) × (graph.new ≡ graph.old))) }
+    ensures taken { IfOk result (λ g. IfNone (stale_of g) (Turned U.Key.eq U.meaning
+        step.job.name.version versions.old.entries versions.new.entries
+        (λ ps qs. Gives U.Key.eq step.job.name.version step ps qs desk.old desk.new))) }
+    ensures does { IfOk result (λ g. IfNone (stale_of g) (Turned U.Key.eq U.meaning
+        step.job.name.version versions.old.entries versions.new.entries
+        (λ ps qs. IsTakenUp U.Key.eq U.meaning U.Value.eq step.job.name.version step cells.now ps qs
+        graph.old graph.new desk.old desk.new step.outcome))) }
     ensures step { IfErr result (λ e. e.1 ≡ step) }
-    ensures err { OnErr result ((task_at U.Key.eq (table_at versions.old.entries step.job.name.version) step.job.name.key ≡ Some (held_of step.job IsOut)) × ((x : SessionsSeen U.Key) → IsAsBefore U.Key.eq (core_of desk.old versions.old.entries graph.old cells.now x) (core_of desk.new versions.new.entries graph.new cells.now x))) }
-    ensures kept { OnOk result ((x : SessionsSeen U.Key) → owed ≡ owed_of x → CoreStands U.Key.eq U.meaning (core_of desk.old versions.old.entries graph.old cells.now x) → CoreStands U.Key.eq U.meaning (core_of desk.new versions.new.entries graph.new cells.now x)) }
+    ensures err { OnErr result ((task_at U.Key.eq
+        (table_at versions.old.entries step.job.name.version) step.job.name.key
+        ≡ Some (held_of step.job IsOut))
+        × ((x : SessionsSeen U.Key)
+        → IsAsBefore U.Key.eq (core_of desk.old versions.old.entries graph.old cells.now x)
+        (core_of desk.new versions.new.entries graph.new cells.now x))) }
+    ensures kept { OnOk result ((x : SessionsSeen U.Key) → owed ≡ owed_of x
+        → CoreStands U.Key.eq U.meaning
+        (core_of desk.old versions.old.entries graph.old cells.now x)
+        → CoreStands U.Key.eq U.meaning
+        (core_of desk.new versions.new.entries graph.new cells.now x)) }
 {
     if !is_of_out::<U>(versions, &step) {
         return Ok(Gave::Stale(step));
@@ -58,7 +77,8 @@ pub(crate) fn give_in<U: Universe>(
     take_up::<U>(alloc, universe, cells, graph, desk, versions, owed, step)
 }
 
-/// Takes up a step of the job of a task that is out. If memory is refused all is as before, and the step is handed back.
+/// Takes up a step of the job of a task that is out. If memory is refused all is as before, and the
+/// step is handed back.
 pub(crate) fn take_up<U: Universe>(
     alloc: Global,
     universe: &U,
@@ -69,14 +89,28 @@ pub(crate) fn take_up<U: Universe>(
     owed: usize,
     step: Step<U>,
 ) -> Result<Gave<U>, (NoMemory, Step<U>)>
-    requires stands { (x : SessionsSeen U.Key) × CoreStands U.Key.eq U.meaning (core_of desk.old versions.old.entries graph.old cells.now x) × (owed ≡ owed_of x) }
-    requires out { task_at U.Key.eq (table_at versions.old.entries step.job.name.version) step.job.name.key ≡ Some (held_of step.job IsOut) }
+    requires stands { (x : SessionsSeen U.Key)
+        × CoreStands U.Key.eq U.meaning
+        (core_of desk.old versions.old.entries graph.old cells.now x) × (owed ≡ owed_of x) }
+    requires out { task_at U.Key.eq (table_at versions.old.entries step.job.name.version)
+        step.job.name.key ≡ Some (held_of step.job IsOut) }
     ensures fresh { IfOk result (λ g. IfSome (stale_of g) (λ s. ⊥)) }
-    ensures taken { IfOk result (λ g. IfNone (stale_of g) (Turned U.Key.eq U.meaning step.job.name.version versions.old.entries versions.new.entries (λ ps qs. Gives U.Key.eq step.job.name.version step ps qs desk.old desk.new))) }
-    ensures does { IfOk result (λ g. IfNone (stale_of g) (Turned U.Key.eq U.meaning step.job.name.version versions.old.entries versions.new.entries (λ ps qs. IsTakenUp U.Key.eq U.meaning U.Value.eq step.job.name.version step cells.now ps qs graph.old graph.new desk.old desk.new step.outcome))) }
+    ensures taken { IfOk result (λ g. IfNone (stale_of g) (Turned U.Key.eq U.meaning
+        step.job.name.version versions.old.entries versions.new.entries
+        (λ ps qs. Gives U.Key.eq step.job.name.version step ps qs desk.old desk.new))) }
+    ensures does { IfOk result (λ g. IfNone (stale_of g) (Turned U.Key.eq U.meaning
+        step.job.name.version versions.old.entries versions.new.entries
+        (λ ps qs. IsTakenUp U.Key.eq U.meaning U.Value.eq step.job.name.version step cells.now ps qs
+        graph.old graph.new desk.old desk.new step.outcome))) }
     ensures step { IfErr result (λ e. e.1 ≡ step) }
-    ensures err { OnErr result ((x : SessionsSeen U.Key) → IsAsBefore U.Key.eq (core_of desk.old versions.old.entries graph.old cells.now x) (core_of desk.new versions.new.entries graph.new cells.now x)) }
-    ensures kept { OnOk result ((x : SessionsSeen U.Key) → owed ≡ owed_of x → CoreStands U.Key.eq U.meaning (core_of desk.old versions.old.entries graph.old cells.now x) → CoreStands U.Key.eq U.meaning (core_of desk.new versions.new.entries graph.new cells.now x)) }
+    ensures err { OnErr result ((x : SessionsSeen U.Key)
+        → IsAsBefore U.Key.eq (core_of desk.old versions.old.entries graph.old cells.now x)
+        (core_of desk.new versions.new.entries graph.new cells.now x)) }
+    ensures kept { OnOk result ((x : SessionsSeen U.Key) → owed ≡ owed_of x
+        → CoreStands U.Key.eq U.meaning
+        (core_of desk.old versions.old.entries graph.old cells.now x)
+        → CoreStands U.Key.eq U.meaning
+        (core_of desk.new versions.new.entries graph.new cells.now x)) }
 {
     laws_of::<U>();
     let version = step.assignment().name().version();
@@ -88,7 +122,9 @@ pub(crate) fn take_up<U: Universe>(
 
 /// Whether the step is of the job of a task that is out.
 fn is_of_out<U: Universe>(versions: &HashMap<u64, Tasks<U>>, step: &Step<U>) -> bool
-    ensures { IsTrue result ↔ (task_at U.Key.eq (table_at versions.now.entries step.now.job.name.version) step.now.job.name.key ≡ Some (held_of step.now.job IsOut)) }
+    ensures { IsTrue result
+        ↔ (task_at U.Key.eq (table_at versions.now.entries step.now.job.name.version)
+        step.now.job.name.key ≡ Some (held_of step.now.job IsOut)) }
 {
     match task_named(versions, step.assignment().name()) {
         Some(task) => task.is_of(step),
@@ -98,7 +134,10 @@ fn is_of_out<U: Universe>(versions: &HashMap<u64, Tasks<U>>, step: &Step<U>) -> 
 
 /// Whether the job of a task that is out is like the step's.
 pub(crate) fn is_like_out<U: Universe>(versions: &HashMap<u64, Tasks<U>>, step: &Step<U>) -> bool
-    ensures { IsTrue result ↔ ((j : Assigned U.Key U.Value) × (task_at U.Key.eq (table_at versions.now.entries step.now.job.name.version) step.now.job.name.key ≡ Some (held_of j IsOut)) × AreAlike step.now.job j) }
+    ensures { IsTrue result
+        ↔ ((j : Assigned U.Key U.Value)
+        × (task_at U.Key.eq (table_at versions.now.entries step.now.job.name.version)
+        step.now.job.name.key ≡ Some (held_of j IsOut)) × AreAlike step.now.job j) }
 {
     match task_named(versions, step.assignment().name()) {
         Some(task) => task.is_like(step),
@@ -111,7 +150,8 @@ fn task_named<'a, U: Universe>(
     versions: &'a HashMap<u64, Tasks<U>>,
     name: &JobName<U>,
 ) -> Option<&'a Task<U>>
-    ensures { option_copied result ≡ task_at U.Key.eq (table_at versions.now.entries name.now.version) name.now.key }
+    ensures { option_copied result
+        ≡ task_at U.Key.eq (table_at versions.now.entries name.now.version) name.now.key }
 {
     let tasks = versions.get(&name.version())?;
     tasks.task(name.key())
@@ -128,15 +168,24 @@ fn take_step<U: Universe>(
     owed: usize,
     step: Step<U>,
 ) -> Result<Gave<U>, (NoMemory, Step<U>)>
-    requires hand { (w : World U.Key U.Value) × AtHand U.Key.eq U.meaning step.job.name.version w owed tasks.old desk.old graph.old cells.now }
+    requires hand { (w : World U.Key U.Value)
+        × AtHand U.Key.eq U.meaning step.job.name.version w owed tasks.old desk.old graph.old
+        cells.now }
     requires out { task_at U.Key.eq tasks.old step.job.name.key ≡ Some (held_of step.job IsOut) }
-    ensures taken { IfOk result (λ g. IfNone (stale_of g) (Gives U.Key.eq step.job.name.version step tasks.old tasks.new desk.old desk.new)) }
-    ensures does { IfOk result (λ g. IfNone (stale_of g) (IsTakenUp U.Key.eq U.meaning U.Value.eq step.job.name.version step cells.now tasks.old tasks.new graph.old graph.new desk.old desk.new step.outcome)) }
+    ensures taken { IfOk result (λ g. IfNone (stale_of g)
+        (Gives U.Key.eq step.job.name.version step tasks.old tasks.new desk.old desk.new)) }
+    ensures does { IfOk result (λ g. IfNone (stale_of g) (IsTakenUp U.Key.eq U.meaning U.Value.eq
+        step.job.name.version step cells.now tasks.old tasks.new graph.old graph.new desk.old
+        desk.new step.outcome)) }
     ensures fresh { IfOk result (λ g. IfSome (stale_of g) (λ s. ⊥)) }
     ensures step { IfErr result (λ e. e.1 ≡ step) }
     ensures err { OnErr result (KeepsAtHand U.Key.eq tasks.old tasks.new desk.old desk.new) }
     ensures graph { OnErr result (graph.new ≡ graph.old) }
-    ensures kept { OnOk result ((w : World U.Key U.Value) → AtHand U.Key.eq U.meaning step.job.name.version w owed tasks.old desk.old graph.old cells.now → AtHand U.Key.eq U.meaning step.job.name.version w owed tasks.new desk.new graph.new cells.now) }
+    ensures kept { OnOk result ((w : World U.Key U.Value)
+        → AtHand U.Key.eq U.meaning step.job.name.version w owed tasks.old desk.old graph.old
+        cells.now
+        → AtHand U.Key.eq U.meaning step.job.name.version w owed tasks.new desk.new graph.new
+        cells.now) }
 {
     laws_of::<U>();
     if asks::<U>(&step) {
@@ -167,14 +216,24 @@ fn end_or_differ<U: Universe>(
     owed: usize,
     step: &Step<U>,
 ) -> Result<(), NoMemory>
-    requires hand { (w : World U.Key U.Value) × AtHand U.Key.eq U.meaning step.now.job.name.version w owed tasks.old desk.old graph.old cells.now }
-    requires out { task_at U.Key.eq tasks.old step.now.job.name.key ≡ Some (held_of step.now.job IsOut) }
+    requires hand { (w : World U.Key U.Value)
+        × AtHand U.Key.eq U.meaning step.now.job.name.version w owed tasks.old desk.old graph.old
+        cells.now }
+    requires out { task_at U.Key.eq tasks.old step.now.job.name.key
+        ≡ Some (held_of step.now.job IsOut) }
     requires ends { (ks : List U.Key) → step.now.outcome ≡ Wanting ks → ⊥ }
-    ensures taken { OnOk result (Gives U.Key.eq step.now.job.name.version step.now tasks.old tasks.new desk.old desk.new) }
-    ensures does { OnOk result (IsTakenUp U.Key.eq U.meaning U.Value.eq step.now.job.name.version step.now cells.now tasks.old tasks.new graph.old graph.new desk.old desk.new step.now.outcome) }
+    ensures taken { OnOk result
+        (Gives U.Key.eq step.now.job.name.version step.now tasks.old tasks.new desk.old desk.new) }
+    ensures does { OnOk result (IsTakenUp U.Key.eq U.meaning U.Value.eq step.now.job.name.version
+        step.now cells.now tasks.old tasks.new graph.old graph.new desk.old desk.new
+        step.now.outcome) }
     ensures err { OnErr result (KeepsAtHand U.Key.eq tasks.old tasks.new desk.old desk.new) }
     ensures graph { OnErr result (graph.new ≡ graph.old) }
-    ensures kept { OnOk result ((w : World U.Key U.Value) → AtHand U.Key.eq U.meaning step.now.job.name.version w owed tasks.old desk.old graph.old cells.now → AtHand U.Key.eq U.meaning step.now.job.name.version w owed tasks.new desk.new graph.new cells.now) }
+    ensures kept { OnOk result ((w : World U.Key U.Value)
+        → AtHand U.Key.eq U.meaning step.now.job.name.version w owed tasks.old desk.old graph.old
+        cells.now
+        → AtHand U.Key.eq U.meaning step.now.job.name.version w owed tasks.new desk.new graph.new
+        cells.now) }
 {
     laws_of::<U>();
     let _index = desk.next_index()?;

@@ -29,7 +29,8 @@ fn place_table<U: Universe>(
     version: Version,
 ) -> Result<(), NoMemory>
     ensures same { (v : ℕ) → table_at versions.new.entries v ≡ table_at versions.old.entries v }
-    ensures stays { (v : ℕ) → has_table versions.old.entries v ≡ true → has_table versions.new.entries v ≡ true }
+    ensures stays { (v : ℕ) → has_table versions.old.entries v ≡ true
+        → has_table versions.new.entries v ≡ true }
     ensures ok { OnOk result (has_table versions.new.entries version ≡ true) }
 {
     laws_of::<U>();
@@ -40,7 +41,8 @@ fn place_table<U: Universe>(
     Ok(())
 }
 
-/// Opens a transaction at the newest version, and keeps room for its close. If memory is refused all is as before.
+/// Opens a transaction at the newest version, and keeps room for its close. If memory is refused
+/// all is as before.
 pub(crate) fn open_at_newest<U: Universe>(
     alloc: Global,
     desk: &mut Desk<U>,
@@ -49,12 +51,21 @@ pub(crate) fn open_at_newest<U: Universe>(
     newest: Version,
     by: u64,
 ) -> Result<u64, NoMemory>
-    requires stands { (es : List (U.Key × Stored U.Key U.Value)) × (s : Seen U.Key U.Value) × CoreStands U.Key.eq U.meaning (core_of desk.old versions.old.entries es s sessions.old) × (s.last ≡ newest) }
+    requires stands { (es : List (U.Key × Stored U.Key U.Value)) × (s : Seen U.Key U.Value)
+        × CoreStands U.Key.eq U.meaning (core_of desk.old versions.old.entries es s sessions.old)
+        × (s.last ≡ newest) }
     ensures index { IfOk result (λ t. t ≡ length desk.old.events) }
     ensures events { OnOk result (desk.new.events ≡ desk.old.events ++ Open by newest ∷ []) }
-    ensures tasks { OnOk result ((es : List (U.Key × Stored U.Key U.Value)) (s : Seen U.Key U.Value) → KeepsTasksOf U.Key.eq (core_of desk.old versions.old.entries es s sessions.old) (core_of desk.new versions.new.entries es s sessions.new)) }
-    ensures err { OnErr result ((es : List (U.Key × Stored U.Key U.Value)) (s : Seen U.Key U.Value) → IsAsBefore U.Key.eq (core_of desk.old versions.old.entries es s sessions.old) (core_of desk.new versions.new.entries es s sessions.new)) }
-    ensures kept { OnOk result ((es : List (U.Key × Stored U.Key U.Value)) (s : Seen U.Key U.Value) → CoreStands U.Key.eq U.meaning (core_of desk.old versions.old.entries es s sessions.old) → s.last ≡ newest → CoreStands U.Key.eq U.meaning (core_of desk.new versions.new.entries es s sessions.new)) }
+    ensures tasks { OnOk result ((es : List (U.Key × Stored U.Key U.Value)) (s : Seen U.Key U.Value)
+        → KeepsTasksOf U.Key.eq (core_of desk.old versions.old.entries es s sessions.old)
+        (core_of desk.new versions.new.entries es s sessions.new)) }
+    ensures err { OnErr result ((es : List (U.Key × Stored U.Key U.Value)) (s : Seen U.Key U.Value)
+        → IsAsBefore U.Key.eq (core_of desk.old versions.old.entries es s sessions.old)
+        (core_of desk.new versions.new.entries es s sessions.new)) }
+    ensures kept { OnOk result ((es : List (U.Key × Stored U.Key U.Value)) (s : Seen U.Key U.Value)
+        → CoreStands U.Key.eq U.meaning (core_of desk.old versions.old.entries es s sessions.old)
+        → s.last ≡ newest
+        → CoreStands U.Key.eq U.meaning (core_of desk.new versions.new.entries es s sessions.new)) }
 {
     laws_of::<U>();
     let index = desk.next_index()?;
@@ -65,17 +76,25 @@ pub(crate) fn open_at_newest<U: Universe>(
     Ok(index)
 }
 
-/// Leaves an ask, and drops the tasks of its version that nobody asks for any more. It takes no memory.
+/// Leaves an ask, and drops the tasks of its version that nobody asks for any more. It takes no
+/// memory.
 pub(crate) fn leave_ask<U: Universe>(
     desk: &mut Desk<U>,
     versions: &mut HashMap<u64, Tasks<U>>,
     sessions: &mut Sessions<U>,
     ask: u64,
 )
-    requires stands { (es : List (U.Key × Stored U.Key U.Value)) × (s : Seen U.Key U.Value) × CoreStands U.Key.eq U.meaning (core_of desk.old versions.old.entries es s sessions.old) }
+    requires stands { (es : List (U.Key × Stored U.Key U.Value)) × (s : Seen U.Key U.Value)
+        × CoreStands U.Key.eq U.meaning (core_of desk.old versions.old.entries es s sessions.old) }
     requires live { is_some (live_at (reverse desk.old.events) ask) ≡ true }
-    ensures log { (a : AskSeen U.Key) × (o : Opened) × (ks : List U.Key) × (live_at (reverse desk.old.events) ask ≡ Some a) × (open_at (reverse desk.old.events) a.opened ≡ Some o) × Turned U.Key.eq U.meaning o.version versions.old.entries versions.new.entries (λ ps qs. DropsAfter U.Key.eq o.version (Leave a.by ask ∷ []) ks ps qs desk.old desk.new) }
-    ensures kept { (es : List (U.Key × Stored U.Key U.Value)) (s : Seen U.Key U.Value) → CoreStands U.Key.eq U.meaning (core_of desk.old versions.old.entries es s sessions.old) → CoreStands U.Key.eq U.meaning (core_of desk.new versions.new.entries es s sessions.new) }
+    ensures log { (a : AskSeen U.Key) × (o : Opened) × (ks : List U.Key)
+        × (live_at (reverse desk.old.events) ask ≡ Some a)
+        × (open_at (reverse desk.old.events) a.opened ≡ Some o)
+        × Turned U.Key.eq U.meaning o.version versions.old.entries versions.new.entries
+        (λ ps qs. DropsAfter U.Key.eq o.version (Leave a.by ask ∷ []) ks ps qs desk.old desk.new) }
+    ensures kept { (es : List (U.Key × Stored U.Key U.Value)) (s : Seen U.Key U.Value)
+        → CoreStands U.Key.eq U.meaning (core_of desk.old versions.old.entries es s sessions.old)
+        → CoreStands U.Key.eq U.meaning (core_of desk.new versions.new.entries es s sessions.new) }
 {
     laws_of::<U>();
     let Some(asking) = sessions.leave(ask) else {
@@ -91,7 +110,8 @@ pub(crate) fn leave_ask<U: Universe>(
     leave_promise::<U>(desk, tasks, version, asking.key(), asking.by(), ask);
 }
 
-/// A seat asks for a key in an open transaction; the index of the event is the name of the ask. If memory is refused all is as before.
+/// A seat asks for a key in an open transaction; the index of the event is the name of the ask. If
+/// memory is refused all is as before.
 pub(crate) fn ask_in<U: Universe>(
     alloc: Global,
     universe: &U,
@@ -103,12 +123,23 @@ pub(crate) fn ask_in<U: Universe>(
     tx: u64,
     key: KeyRef<U>,
 ) -> Result<u64, NoMemory>
-    requires stands { (s : Seen U.Key U.Value) × CoreStands U.Key.eq U.meaning (core_of desk.old versions.old.entries graph.old s sessions.old) }
+    requires stands { (s : Seen U.Key U.Value)
+        × CoreStands U.Key.eq U.meaning
+        (core_of desk.old versions.old.entries graph.old s sessions.old) }
     requires opened { is_some (open_at (reverse desk.old.events) tx) ≡ true }
     ensures index { IfOk result (λ i. i ≡ length desk.old.events) }
-    ensures asked { OnOk result ((o : Opened) × (open_at (reverse desk.old.events) tx ≡ Some o) × Turned U.Key.eq U.meaning o.version versions.old.entries versions.new.entries (λ ps qs. AsksForKey U.Key.eq U.meaning o.version by tx (arc_value key) ps qs graph.old graph.new desk.old desk.new)) }
-    ensures err { OnErr result ((s : Seen U.Key U.Value) → IsAsBefore U.Key.eq (core_of desk.old versions.old.entries graph.old s sessions.old) (core_of desk.new versions.new.entries graph.new s sessions.new)) }
-    ensures kept { OnOk result ((s : Seen U.Key U.Value) → CoreStands U.Key.eq U.meaning (core_of desk.old versions.old.entries graph.old s sessions.old) → CoreStands U.Key.eq U.meaning (core_of desk.new versions.new.entries graph.new s sessions.new)) }
+    ensures asked { OnOk result ((o : Opened) × (open_at (reverse desk.old.events) tx ≡ Some o)
+        × Turned U.Key.eq U.meaning o.version versions.old.entries versions.new.entries
+        (λ ps qs. AsksForKey U.Key.eq U.meaning o.version by tx (arc_value key) ps qs graph.old
+        graph.new desk.old desk.new)) }
+    ensures err { OnErr result ((s : Seen U.Key U.Value)
+        → IsAsBefore U.Key.eq (core_of desk.old versions.old.entries graph.old s sessions.old)
+        (core_of desk.new versions.new.entries graph.new s sessions.new)) }
+    ensures kept { OnOk result ((s : Seen U.Key U.Value)
+        → CoreStands U.Key.eq U.meaning
+        (core_of desk.old versions.old.entries graph.old s sessions.old)
+        → CoreStands U.Key.eq U.meaning
+        (core_of desk.new versions.new.entries graph.new s sessions.new)) }
 {
     laws_of::<U>();
     let Some(session) = sessions.session(tx) else {
@@ -127,18 +158,24 @@ pub(crate) fn ask_in<U: Universe>(
     Ok(index)
 }
 
-/// Closes a transaction: its asks go, and the tasks of its version that nobody asks for any more are dropped; with the last transaction
-/// of the version all its tasks go. It takes no memory.
+/// Closes a transaction: its asks go, and the tasks of its version that nobody asks for any more
+/// are dropped; with the last transaction of the version all its tasks go. It takes no memory.
 pub(crate) fn close_in<U: Universe>(
     desk: &mut Desk<U>,
     versions: &mut HashMap<u64, Tasks<U>>,
     sessions: &mut Sessions<U>,
     tx: u64,
 )
-    requires stands { (es : List (U.Key × Stored U.Key U.Value)) × (s : Seen U.Key U.Value) × CoreStands U.Key.eq U.meaning (core_of desk.old versions.old.entries es s sessions.old) }
+    requires stands { (es : List (U.Key × Stored U.Key U.Value)) × (s : Seen U.Key U.Value)
+        × CoreStands U.Key.eq U.meaning (core_of desk.old versions.old.entries es s sessions.old) }
     requires opened { is_some (open_at (reverse desk.old.events) tx) ≡ true }
-    ensures log { (o : Opened) × (ks : List U.Key) × (open_at (reverse desk.old.events) tx ≡ Some o) × (desk.new.events ≡ desk.old.events ++ (Close o.by tx ∷ map (Drop o.version) ks)) × DropsThese U.Key.eq o.version (nat_eq (open_count (reverse desk.new.events) o.version) 0) ks versions.old.entries versions.new.entries }
-    ensures kept { (es : List (U.Key × Stored U.Key U.Value)) (s : Seen U.Key U.Value) → CoreStands U.Key.eq U.meaning (core_of desk.old versions.old.entries es s sessions.old) → CoreStands U.Key.eq U.meaning (core_of desk.new versions.new.entries es s sessions.new) }
+    ensures log { (o : Opened) × (ks : List U.Key) × (open_at (reverse desk.old.events) tx ≡ Some o)
+        × (desk.new.events ≡ desk.old.events ++ (Close o.by tx ∷ map (Drop o.version) ks))
+        × DropsThese U.Key.eq o.version (nat_eq (open_count (reverse desk.new.events) o.version) 0)
+        ks versions.old.entries versions.new.entries }
+    ensures kept { (es : List (U.Key × Stored U.Key U.Value)) (s : Seen U.Key U.Value)
+        → CoreStands U.Key.eq U.meaning (core_of desk.old versions.old.entries es s sessions.old)
+        → CoreStands U.Key.eq U.meaning (core_of desk.new versions.new.entries es s sessions.new) }
 {
     laws_of::<U>();
     let Some(session) = sessions.close(tx) else {

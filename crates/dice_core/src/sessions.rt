@@ -15,7 +15,8 @@ use std::collections::HashMap;
 use std::marker::Model;
 use version_epoch::Tracker;
 
-/// An open transaction: the seat that opened it, its version, and the indices of its asks that were not left.
+/// An open transaction: the seat that opened it, its version, and the indices of its asks that were
+/// not left.
 #[derive(Drop)]
 pub(crate) struct Session {
     by: u64,
@@ -29,7 +30,8 @@ impl Model for Session {
 
     ghost Value = { SessionSeen };
 
-    ghost view = { λ s. record { by = s.by; version = s.version; asks = s.asks.keys; room = spare s.asks } };
+    ghost view = { λ s. record
+        { by = s.by; version = s.version; asks = s.asks.keys; room = spare s.asks } };
 }
 
 impl Session {
@@ -50,7 +52,9 @@ impl Session {
     /// Takes one ask out of the list. It takes no memory.
     pub(crate) fn pop_ask(&mut self) -> Option<u64>
         ensures opened { opened_of self.new ≡ opened_of self.old }
-        ensures some { IfSome result (λ i. (has_ask self.old.asks i ≡ true) × ((q : ℕ) → has_ask self.new.asks q ≡ (if nat_eq i q then false else has_ask self.old.asks q))) }
+        ensures some { IfSome result (λ i. (has_ask self.old.asks i ≡ true)
+            × ((q : ℕ)
+            → has_ask self.new.asks q ≡ (if nat_eq i q then false else has_ask self.old.asks q))) }
         ensures none { IfNone result (self.old.asks ≡ []) }
         ensures shorter { IfSome result (λ i. length self.new.asks < length self.old.asks) }
     {
@@ -71,7 +75,8 @@ impl Session {
     fn add_ask(&mut self, index: u64)
         requires { 0 < self.old.room }
         ensures opened { opened_of self.new ≡ opened_of self.old }
-        ensures asks { (q : ℕ) → has_ask self.new.asks q ≡ (if nat_eq index q then true else has_ask self.old.asks q) }
+        ensures asks { (q : ℕ)
+            → has_ask self.new.asks q ≡ (if nat_eq index q then true else has_ask self.old.asks q) }
     {
         let _ = self.asks.insert(index);
     }
@@ -79,7 +84,9 @@ impl Session {
     /// Takes an ask out of the list.
     fn drop_ask(&mut self, index: u64)
         ensures opened { opened_of self.new ≡ opened_of self.old }
-        ensures asks { (q : ℕ) → has_ask self.new.asks q ≡ (if nat_eq index q then false else has_ask self.old.asks q) }
+        ensures asks { (q : ℕ)
+            → has_ask self.new.asks q
+            ≡ (if nat_eq index q then false else has_ask self.old.asks q) }
     {
         self.asks.swap_remove(&index);
     }
@@ -88,7 +95,8 @@ impl Session {
 /// Makes room for one more ask of a transaction.
 fn reserve_in(transactions: &mut HashMap<u64, Session>, tx: u64) -> Result<(), NoMemory>
     ensures same { AsksTurn tx (λ i b. b) transactions.old.entries transactions.new.entries }
-    ensures ok { OnOk result (is_some (opened_in transactions.old.entries tx) ≡ true → 0 < room_in transactions.new.entries tx) }
+    ensures ok { OnOk result (is_some (opened_in transactions.old.entries tx) ≡ true
+        → 0 < room_in transactions.new.entries tx) }
 {
     let Some(session) = transactions.get_mut(&tx) else {
         return Ok(());
@@ -99,7 +107,8 @@ fn reserve_in(transactions: &mut HashMap<u64, Session>, tx: u64) -> Result<(), N
 /// Lists an ask in its transaction, in room made ahead.
 fn list_in(transactions: &mut HashMap<u64, Session>, tx: u64, index: u64)
     requires { 0 < room_in transactions.old.entries tx }
-    ensures { AsksTurn tx (λ i b. if nat_eq index i then true else b) transactions.old.entries transactions.new.entries }
+    ensures { AsksTurn tx (λ i b. if nat_eq index i then true else b) transactions.old.entries
+        transactions.new.entries }
 {
     let Some(session) = transactions.get_mut(&tx) else {
         return;
@@ -109,7 +118,8 @@ fn list_in(transactions: &mut HashMap<u64, Session>, tx: u64, index: u64)
 
 /// Takes an ask out of the list of its transaction.
 fn unlist_in(transactions: &mut HashMap<u64, Session>, tx: u64, index: u64)
-    ensures { AsksTurn tx (λ i b. if nat_eq index i then false else b) transactions.old.entries transactions.new.entries }
+    ensures { AsksTurn tx (λ i b. if nat_eq index i then false else b) transactions.old.entries
+        transactions.new.entries }
 {
     let Some(session) = transactions.get_mut(&tx) else {
         return;
@@ -157,8 +167,8 @@ impl<U: Universe> Asking<U> {
     }
 }
 
-/// What is open: the transactions and the asks that were not left, by the indices of their events, and how often each version
-/// is open.
+/// What is open: the transactions and the asks that were not left, by the indices of their events,
+/// and how often each version is open.
 ///
 /// Each call costs a look-up or a few.
 #[derive(Drop)]
@@ -175,7 +185,12 @@ impl<U: Universe> Model for Sessions<U> {
 
     ghost Value = { SessionsSeen U.Key };
 
-    ghost view = { λ s. record { transactions = s.transactions.entries; asks = s.asks.entries; epochs = s.epochs; room = spare s.asks } };
+    ghost view = { λ s. record {
+      transactions = s.transactions.entries;
+      asks = s.asks.entries;
+      epochs = s.epochs;
+      room = spare s.asks;
+    } };
 }
 
 impl<U: Universe> Sessions<U> {
@@ -227,21 +242,23 @@ impl<U: Universe> Sessions<U> {
         self.epochs.open_count(version)
     }
 
-    /// How many events are still to come for what is open: one for each transaction, and one for each ask.
+    /// How many events are still to come for what is open: one for each transaction, and one for
+    /// each ask.
     pub(crate) fn owed(&self) -> usize
         ensures { result ≡ owed self.now }
     {
         self.transactions.len() + self.asks.len()
     }
 
-    /// A transaction is opened at a version, by a seat; its index is that of the Open, which is written next. If memory is
-    /// refused nothing changes.
+    /// A transaction is opened at a version, by a seat; its index is that of the Open, which is
+    /// written next. If memory is refused nothing changes.
     pub(crate) fn open(&mut self, index: u64, by: u64, version: u64) -> Result<(), NoMemory>
         requires fresh { transaction_at self.old index ≡ None }
         requires count { open_count_of self.old.epochs version < u64.MAX }
         requires epoch { epoch_of self.old.epochs version < u64.MAX }
         ensures ok { OnOk result (Opens index by version self.old self.new) }
-        ensures stands { OnOk result ((R : List (Told U.Key U.Value)) → SessionsStand R self.old → length R ≡ index → SessionsStand (Open by version ∷ R) self.new) }
+        ensures stands { OnOk result ((R : List (Told U.Key U.Value)) → SessionsStand R self.old
+            → length R ≡ index → SessionsStand (Open by version ∷ R) self.new) }
         ensures err { OnErr result (IsSame self.old self.new) }
     {
         self.transactions.reserve(1)?;
@@ -260,21 +277,25 @@ impl<U: Universe> Sessions<U> {
     /// Makes room for one more ask of a transaction. Nothing else changes.
     pub(crate) fn reserve_ask(&mut self, tx: u64) -> Result<(), NoMemory>
         ensures same { IsSame self.old self.new }
-        ensures ok { OnOk result (is_some (transaction_at self.old tx) ≡ true → (0 < self.new.room) × (0 < ask_room self.new tx)) }
-        ensures stands { (R : List (Told U.Key U.Value)) → SessionsStand R self.old → SessionsStand R self.new }
+        ensures ok { OnOk result (is_some (transaction_at self.old tx) ≡ true
+            → (0 < self.new.room) × (0 < ask_room self.new tx)) }
+        ensures stands { (R : List (Told U.Key U.Value)) → SessionsStand R self.old
+            → SessionsStand R self.new }
     {
         self.asks.reserve(1)?;
         reserve_in(&mut self.transactions, tx)
     }
 
-    /// In an open transaction a seat asks for a key; the index is that of the Ask, which is written next. It takes the room that
-    /// was made for it, and no memory.
+    /// In an open transaction a seat asks for a key; the index is that of the Ask, which is written
+    /// next. It takes the room that was made for it, and no memory.
     pub(crate) fn ask(&mut self, index: u64, by: u64, tx: u64, key: KeyRef<U>)
         requires fresh { ask_at self.old index ≡ None }
         requires room { 0 < self.old.room }
         requires listed { 0 < ask_room self.old tx }
-        ensures exact { Asks index (record { by = by; opened = tx; key = arc_value key }) self.old self.new }
-        ensures stands { (R : List (Told U.Key U.Value)) → SessionsStand R self.old → length R ≡ index → SessionsStand (Ask by tx (arc_value key) ∷ R) self.new }
+        ensures exact { Asks index (record { by = by; opened = tx; key = arc_value key }) self.old
+            self.new }
+        ensures stands { (R : List (Told U.Key U.Value)) → SessionsStand R self.old
+            → length R ≡ index → SessionsStand (Ask by tx (arc_value key) ∷ R) self.new }
     {
         let asking = Asking {
             by,
@@ -290,21 +311,24 @@ impl<U: Universe> Sessions<U> {
         ensures result { result ≡ ask_at self.old ask }
         ensures some { IfSome result (λ a. Leaves ask a self.old self.new) }
         ensures none { IfNone result (IsSame self.old self.new) }
-        ensures stands { IfSome result (λ a. (R : List (Told U.Key U.Value)) (by : ℕ) → SessionsStand R self.old → SessionsStand (Leave by ask ∷ R) self.new) }
+        ensures stands { IfSome result (λ a. (R : List (Told U.Key U.Value)) (by : ℕ)
+            → SessionsStand R self.old → SessionsStand (Leave by ask ∷ R) self.new) }
     {
         let asking = self.asks.remove(&ask)?;
         unlist_in(&mut self.transactions, asking.opened, ask);
         Some(asking)
     }
 
-    /// A transaction is closed: it is taken out, if it is open. Its asks are still to be taken out, one by one. It takes no
-    /// memory.
+    /// A transaction is closed: it is taken out, if it is open. Its asks are still to be taken out,
+    /// one by one. It takes no memory.
     pub(crate) fn close(&mut self, tx: u64) -> Option<Session>
-        requires { (o : Opened) → transaction_at self.old tx ≡ Some o → 0 < open_count_of self.old.epochs o.version }
+        requires { (o : Opened) → transaction_at self.old tx ≡ Some o
+            → 0 < open_count_of self.old.epochs o.version }
         ensures result { result ≡ session_at self.old tx }
         ensures some { IfSome result (λ s. Closes tx s.version self.old self.new) }
         ensures none { IfNone result (IsSame self.old self.new) }
-        ensures stands { IfSome result (λ s. (R : List (Told U.Key U.Value)) (by : ℕ) → SessionsStand R self.old → Closing R by tx s.asks self.new) }
+        ensures stands { IfSome result (λ s. (R : List (Told U.Key U.Value)) (by : ℕ)
+            → SessionsStand R self.old → Closing R by tx s.asks self.new) }
     {
         let session = self.transactions.remove(&tx)?;
         self.epochs.close(session.version);
@@ -316,7 +340,10 @@ impl<U: Universe> Sessions<U> {
         ensures result { result ≡ ask_at self.old ask }
         ensures some { IfSome result (λ a. Takes ask self.old self.new) }
         ensures none { IfNone result (IsSame self.old self.new) }
-        ensures stands { IfSome result (λ a. (R : List (Told U.Key U.Value)) (by t : ℕ) (rest left : List ℕ) → Closing R by t rest self.old → has_ask rest ask ≡ true → ((q : ℕ) → has_ask left q ≡ (if nat_eq ask q then false else has_ask rest q)) → Closing R by t left self.new) }
+        ensures stands { IfSome result (λ a. (R : List (Told U.Key U.Value)) (by t : ℕ)
+            (rest left : List ℕ) → Closing R by t rest self.old → has_ask rest ask ≡ true
+            → ((q : ℕ) → has_ask left q ≡ (if nat_eq ask q then false else has_ask rest q))
+            → Closing R by t left self.new) }
     {
         self.asks.remove(&ask)
     }

@@ -12,10 +12,12 @@ use std::marker::Model;
 use std::sync::{Arc, Wait};
 use turnstile::Turnstile;
 
-/// A seat of an engine: what one thread has seen of the engine's journal. It may travel to another thread.
+/// A seat of an engine: what one thread has seen of the engine's journal. It may travel to another
+/// thread.
 pub type Seat<U> = turnstile::Seat<Told<<U as Universe>::Key, <U as Universe>::Value>>;
 
-/// An engine. It may be shared by threads, each with a seat of its own. Contracts see it as the identity of its turnstile.
+/// An engine. It may be shared by threads, each with a seat of its own. Contracts see it as the
+/// identity of its turnstile.
 pub struct Engine<U: Universe> {
     pub(crate) stile: Turnstile<State<U>>,
     pub(crate) universe: Arc<U>,
@@ -42,8 +44,8 @@ impl<U: Universe> Model for Engine<U> {
 }
 
 impl<U: Universe> Engine<U> {
-    /// An engine without commits, and its first seat, which has the number 0 and the spare numbers 1 to 2^32 - 1. Seats with a
-    /// number below `writers` may commit, open and ask.
+    /// An engine without commits, and its first seat, which has the number 0 and the spare numbers
+    /// 1 to 2^32 - 1. Seats with a number below `writers` may commit, open and ask.
     pub fn new<R: Wait>(
         _rt: &R,
         alloc: Global,
@@ -60,7 +62,8 @@ impl<U: Universe> Engine<U> {
         }
     }
 
-    /// A new seat with the least spare number, which has seen what this one has. It takes no memory, and is never refused.
+    /// A new seat with the least spare number, which has seen what this one has. It takes no
+    /// memory, and is never refused.
     pub fn split(&self, seat: &mut Seat<U>) -> Result<Seat<U>, NoMemory>
         requires seat { IsSeatOf self.now seat.old }
         requires spare { 0 < spare seat.old }
@@ -74,8 +77,8 @@ impl<U: Universe> Engine<U> {
         }
     }
 
-    /// Ends another seat, whose number it answers. This seat has seen from then on what either has, and notes the other's events
-    /// and those of the seats that were joined to it.
+    /// Ends another seat, whose number it answers. This seat has seen from then on what either has,
+    /// and notes the other's events and those of the seats that were joined to it.
     pub fn join(&self, seat: &mut Seat<U>, other: Seat<U>) -> u64
         requires seat { IsSeatOf self.now seat.old }
         requires other { IsSeatOf self.now other }
@@ -83,13 +86,15 @@ impl<U: Universe> Engine<U> {
         ensures seen { seat.new.seen ≡ longer seat.old.seen other.seen }
         ensures floor { seat.new.floor ≡ max seat.old.floor other.floor }
         ensures ended { seat.new.ended ≡ note_of seat.old other ∷ (seat.old.ended ++ other.ended) }
-        ensures same { seat.new ≡ record seat.old { seen = seat.new.seen; floor = seat.new.floor; ended = seat.new.ended } }
+        ensures same { seat.new
+            ≡ record seat.old
+            { seen = seat.new.seen; floor = seat.new.floor; ended = seat.new.ended } }
     {
         self.stile.join(seat, other)
     }
 
-    /// Whether a seat has a turn or waits for one just now. It is a hint, by which a seat that can wait lets others go first: nothing
-    /// is promised of it.
+    /// Whether a seat has a turn or waits for one just now. It is a hint, by which a seat that can
+    /// wait lets others go first: nothing is promised of it.
     pub fn is_taken(&self) -> bool {
         self.stile.is_taken()
     }

@@ -6,7 +6,8 @@ use dice_key::{Line, NoMemory, Universe};
 use journal::Journal;
 use std::alloc::Global;
 
-/// The lines of a journal, one for each event, in order. It takes as long as the journal and its lines are.
+/// The lines of a journal, one for each event, in order. It takes as long as the journal and its
+/// lines are.
 pub(crate) fn lines_of<U: Universe>(
     alloc: Global,
     universe: &U,

@@ -1,4 +1,5 @@
-//! The state that lies in the slot of the turnstile, and the core's calls on it: one of them in each turn.
+//! The state that lies in the slot of the turnstile, and the core's calls on it: one of them in
+//! each turn.
 ghost use Rattle.std.specs.Prelude.{◌≡◌, ◌≢◌, ℕ, List, [], ◌∷◌, ◌++◌, length, reverse, Some, IfOk, IfErr, IfSome, IfNone, OnOk, OnErr, MatchResult};
 ghost use Rattle.std.specs.Arc.{arc_value};
 ghost use Rattle.std.specs.Map.{keys_of};
@@ -29,7 +30,8 @@ use std::alloc::Global;
 use std::sync::Arc;
 use turnstile::Tale;
 
-/// The state that the seats of an engine have in turns: its core, and what it tells of itself between two turns.
+/// The state that the seats of an engine have in turns: its core, and what it tells of itself
+/// between two turns.
 #[derive(Drop)]
 pub struct State<U: Universe> {
     core: Box<Core<U>>,
@@ -66,7 +68,8 @@ impl<U: Universe> Tale for State<U> {
     ghost rises = { newest_rises };
 }
 
-/// What a core tells of itself: how many tasks are ready and how many jobs are out, and the newest version.
+/// What a core tells of itself: how many tasks are ready and how many jobs are out, and the newest
+/// version.
 fn standing<U: Universe>(core: &Core<U>) -> ((u64, u64, u64), u64)
     ensures left { result.0 ≡ left_of core.now }
     ensures newest { result.1 ≡ newest_in (events_of core.now) }
@@ -78,7 +81,8 @@ fn standing<U: Universe>(core: &Core<U>) -> ((u64, u64, u64), u64)
 }
 
 impl<U: Universe> State<U> {
-    /// A state with this core. The core lies on the heap, so that a turn moves no more than its address.
+    /// A state with this core. The core lies on the heap, so that a turn moves no more than its
+    /// address.
     pub(crate) fn new(alloc: Global, core: Core<U>) -> Result<State<U>, NoMemory>
         ensures { IfOk result (λ s. s.core.value ≡ core) }
     {
@@ -94,11 +98,16 @@ impl<U: Universe> State<U> {
         updater: &'a Updater<U>,
     ) -> Result<Version, CommitRefusal<'a, U>>
         ensures settable { OnOk result (AreSettable U.meaning (keys_of updater.now)) }
-        ensures fault { IfErr result (λ e. IfSome (fault_of e) (IsFirstFault U.meaning (keys_of updater.now))) }
-        ensures first { (f : Fault U.Key) → IsFirstFault U.meaning (keys_of updater.now) f → MatchResult result (λ _. ⊥) (λ e. IfSome (fault_of e) (λ g. g ≡ f)) }
+        ensures fault { IfErr result
+            (λ e. IfSome (fault_of e) (IsFirstFault U.meaning (keys_of updater.now))) }
+        ensures first { (f : Fault U.Key) → IsFirstFault U.meaning (keys_of updater.now) f
+            → MatchResult result (λ _. ⊥) (λ e. IfSome (fault_of e) (λ g. g ≡ f)) }
         ensures version { IfOk result (λ v. v ≡ newest_in (events_of self.new.core.value)) }
-        ensures ok { OnOk result (Adds U.Key.eq U.meaning by (events_of self.old.core.value) (events_of self.new.core.value) (Commits U.Key.eq U.Value.eq U.meaning by (log_of (events_of self.old.core.value)) updater.now)) }
-        ensures err { OnErr result (Adds U.Key.eq U.meaning by (events_of self.old.core.value) (events_of self.new.core.value) AddsNothing) }
+        ensures ok { OnOk result (Adds U.Key.eq U.meaning by (events_of self.old.core.value)
+            (events_of self.new.core.value) (Commits U.Key.eq U.Value.eq U.meaning by
+            (log_of (events_of self.old.core.value)) updater.now)) }
+        ensures err { OnErr result (Adds U.Key.eq U.meaning by (events_of self.old.core.value)
+            (events_of self.new.core.value) AddsNothing) }
     {
         cells_are_the_inputs::<U>();
         let core = &mut *self.core;
@@ -112,9 +121,12 @@ impl<U: Universe> State<U> {
 
     /// Opens a transaction for a seat.
     pub(crate) fn open(&mut self, by: u64) -> Result<Transaction, NoMemory>
-        ensures named { IfOk result (λ t. (t.version ≡ newest_in (events_of self.old.core.value)) × (t.opened ≡ length (events_of self.old.core.value))) }
-        ensures ok { OnOk result (Adds U.Key.eq U.meaning by (events_of self.old.core.value) (events_of self.new.core.value) (Opens by (events_of self.old.core.value))) }
-        ensures err { OnErr result (Adds U.Key.eq U.meaning by (events_of self.old.core.value) (events_of self.new.core.value) AddsNothing) }
+        ensures named { IfOk result (λ t. (t.version ≡ newest_in (events_of self.old.core.value))
+            × (t.opened ≡ length (events_of self.old.core.value))) }
+        ensures ok { OnOk result (Adds U.Key.eq U.meaning by (events_of self.old.core.value)
+            (events_of self.new.core.value) (Opens by (events_of self.old.core.value))) }
+        ensures err { OnErr result (Adds U.Key.eq U.meaning by (events_of self.old.core.value)
+            (events_of self.new.core.value) AddsNothing) }
     {
         let version = self.newest;
         let core = &mut *self.core;
@@ -130,8 +142,13 @@ impl<U: Universe> State<U> {
 
     /// Closes a transaction.
     pub(crate) fn close(&mut self, transaction: Transaction)
-        requires { IsLawfulJournal U.Key.eq U.meaning (events_of self.old.core.value) → (o : Opened) × (open_at (reverse (events_of self.old.core.value)) transaction.opened ≡ Some o) }
-        ensures { (o : Opened) × (open_at (reverse (events_of self.old.core.value)) transaction.opened ≡ Some o) × Adds U.Key.eq U.meaning o.by (events_of self.old.core.value) (events_of self.new.core.value) (Closes o.by transaction.opened o.version) }
+        requires { IsLawfulJournal U.Key.eq U.meaning (events_of self.old.core.value)
+            → (o : Opened)
+            × (open_at (reverse (events_of self.old.core.value)) transaction.opened ≡ Some o) }
+        ensures { (o : Opened)
+            × (open_at (reverse (events_of self.old.core.value)) transaction.opened ≡ Some o)
+            × Adds U.Key.eq U.meaning o.by (events_of self.old.core.value)
+            (events_of self.new.core.value) (Closes o.by transaction.opened o.version) }
     {
         let core = &mut *self.core;
         core.in_order();
@@ -148,10 +165,18 @@ impl<U: Universe> State<U> {
         transaction: &Transaction,
         key: KeyRef<U>,
     ) -> Result<Promise<U>, NoMemory>
-        requires { IsLawfulJournal U.Key.eq U.meaning (events_of self.old.core.value) → (o : Opened) × (open_at (reverse (events_of self.old.core.value)) transaction.now.opened ≡ Some o) × (o.version ≡ transaction.now.version) }
-        ensures named { IfOk result (λ p. (p.version ≡ transaction.now.version) × (p.opened ≡ transaction.now.opened) × (p.ask ≡ length (events_of self.old.core.value)) × (arc_value p.key ≡ arc_value key)) }
-        ensures ok { OnOk result (Adds U.Key.eq U.meaning by (events_of self.old.core.value) (events_of self.new.core.value) (Asks by transaction.now.opened transaction.now.version (arc_value key))) }
-        ensures err { OnErr result (Adds U.Key.eq U.meaning by (events_of self.old.core.value) (events_of self.new.core.value) AddsNothing) }
+        requires { IsLawfulJournal U.Key.eq U.meaning (events_of self.old.core.value)
+            → (o : Opened)
+            × (open_at (reverse (events_of self.old.core.value)) transaction.now.opened ≡ Some o)
+            × (o.version ≡ transaction.now.version) }
+        ensures named { IfOk result (λ p. (p.version ≡ transaction.now.version)
+            × (p.opened ≡ transaction.now.opened) × (p.ask ≡ length (events_of self.old.core.value))
+            × (arc_value p.key ≡ arc_value key)) }
+        ensures ok { OnOk result (Adds U.Key.eq U.meaning by (events_of self.old.core.value)
+            (events_of self.new.core.value)
+            (Asks by transaction.now.opened transaction.now.version (arc_value key))) }
+        ensures err { OnErr result (Adds U.Key.eq U.meaning by (events_of self.old.core.value)
+            (events_of self.new.core.value) AddsNothing) }
     {
         let core = &mut *self.core;
         core.in_order();
@@ -169,9 +194,25 @@ impl<U: Universe> State<U> {
 
     /// Leaves an ask, if its transaction is still open.
     pub(crate) fn leave(&mut self, promise: Promise<U>)
-        requires open { IsLawfulJournal U.Key.eq U.meaning (events_of self.old.core.value) → (o : Opened) → open_at (reverse (events_of self.old.core.value)) promise.opened ≡ Some o → (a : Asking U.Key) × (live_at (reverse (events_of self.old.core.value)) promise.ask ≡ Some a) × (a.opened ≡ promise.opened) × (o.version ≡ promise.version) }
-        requires closed { IsLawfulJournal U.Key.eq U.meaning (events_of self.old.core.value) → (a : Asking U.Key) → live_at (reverse (events_of self.old.core.value)) promise.ask ≡ Some a → (a.opened ≡ promise.opened) × ((o : Opened) × (open_at (reverse (events_of self.old.core.value)) promise.opened ≡ Some o)) }
-        ensures { (n : ℕ) → (IsLawfulJournal U.Key.eq U.meaning (events_of self.old.core.value) → (a : Asking U.Key) → live_at (reverse (events_of self.old.core.value)) promise.ask ≡ Some a → a.by ≡ n) → Adds U.Key.eq U.meaning n (events_of self.old.core.value) (events_of self.new.core.value) (Leaves n promise.ask promise.opened promise.version (events_of self.old.core.value)) }
+        requires open { IsLawfulJournal U.Key.eq U.meaning (events_of self.old.core.value)
+            → (o : Opened)
+            → open_at (reverse (events_of self.old.core.value)) promise.opened ≡ Some o
+            → (a : Asking U.Key)
+            × (live_at (reverse (events_of self.old.core.value)) promise.ask ≡ Some a)
+            × (a.opened ≡ promise.opened) × (o.version ≡ promise.version) }
+        requires closed { IsLawfulJournal U.Key.eq U.meaning (events_of self.old.core.value)
+            → (a : Asking U.Key)
+            → live_at (reverse (events_of self.old.core.value)) promise.ask ≡ Some a
+            → (a.opened ≡ promise.opened)
+            × ((o : Opened)
+            × (open_at (reverse (events_of self.old.core.value)) promise.opened ≡ Some o)) }
+        ensures { (n : ℕ)
+            → (IsLawfulJournal U.Key.eq U.meaning (events_of self.old.core.value)
+            → (a : Asking U.Key)
+            → live_at (reverse (events_of self.old.core.value)) promise.ask ≡ Some a → a.by ≡ n)
+            → Adds U.Key.eq U.meaning n (events_of self.old.core.value)
+            (events_of self.new.core.value)
+            (Leaves n promise.ask promise.opened promise.version (events_of self.old.core.value)) }
     {
         let core = &mut *self.core;
         core.in_order();
@@ -185,11 +226,20 @@ impl<U: Universe> State<U> {
 
     /// What a promise has come to.
     pub(crate) fn poll(&self, promise: &Promise<U>) -> Result<Answer<U>, NoMemory>
-        requires { IsLawfulJournal U.Key.eq U.meaning (events_of self.now.core.value) → (a : Asking U.Key) → live_at (reverse (events_of self.now.core.value)) promise.now.ask ≡ Some a → (a.opened ≡ promise.now.opened) × (a.key ≡ arc_value promise.now.key) × ((o : Opened) → open_at (reverse (events_of self.now.core.value)) a.opened ≡ Some o → o.version ≡ promise.now.version) }
-        ensures reply { IsReply U.Key.eq U.meaning (events_of self.now.core.value) promise.now.version (arc_value promise.now.key) promise.now.ask (left_of self.now.core.value) (reply_of result) }
+        requires { IsLawfulJournal U.Key.eq U.meaning (events_of self.now.core.value)
+            → (a : Asking U.Key)
+            → live_at (reverse (events_of self.now.core.value)) promise.now.ask ≡ Some a
+            → (a.opened ≡ promise.now.opened) × (a.key ≡ arc_value promise.now.key)
+            × ((o : Opened) → open_at (reverse (events_of self.now.core.value)) a.opened ≡ Some o
+            → o.version ≡ promise.now.version) }
+        ensures reply { IsReply U.Key.eq U.meaning (events_of self.now.core.value)
+            promise.now.version (arc_value promise.now.key) promise.now.ask
+            (left_of self.now.core.value) (reply_of result) }
 
         // If the ask is live, what is answered is what the core has come to.
-        ensures exact { IsLiveIn (events_of self.now.core.value) promise.now.ask → Tells (poll_of U.Key.eq U.meaning self.now.core.value promise.now.version (arc_value promise.now.key)) (reply_of result) }
+        ensures exact { IsLiveIn (events_of self.now.core.value) promise.now.ask
+            → Tells (poll_of U.Key.eq U.meaning self.now.core.value promise.now.version
+            (arc_value promise.now.key)) (reply_of result) }
         ensures lawful { IsLawfulJournal U.Key.eq U.meaning (events_of self.now.core.value) }
         ensures rests { RestsByJournal U.Key.eq U.meaning self.now.core.value }
     {
@@ -203,7 +253,8 @@ impl<U: Universe> State<U> {
 
     /// The lines of the journal, one for each event, in order.
     pub(crate) fn lines(&self, alloc: Global, universe: &U) -> Result<Vec<Line>, NoMemory>
-        ensures lines { IfOk result (λ ls. AreLines U.meaning (events_of self.now.core.value) ls.items) }
+        ensures lines { IfOk result
+            (λ ls. AreLines U.meaning (events_of self.now.core.value) ls.items) }
         ensures lawful { IsLawfulJournal U.Key.eq U.meaning (events_of self.now.core.value) }
     {
         let core = &*self.core;
@@ -227,7 +278,8 @@ impl<U: Universe> State<U> {
         alloc: Global,
         start: usize,
     ) -> Result<Vec<Event<U::Key, U::Value>>, NoMemory>
-        ensures events { IfOk result (λ es. AreEventsFrom start (events_of self.now.core.value) es.items) }
+        ensures events { IfOk result
+            (λ es. AreEventsFrom start (events_of self.now.core.value) es.items) }
         ensures lawful { IsLawfulJournal U.Key.eq U.meaning (events_of self.now.core.value) }
     {
         let core = &*self.core;
@@ -235,12 +287,15 @@ impl<U: Universe> State<U> {
         events_since(alloc, core.journal(), start)
     }
 
-    /// Takes the job of a task that is ready; it is out then, and nothing else changes. `None` exactly if no task is ready.
+    /// Takes the job of a task that is ready; it is out then, and nothing else changes. `None`
+    /// exactly if no task is ready.
     pub(crate) fn take_job(&mut self) -> Option<Job<U>>
-        ensures adds { Adds U.Key.eq U.meaning 0 (events_of self.old.core.value) (events_of self.new.core.value) AddsNothing }
+        ensures adds { Adds U.Key.eq U.meaning 0 (events_of self.old.core.value)
+            (events_of self.new.core.value) AddsNothing }
         ensures goes { GoesOut U.Key.eq result self.old.core.value self.new.core.value }
         ensures none { IfNone result (self.new.core.value.desk.ready ≡ []) }
-        ensures answered { IfSome result (IsAnsweredIn U.Key.eq U.meaning (log_of (events_of self.new.core.value))) }
+        ensures answered { IfSome result
+            (IsAnsweredIn U.Key.eq U.meaning (log_of (events_of self.new.core.value))) }
         ensures rests { RestsByJournal U.Key.eq U.meaning self.new.core.value }
     {
         let core = &mut *self.core;
@@ -251,12 +306,15 @@ impl<U: Universe> State<U> {
         job
     }
 
-    /// Takes up what came of a job that was taken here: a step, or the name of the job, if there was no memory for it. The job is
-    /// out no more then.
+    /// Takes up what came of a job that was taken here: a step, or the name of the job, if there
+    /// was no memory for it. The job is out no more then.
     pub(crate) fn take_up(&mut self, came: Result<Step<U>, JobName<U>>)
-        requires { IfOk came (λ s. AnsweredTruly U.Key.eq U.meaning (log_of (events_of self.old.core.value)) s.job) }
-        ensures adds { Adds U.Key.eq U.meaning 0 (events_of self.old.core.value) (events_of self.new.core.value) (λ own work. own ≡ []) }
-        ensures home { ComesHome U.Key.eq U.meaning U.Value.eq came self.old.core.value self.new.core.value }
+        requires { IfOk came
+            (λ s. AnsweredTruly U.Key.eq U.meaning (log_of (events_of self.old.core.value)) s.job) }
+        ensures adds { Adds U.Key.eq U.meaning 0 (events_of self.old.core.value)
+            (events_of self.new.core.value) (λ own work. own ≡ []) }
+        ensures home { ComesHome U.Key.eq U.meaning U.Value.eq came self.old.core.value
+            self.new.core.value }
         ensures rests { RestsByJournal U.Key.eq U.meaning self.new.core.value }
     {
         let core = &mut *self.core;
@@ -276,7 +334,10 @@ fn ask_again<U: Universe>(
 ) -> Result<u64, NoMemory>
     requires { (o : Opened) × (open_at (reverse (events_of core.old)) opened ≡ Some o) }
     ensures index { IfOk result (λ i. i ≡ length (events_of core.old)) }
-    ensures ok { OnOk result ((o : Opened) × (made : List (Told U.Key U.Value)) × (open_at (reverse (events_of core.old)) opened ≡ Some o) × IsToldOfMake o.version (arc_value key.now) made × (events_of core.new ≡ events_of core.old ++ (Ask by opened (arc_value key.now) ∷ made))) }
+    ensures ok { OnOk result ((o : Opened) × (made : List (Told U.Key U.Value))
+        × (open_at (reverse (events_of core.old)) opened ≡ Some o)
+        × IsToldOfMake o.version (arc_value key.now) made
+        × (events_of core.new ≡ events_of core.old ++ (Ask by opened (arc_value key.now) ∷ made))) }
     ensures err { OnErr result (events_of core.new ≡ events_of core.old) }
 {
     core.ask(by, opened, Arc::try_clone(key)?)
@@ -298,7 +359,8 @@ fn answer_of<U: Universe>(polled: Polled<'_, U>) -> Result<Answer<U>, NoMemory>
 
 /// Takes up what came of a job.
 fn take_in<U: Universe>(core: &mut Core<U>, came: Result<Step<U>, JobName<U>>)
-    requires { IfOk came (λ s. AnsweredTruly U.Key.eq U.meaning (log_of (events_of core.old)) s.job) }
+    requires { IfOk came
+        (λ s. AnsweredTruly U.Key.eq U.meaning (log_of (events_of core.old)) s.job) }
     ensures works { WorksOn (events_of core.old) (events_of core.new) }
     ensures home { ComesHome U.Key.eq U.meaning U.Value.eq came core.old core.new }
 {
@@ -308,7 +370,8 @@ fn take_in<U: Universe>(core: &mut Core<U>, came: Result<Step<U>, JobName<U>>)
     }
 }
 
-/// Gives a step: it is taken; or its job is not out, and nothing changes; or there is no memory for it, and its job is given up.
+/// Gives a step: it is taken; or its job is not out, and nothing changes; or there is no memory for
+/// it, and its job is given up.
 fn give<U: Universe>(core: &mut Core<U>, step: Step<U>)
     requires { AnsweredTruly U.Key.eq U.meaning (log_of (events_of core.old)) step.job }
     ensures works { WorksOn (events_of core.old) (events_of core.new) }

@@ -40,8 +40,9 @@ impl<U: Universe> Engine<U> {
         Ok(seats)
     }
 
-    /// Calls `f` in this thread, with a worker on each of these seats beside it. A worker does jobs in a thread of its own until `f`
-    /// has returned. If no thread can be made for a worker, its jobs are left to the others, and to `wait`.
+    /// Calls `f` in this thread, with a worker on each of these seats beside it. A worker does jobs
+    /// in a thread of its own until `f` has returned. If no thread can be made for a worker, its
+    /// jobs are left to the others, and to `wait`.
     pub fn with_workers<R: Threads + Wait + Sync, G: Gate, T, F: FnOnce() -> T>(
         &self,
         rt: &R,
@@ -93,8 +94,9 @@ impl<U: Universe> Engine<U> {
         .is_ok()
     }
 
-    // Does jobs until it is stopped, which it answers. After each job it rests a little, and for longer while it finds none; if the
-    // engine is taken, it rests first. So the turns are left to the caller: most jobs are short.
+    // Does jobs until it is stopped, which it answers. After each job it rests a little, and for
+    // longer while it finds none; if the engine is taken, it rests first. So the turns are left to
+    // the caller: most jobs are short.
     fn work_on<R: Wait, G: Gate>(
         &self,
         rt: &R,

@@ -21,8 +21,8 @@ use dice_key::{NoMemory, Universe};
 use std::sync::Wait;
 
 impl<U: Universe> Engine<U> {
-    /// Does one job, if a task is ready: it is taken in one turn, done outside, and given in another one. If there is no memory
-    /// for it, it is given up.
+    /// Does one job, if a task is ready: it is taken in one turn, done outside, and given in
+    /// another one. If there is no memory for it, it is given up.
     pub fn work<R: Wait, G: Gate>(
         &self,
         rt: &R,
@@ -32,12 +32,14 @@ impl<U: Universe> Engine<U> {
     ) -> Worked
         requires { IsSeatOf self.now seat.old }
         ensures works { Works U.Key.eq U.meaning seat.old seat.new }
-        ensures later { Later U.Key.eq U.meaning seat.old seat.new × (seat.new.mine ≡ seat.old.mine) }
+        ensures later { Later U.Key.eq U.meaning seat.old seat.new
+            × (seat.new.mine ≡ seat.old.mine) }
         ensures idle { result ≡ worked.Idle → seat.new.left.0 ≡ 0 }
         ensures did { result ≡ worked.Did → seat.new.turns ≡ seat.old.turns + 2 }
 
         // A job went out and what came of it came home; or no task was ready, and nothing changed.
-        ensures job { result ≡ worked.Did → DoesJob U.Key.eq U.meaning U.Value.eq seat.old seat.new }
+        ensures job { result ≡ worked.Did
+            → DoesJob U.Key.eq U.meaning U.Value.eq seat.old seat.new }
         ensures none { result ≡ worked.Idle → FindsNothing U.Key.eq U.meaning seat.old seat.new }
         ensures seat { IsSeatOf self.now seat.new }
         ensures same { (seat.new.number ≡ seat.old.number) × (seat.new.writers ≡ seat.old.writers) }
@@ -68,7 +70,8 @@ impl<U: Universe> Engine<U> {
     // Gives what came of a job that was taken, in one turn.
     fn take_up<R: Wait>(&self, rt: &R, seat: &mut Seat<U>, came: Result<Step<U>, JobName<U>>)
         requires seat { IsSeatOf self.now seat.old }
-        requires answered { IfOk came (λ s. IsAnsweredIn U.Key.eq U.meaning (log_of seat.old.seen) s.job) }
+        requires answered { IfOk came
+            (λ s. IsAnsweredIn U.Key.eq U.meaning (log_of seat.old.seen) s.job) }
         ensures turn { Turn U.Key.eq U.meaning seat.old seat.new (λ found own work. own ≡ []) }
         ensures home { TakesIn U.Key.eq U.meaning U.Value.eq came seat.old seat.new }
     {
@@ -78,8 +81,8 @@ impl<U: Universe> Engine<U> {
         self.stile.leave(turn);
     }
 
-    /// Waits until a promise has come to something, and does jobs meanwhile. It need not return: jobs that others have taken have to
-    /// be given.
+    /// Waits until a promise has come to something, and does jobs meanwhile. It need not return:
+    /// jobs that others have taken have to be given.
     pub fn wait<R: Wait, G: Gate>(
         &self,
         rt: &R,
@@ -89,11 +92,15 @@ impl<U: Universe> Engine<U> {
         worker: u32,
     ) -> Result<Settled<U>, NoMemory>
         requires seat { IsSeatOf self.now seat.old }
-        requires ask { SawAsk seat.old promise.now.ask promise.now.opened promise.now.version (arc_value promise.now.key) }
+        requires ask { SawAsk seat.old promise.now.ask promise.now.opened promise.now.version
+            (arc_value promise.now.key) }
         ensures works { Works U.Key.eq U.meaning seat.old seat.new }
-        ensures later { Later U.Key.eq U.meaning seat.old seat.new × (seat.new.mine ≡ seat.old.mine) }
-        ensures waits { WaitsFor U.Key.eq U.meaning U.Value.eq promise.now result seat.old seat.new }
-        ensures reply { IsReply U.Key.eq U.meaning seat.new.seen promise.now.version (arc_value promise.now.key) promise.now.ask seat.new.left (settled_of result) }
+        ensures later { Later U.Key.eq U.meaning seat.old seat.new
+            × (seat.new.mine ≡ seat.old.mine) }
+        ensures waits { WaitsFor U.Key.eq U.meaning U.Value.eq promise.now result seat.old
+            seat.new }
+        ensures reply { IsReply U.Key.eq U.meaning seat.new.seen promise.now.version
+            (arc_value promise.now.key) promise.now.ask seat.new.left (settled_of result) }
         ensures seat { IsSeatOf self.now seat.new }
         ensures same { (seat.new.number ≡ seat.old.number) × (seat.new.writers ≡ seat.old.writers) }
     {

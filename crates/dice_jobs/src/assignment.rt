@@ -21,8 +21,8 @@ pub struct Earlier<U: Universe> {
     pub base: Version,
 }
 
-/// What a job is for: its name, the batches that were answered so far, and what is done: the key's value is computed, or an
-/// earlier one is checked.
+/// What a job is for: its name, the batches that were answered so far, and what is done: the key's
+/// value is computed, or an earlier one is checked.
 ///
 /// A task keeps one while its job is out, and compares with it the step that comes back.
 pub struct Assignment<U: Universe> {
@@ -67,7 +67,8 @@ impl<U: Universe> Model for Assignment<U> {
 
     ghost use Rattle.dice_jobs.specs.Shapes.{answers_in, work_in};
 
-    ghost view = { λ a. record { name = a.name; answered = answers_in a.progress; work = work_in a.progress } };
+    ghost view = { λ a. record
+        { name = a.name; answered = answers_in a.progress; work = work_in a.progress } };
 }
 
 impl<U: Universe> Assignment<U> {
@@ -88,7 +89,8 @@ impl<U: Universe> Assignment<U> {
         name: JobName<U>,
         earlier: Earlier<U>,
     ) -> Result<Assignment<U>, NoMemory>
-        ensures { IfOk result (λ a. a ≡ record { name = name; answered = []; work = work_of (Some earlier) }) }
+        ensures { IfOk result
+            (λ a. a ≡ record { name = name; answered = []; work = work_of (Some earlier) }) }
     {
         let progress = check_of(alloc, earlier, None)?;
         Ok(Assignment {
@@ -146,7 +148,8 @@ impl<U: Universe> Assignment<U> {
         answers_of(&self.progress)
     }
 
-    /// The same answered batches, from which the key's value is computed. They are shared, not copied.
+    /// The same answered batches, from which the key's value is computed. They are shared, not
+    /// copied.
     pub fn computing(&self) -> Result<Assignment<U>, NoMemory>
         ensures { IfOk result (λ a. a ≡ computing self.now) }
     {
@@ -172,8 +175,8 @@ impl<U: Universe> Assignment<U> {
         })
     }
 
-    /// The same assignment with one more batch answered, with a value for each of its keys. Keys and values are shared; it costs
-    /// their number, over all batches.
+    /// The same assignment with one more batch answered, with a value for each of its keys. Keys
+    /// and values are shared; it costs their number, over all batches.
     pub fn extended(
         &self,
         batch: &Batch<U::Key>,
@@ -208,8 +211,9 @@ impl<U: Universe> Assignment<U> {
         }
     }
 
-    /// Whether the two are the same: their names, their answered batches, whether they compute or check, and of a check the value,
-    /// its trace and its base. It takes no memory; it costs a comparison for each key and each value.
+    /// Whether the two are the same: their names, their answered batches, whether they compute or
+    /// check, and of a check the value, its trace and its base. It takes no memory; it costs a
+    /// comparison for each key and each value.
     pub fn is_same(&self, other: &Assignment<U>) -> bool
         ensures { IsTrue result ↔ (self.now ≡ other.now) }
     {
@@ -218,8 +222,8 @@ impl<U: Universe> Assignment<U> {
             && are_same_work(&self.progress, &other.progress)
     }
 
-    /// Whether the two have the same name, compute or check a value of the same base, and are answered equally many batches. It costs
-    /// a comparison of their keys, and of no value.
+    /// Whether the two have the same name, compute or check a value of the same base, and are
+    /// answered equally many batches. It costs a comparison of their keys, and of no value.
     pub fn is_alike(&self, other: &Assignment<U>) -> bool
         ensures { IsTrue result ↔ AreAlike self.now other.now }
     {

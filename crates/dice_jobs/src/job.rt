@@ -31,7 +31,8 @@ pub(crate) enum Ready<U: Universe> {
     Feed(Box<Check<U>>, Answers<U::Value>),
 }
 
-/// A piece of work for a key at a version that is done outside the core: one step of a run, or of a check of an earlier value.
+/// A piece of work for a key at a version that is done outside the core: one step of a run, or of a
+/// check of an earlier value.
 ///
 /// It says what it is for; what comes of it is a function of that, and [`Job::advance`] finds it.
 pub struct Job<U: Universe> {
@@ -75,7 +76,8 @@ impl<U: Universe> Job<U> {
 
     /// A check of an earlier value, which was fed nothing yet.
     pub fn check(alloc: Global, name: JobName<U>, earlier: Earlier<U>) -> Result<Job<U>, NoMemory>
-        ensures { IfOk result (λ j. j ≡ record { name = name; answered = []; work = work_of (Some earlier) }) }
+        ensures { IfOk result
+            (λ j. j ≡ record { name = name; answered = []; work = work_of (Some earlier) }) }
     {
         let check = Box::new(alloc, Check::new(Arc::try_clone(&earlier.trace)?))?;
         let assignment = Assignment::checks(alloc, name, earlier)?;
@@ -85,12 +87,13 @@ impl<U: Universe> Job<U> {
         })
     }
 
-    /// A run of a key that is not injected, after these answered batches, which are those that it asks first. It begins, and goes
-    /// through them, when it is advanced. It takes no memory.
+    /// A run of a key that is not injected, after these answered batches, which are those that it
+    /// asks first. It begins, and goes through them, when it is advanced. It takes no memory.
     pub fn replay(assignment: Assignment<U>) -> Job<U>
         requires work { assignment.work ≡ Computes }
         requires kind { U.meaning.kind assignment.name.key ≢ Injected }
-        requires asks { AsksThese U.meaning assignment.name.key assignment.name.version assignment.answered }
+        requires asks { AsksThese U.meaning assignment.name.key assignment.name.version
+            assignment.answered }
         ensures { result ≡ assignment }
     {
         Job {
@@ -113,8 +116,8 @@ impl<U: Universe> Job<U> {
         self.assignment.name()
     }
 
-    /// Does the work, up to the next batch that is wanted or to the end. If memory is refused the job is given up, and its name
-    /// is handed back.
+    /// Does the work, up to the next batch that is wanted or to the end. If memory is refused the
+    /// job is given up, and its name is handed back.
     ///
     /// It costs what the universe's move costs, or, for a check, a comparison of each answer.
     pub fn advance(self, universe: &U) -> Result<Step<U>, JobName<U>>
@@ -152,7 +155,8 @@ fn ending_of<U: Universe>(
 /// The move of a run after the batches that were answered so far: it begins, and goes through them.
 fn begun<U: Universe>(universe: &U, assignment: &Assignment<U>) -> Result<Ending<U>, NoMemory>
     requires kind { U.meaning.kind assignment.now.name.key ≢ Injected }
-    requires asks { AsksThese U.meaning assignment.now.name.key assignment.now.name.version assignment.now.answered }
+    requires asks { AsksThese U.meaning assignment.now.name.key assignment.now.name.version
+        assignment.now.answered }
     ensures { IfOk result (RunEnds U.meaning U.running (stand_of assignment.now)) }
 {
     let name = assignment.name();
@@ -193,7 +197,8 @@ fn resumed<U: Universe>(
     answers: &Answers<U::Value>,
 ) -> Result<Ending<U>, NoMemory>
     requires { Takes (next_of U.meaning (U.running run.value)) (length answers.now) }
-    ensures { IfOk result (λ e. RunEnds U.meaning U.running (resumed U.meaning (U.running run.value) answers.now) e) }
+    ensures { IfOk result
+        (λ e. RunEnds U.meaning U.running (resumed U.meaning (U.running run.value) answers.now) e) }
 {
     let mut run = run;
     let step = universe.resume(&mut *run, answers)?;

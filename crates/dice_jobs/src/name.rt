@@ -6,7 +6,8 @@ use dice_key::{KeyRef, NoMemory, Universe, Version, laws_of};
 use std::marker::Model;
 use std::sync::Arc;
 
-/// The name of a job: the version and the key that it works for, and how long the journal was when the key's task was made.
+/// The name of a job: the version and the key that it works for, and how long the journal was when
+/// the key's task was made.
 ///
 /// The task of a key at a version ends with an event, so no two of them have one name.
 #[derive(Drop)]

@@ -42,7 +42,8 @@ impl<U: Universe> Model for Parked<U> {
 
     ghost view = { λ p. record { job = p.assignment; keys = p.batch } };
 
-    ghost invariant = { λ p. GoesWith U.meaning U.Value.eq U.running p.assignment p.batch p.course };
+    ghost invariant = { λ p. GoesWith U.meaning U.Value.eq U.running p.assignment p.batch
+        p.course };
 }
 
 impl<U: Universe> Parked<U> {
@@ -60,8 +61,8 @@ impl<U: Universe> Parked<U> {
         &self.batch
     }
 
-    /// What the job will be for when the batch is answered, with a value for each of its keys. Keys and values are shared; it
-    /// costs their number, over all batches.
+    /// What the job will be for when the batch is answered, with a value for each of its keys. Keys
+    /// and values are shared; it costs their number, over all batches.
     pub fn answered(&self, answers: &Answers<U::Value>) -> Result<Assignment<U>, NoMemory>
         requires { length answers.now ≡ length self.now.keys }
         ensures { IfOk result (λ a. a ≡ answered_more self.now.job self.now.keys answers.now) }
@@ -69,7 +70,8 @@ impl<U: Universe> Parked<U> {
         self.assignment.extended(&self.batch, answers)
     }
 
-    /// The job that goes on with these answers, a value for each key; `next` is what it is for then. It takes no memory.
+    /// The job that goes on with these answers, a value for each key; `next` is what it is for
+    /// then. It takes no memory.
     pub fn resume(self, next: Assignment<U>, answers: Answers<U::Value>) -> Job<U>
         requires answers { length answers ≡ length self.keys }
         requires next { next ≡ answered_more self.job self.keys answers }

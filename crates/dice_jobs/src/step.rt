@@ -18,7 +18,8 @@ pub enum Report<'a, K, V> {
     Done(&'a Arc<V>),
     /// The check found all answers as they were.
     Same,
-    /// The check found that the answer to this key has changed; those to all keys before it in the trace are as they were.
+    /// The check found that the answer to this key has changed; those to all keys before it in the
+    /// trace are as they were.
     Differs(&'a Arc<K>),
 }
 
@@ -69,16 +70,17 @@ impl<U: Universe> Step<U> {
         &self.assignment
     }
 
-    /// Whether it is a step of this assignment: of its name, answered batches and work. It takes no memory; it costs a comparison for
-    /// each key and each value.
+    /// Whether it is a step of this assignment: of its name, answered batches and work. It takes no
+    /// memory; it costs a comparison for each key and each value.
     pub fn is_of(&self, assignment: &Assignment<U>) -> bool
         ensures { IsTrue result ↔ (self.now.job ≡ assignment.now) }
     {
         self.assignment.is_same(assignment)
     }
 
-    /// Whether its job is like this assignment: of its name, of the same kind of work from the same base, and answered equally many
-    /// batches. It costs a comparison of their keys, and of no value.
+    /// Whether its job is like this assignment: of its name, of the same kind of work from the same
+    /// base, and answered equally many batches. It costs a comparison of their keys, and of no
+    /// value.
     pub fn is_like(&self, assignment: &Assignment<U>) -> bool
         ensures { IsTrue result ↔ AreAlike self.now.job assignment.now }
     {

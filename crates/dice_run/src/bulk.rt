@@ -31,9 +31,15 @@ pub(crate) fn run_bulk<R: Threads + Wait + Sync, K: Sink, G: Gate>(
     requires targets { (1 ≤ targets) × (targets ≤ 10000) }
     requires workers { workers ≤ 64 }
     requires empty { kept.old ≡ None }
-    ensures only { (result ≡ Status.Done) ⊎ ((result ≡ Status.WriteFailed) ⊎ (result ≡ Status.NoMemory)) }
-    ensures done { result ≡ Status.Done → (out : List ℕ) × Sums targets out kept.new × Gained (K.taken sink.old) (K.taken sink.new) out }
-    ensures write { result ≡ Status.WriteFailed → Rose (K.faults sink.old) (K.faults sink.new) × ((out : List ℕ) × (k : Option Kept) × Sums targets out k × GainedPart (K.taken sink.old) (K.taken sink.new) out) }
+    ensures only { (result ≡ Status.Done)
+        ⊎ ((result ≡ Status.WriteFailed) ⊎ (result ≡ Status.NoMemory)) }
+    ensures done { result ≡ Status.Done
+        → (out : List ℕ) × Sums targets out kept.new
+        × Gained (K.taken sink.old) (K.taken sink.new) out }
+    ensures write { result ≡ Status.WriteFailed
+        → Rose (K.faults sink.old) (K.faults sink.new)
+        × ((out : List ℕ) × (k : Option Kept) × Sums targets out k
+        × GainedPart (K.taken sink.old) (K.taken sink.new) out) }
     ensures memory { result ≡ Status.NoMemory → Unchanged (K.taken sink.old) (K.taken sink.new) }
     ensures empty { result ≢ Status.Done → kept.new ≡ None }
 {

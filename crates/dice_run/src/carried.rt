@@ -25,7 +25,8 @@ pub(crate) struct Ending {
     pub(crate) kept: Option<Kept>,
 }
 
-/// What is written for an input, and with which status: the output of a script, or the first fault of what is none.
+/// What is written for an input, and with which status: the output of a script, or the first fault
+/// of what is none.
 pub(crate) fn answer<R: Threads + Wait + Sync, G: Gate>(
     rt: &R,
     alloc: Global,
@@ -36,7 +37,8 @@ pub(crate) fn answer<R: Threads + Wait + Sync, G: Gate>(
 ) -> Result<Ending, NoMemory>
     requires { workers ≤ 64 }
     ensures done { IfOk result (λ a. a.status ≡ Done → Answers trace bytes.now a.out.items a.kept) }
-    ensures refused { IfOk result (λ a. a.status ≡ ScriptRefused → Refuses bytes.now a.out.items × (a.kept ≡ None)) }
+    ensures refused { IfOk result
+        (λ a. a.status ≡ ScriptRefused → Refuses bytes.now a.out.items × (a.kept ≡ None)) }
     ensures either { IfOk result (λ a. (a.status ≡ Done) ⊎ (a.status ≡ ScriptRefused)) }
 {
     match script::read(alloc, bytes) {
@@ -80,7 +82,8 @@ pub(crate) fn carry_out<R: Threads + Wait + Sync, G: Gate>(
 ) -> Result<Ending, NoMemory>
     requires { workers ≤ 64 }
     ensures status { IfOk result (λ a. a.status ≡ Done) }
-    ensures answers { IfOk result (λ a. (input : List ℕ) → IsScript input script.now → Answers trace input a.out.items a.kept) }
+    ensures answers { IfOk result (λ a. (input : List ℕ) → IsScript input script.now
+        → Answers trace input a.out.items a.kept) }
 {
     let universe = Arc::new(alloc, Buck::new(alloc)?)?;
     let (engine, seat) = Engine::new(rt, alloc, universe, 1)?;

@@ -31,7 +31,8 @@ pub(crate) enum Came {
     Cycle(Arc<Path<Key>>),
 }
 
-/// Commits those changes whose value is not the newest one, if there are any. It answers the newest version then.
+/// Commits those changes whose value is not the newest one, if there are any. It answers the newest
+/// version then.
 pub(crate) fn commit<R: Wait>(
     rt: &R,
     engine: &Engine<Buck>,
@@ -78,8 +79,10 @@ pub(crate) fn ask<R: Wait>(
     requires ours { IsOurs engine.now seat.old }
     requires open { HasOpen seat.old transaction.now.opened transaction.now.version }
     ensures ours { IsOurs engine.now seat.new }
-    ensures asks { IfOk result (λ p. Asks engine.now seat.old seat.new p.ask p.opened p.version (arc_value p.key)) }
-    ensures named { IfOk result (λ p. (p.opened ≡ transaction.now.opened) × (p.version ≡ transaction.now.version) × (arc_value p.key ≡ arc_value key)) }
+    ensures asks { IfOk result
+        (λ p. Asks engine.now seat.old seat.new p.ask p.opened p.version (arc_value p.key)) }
+    ensures named { IfOk result (λ p. (p.opened ≡ transaction.now.opened)
+        × (p.version ≡ transaction.now.version) × (arc_value p.key ≡ arc_value key)) }
 {
     engine.ask(rt, seat, transaction, key)
 }
@@ -93,11 +96,14 @@ pub(crate) fn wait<R: Wait, G: Gate>(
     gate: &G,
 ) -> Result<Came, NoMemory>
     requires ours { IsOurs engine.now seat.old }
-    requires asked { HasAsk seat.old promise.now.ask promise.now.opened promise.now.version (arc_value promise.now.key) }
+    requires asked { HasAsk seat.old promise.now.ask promise.now.opened promise.now.version
+        (arc_value promise.now.key) }
     requires open { NotClosed promise.now.opened seat.old.mine }
     ensures goes { Goes engine.now seat.old seat.new [] }
-    ensures came { IfOk result (IsCome (log_in seat.old) promise.now.version (arc_value promise.now.key)) }
-    ensures decided { OnOk result (buck.kind (arc_value promise.now.key) ≢ Injected → IsDecidedIn seat.new.seen promise.now.version (arc_value promise.now.key)) }
+    ensures came { IfOk result
+        (IsCome (log_in seat.old) promise.now.version (arc_value promise.now.key)) }
+    ensures decided { OnOk result (buck.kind (arc_value promise.now.key) ≢ Injected
+        → IsDecidedIn seat.new.seen promise.now.version (arc_value promise.now.key)) }
 {
     one_writer_knows_all::<Buck>();
     own_asks_are_live::<Buck>();
@@ -131,7 +137,8 @@ pub(crate) fn leave<R: Wait>(
     promise: Promise<Buck>,
 )
     requires ours { IsOurs engine.now seat.old }
-    requires asked { HasAsk seat.old promise.ask promise.opened promise.version (arc_value promise.key) }
+    requires asked { HasAsk seat.old promise.ask promise.opened promise.version
+        (arc_value promise.key) }
     requires open { NotClosed promise.opened seat.old.mine }
     ensures { Goes engine.now seat.old seat.new (Leave 0 promise.ask ∷ []) }
 {

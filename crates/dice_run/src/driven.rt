@@ -79,7 +79,8 @@ impl Driver {
     ) -> Result<Vec<u8>, NoMemory>
         requires { Starts engine.now self.old }
         ensures ours { IsOurs engine.now self.new.seat }
-        ensures output { IfOk result (λ out. IsPrintout trace script.now self.new.seat.seen out.items) }
+        ensures output { IfOk result
+            (λ out. IsPrintout trace script.now self.new.seat.seen out.items) }
         ensures journal { OnOk result (IsJournalOf script.now self.new.seat.seen) }
     {
         self.lines(rt, engine, gate, script)?;
@@ -102,7 +103,8 @@ impl Driver {
         requires { IsOurs engine.now self.old.seat }
         ensures seat { Rests engine.now self.old.seat self.new.seat }
         ensures ours { IsOurs engine.now self.new.seat }
-        ensures traced { IfOk result (λ out. (trace : List ℕ) × IsTraceOf self.new.seat.seen trace × (out.items ≡ output.items ++ trace)) }
+        ensures traced { IfOk result (λ out. (trace : List ℕ) × IsTraceOf self.new.seat.seen trace
+            × (out.items ≡ output.items ++ trace)) }
     {
         let lines = client::log(rt, self.alloc, engine, &mut self.seat)?;
         let mut out = output;
@@ -157,7 +159,9 @@ impl Driver {
     ) -> Result<(), NoMemory>
         requires { (rest : List Line) × Waiting engine.now script.now (line.now ∷ rest) self.old }
         ensures ours { IsOurs engine.now self.new.seat }
-        ensures settles { OnOk result ((rest : List Line) → Waiting engine.now script.now (line.now ∷ rest) self.old → Waiting engine.now script.now rest self.new) }
+        ensures settles { OnOk result ((rest : List Line)
+            → Waiting engine.now script.now (line.now ∷ rest) self.old
+            → Waiting engine.now script.now rest self.new) }
     {
         match line {
             Line::Ask(request) => self.settle_one(rt, engine, gate, script, request),
@@ -183,7 +187,8 @@ impl Driver {
     ) -> Result<(), NoMemory>
         requires { MaySettle engine.now script.now self.old request.now.name }
         ensures ours { IsOurs engine.now self.new.seat }
-        ensures settles { OnOk result (SettlesOne engine.now script.now request.now.name self.old self.new) }
+        ensures settles { OnOk result
+            (SettlesOne engine.now script.now request.now.name self.old self.new) }
     {
         if script.is_cancelled(&request.name) {
             return Ok(());
@@ -204,7 +209,8 @@ impl Driver {
     /// Closes the transaction that a line opened, if it did and the transaction is open.
     fn close_line<R: Wait>(&mut self, rt: &R, engine: &Engine<Buck>, _script: &Script, line: &Line)
         requires { (rest : List Line) × Closing engine.now _script.now (line.now ∷ rest) self.old }
-        ensures { (rest : List Line) → Closing engine.now _script.now (line.now ∷ rest) self.old → Closing engine.now _script.now rest self.new }
+        ensures { (rest : List Line) → Closing engine.now _script.now (line.now ∷ rest) self.old
+            → Closing engine.now _script.now rest self.new }
     {
         match line {
             Line::Open(name) => self.close_open(rt, engine, name),

@@ -26,8 +26,9 @@ use std::collections::HashMap;
 use std::mem;
 use std::sync::{Arc, Wait};
 
-/// What has been done of a script: the seat at the engine; what was gathered since the last commit; the newest version after each
-/// commit; the transactions that are open; the requests that are still to be answered; and the answers.
+/// What has been done of a script: the seat at the engine; what was gathered since the last commit;
+/// the newest version after each commit; the transactions that are open; the requests that are
+/// still to be answered; and the answers.
 #[derive(Drop)]
 pub(crate) struct Driver {
     pub(crate) alloc: Global,
@@ -50,8 +51,11 @@ impl Driver {
     ) -> Result<(), NoMemory>
         requires { IsReady engine.now self.old line.now }
         ensures ours { IsOurs engine.now self.new.seat }
-        ensures stands { OnOk result ((ends : Ends) (p : Plan) (past : Past) → Matches engine.now self.old p past → Fits past line.now → Steps engine.now ends p past line.now self.old self.new) }
-        ensures records { OnOk result ((p : Plan) (past : Past) → Matches engine.now self.old p past → Fits past line.now → RecordsStep p past line.now self.old self.new) }
+        ensures stands { OnOk result ((ends : Ends) (p : Plan) (past : Past)
+            → Matches engine.now self.old p past → Fits past line.now
+            → Steps engine.now ends p past line.now self.old self.new) }
+        ensures records { OnOk result ((p : Plan) (past : Past) → Matches engine.now self.old p past
+            → Fits past line.now → RecordsStep p past line.now self.old self.new) }
     {
         match line {
             Line::Put(path, bytes) => self.gather(path, Some(bytes.try_clone()?))?,
@@ -76,7 +80,8 @@ impl Driver {
     /// Notes the file of a path from the next commit on, or that it has none.
     fn gather(&mut self, path: &Path, file: Option<Text>) -> Result<(), NoMemory>
         ensures seat { self.new.seat ≡ self.old.seat }
-        ensures gathered { OnOk result (self.new.gathered ≡ self.old.gathered ++ (key.Source path.now, value.Source file) ∷ []) }
+        ensures gathered { OnOk result (self.new.gathered
+            ≡ self.old.gathered ++ (key.Source path.now, value.Source file) ∷ []) }
         ensures names { OnOk result (KeepsNames self.old self.new) }
         ensures newest { OnOk result (self.new.newest ≡ self.old.newest) }
     {
@@ -90,10 +95,12 @@ impl Driver {
         requires ours { IsOurs engine.now self.old.seat }
         requires sources { AreDistinctSources self.old.gathered }
         ensures ours { IsOurs engine.now self.new.seat }
-        ensures seat { OnOk result (Commits engine.now self.old.seat self.new.seat self.old.gathered) }
+        ensures seat { OnOk result
+            (Commits engine.now self.old.seat self.new.seat self.old.gathered) }
         ensures gathered { OnOk result (self.new.gathered ≡ []) }
         ensures names { OnOk result (KeepsNames self.old self.new) }
-        ensures newest { OnOk result (self.new.newest.items ≡ self.old.newest.items ++ length (log_in self.new.seat) ∷ []) }
+        ensures newest { OnOk result
+            (self.new.newest.items ≡ self.old.newest.items ++ length (log_in self.new.seat) ∷ []) }
     {
         let gathered = mem::replace(&mut self.gathered, Updater::new(self.alloc));
         let version = client::commit(rt, engine, &mut self.seat, &gathered)?;
@@ -122,7 +129,8 @@ impl Driver {
         requires ours { IsOurs engine.now self.old.seat }
         requires open { HasTransaction self.old request.now.transaction }
         ensures ours { IsOurs engine.now self.new.seat }
-        ensures did { OnOk result (DidAsk engine.now request.now (arc_value key) self.old self.new) }
+        ensures did { OnOk result
+            (DidAsk engine.now request.now (arc_value key) self.old self.new) }
     {
         let Some(transaction) = self.transactions.get(request.transaction.as_text()) else {
             unreachable!()

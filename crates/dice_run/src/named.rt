@@ -9,7 +9,8 @@ use script::Name;
 use std::alloc::Global;
 use std::collections::HashMap;
 
-/// Nothing has a name yet. There is room for so many names, if there is memory for it; otherwise it is made as they come.
+/// Nothing has a name yet. There is room for so many names, if there is memory for it; otherwise it
+/// is made as they come.
 pub(crate) fn with_room<V: Drop>(alloc: Global, count: usize) -> HashMap<Text, V>
     ensures { (q : List ℕ) → get (pointwise nat_eq) result q ≡ None }
 {
@@ -25,7 +26,11 @@ pub(crate) fn note<V: Drop>(
     name: &Name,
     value: V,
 ) -> Result<(), NoMemory>
-    ensures { OnOk result ((q : List ℕ) → get (pointwise nat_eq) named.new q ≡ (if pointwise nat_eq name.now q then Some value else get (pointwise nat_eq) named.old q)) }
+    ensures { OnOk result ((q : List ℕ)
+        → get (pointwise nat_eq) named.new q
+        ≡ (if pointwise nat_eq name.now q
+        then Some value
+        else get (pointwise nat_eq) named.old q)) }
 {
     named.insert(name.as_text().try_clone()?, value)?;
     Ok(())
@@ -34,7 +39,9 @@ pub(crate) fn note<V: Drop>(
 /// Takes out what has a name.
 pub(crate) fn take<V: Drop>(named: &mut HashMap<Text, V>, name: &Name) -> Option<V>
     ensures value { result ≡ get (pointwise nat_eq) named.old name.now }
-    ensures rest { (q : List ℕ) → get (pointwise nat_eq) named.new q ≡ (if pointwise nat_eq name.now q then None else get (pointwise nat_eq) named.old q) }
+    ensures rest { (q : List ℕ)
+        → get (pointwise nat_eq) named.new q
+        ≡ (if pointwise nat_eq name.now q then None else get (pointwise nat_eq) named.old q) }
 {
     named.remove(name.as_text())
 }

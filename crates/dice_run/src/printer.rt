@@ -11,7 +11,8 @@ use script::{Line, Name, Request, Script};
 use std::alloc::Global;
 use std::collections::HashMap;
 
-/// What is printed, how many commits of the script were told, the newest version after them, and the versions of the transactions.
+/// What is printed, how many commits of the script were told, the newest version after them, and
+/// the versions of the transactions.
 #[derive(Drop)]
 pub(crate) struct Printer {
     out: Vec<u8>,

@@ -89,7 +89,8 @@ pub(crate) fn value_lines(out: &mut Vec<u8>, value: &Value) -> Result<(), NoMemo
 
 /// How a request is answered, after its name and version: by what its key has come to.
 pub(crate) fn came_lines(alloc: Global, came: &Came) -> Result<Vec<u8>, NoMemory>
-    ensures { IfOk result (λ text. (C : List (List (Key × Value))) (v : ℕ) (k : Key) → IsCome C v k came.now → IsToldOf C v k text.items) }
+    ensures { IfOk result (λ text. (C : List (List (Key × Value))) (v : ℕ) (k : Key)
+        → IsCome C v k came.now → IsToldOf C v k text.items) }
 {
     match came {
         Came::Value(value) => lines_of_value(alloc, value),
@@ -108,7 +109,9 @@ fn lines_of_value(alloc: Global, value: &Value) -> Result<Vec<u8>, NoMemory>
 
 /// What a cycle is answered by.
 fn line_of_cycle(alloc: Global, path: &Path<Key>) -> Result<Vec<u8>, NoMemory>
-    ensures { IfOk result (λ text. (C : List (List (Key × Value))) (v : ℕ) (k : Key) → IsCycle ⟦<Key as PartialEq>⟧.eq buck C v path.now → ReachesFirst C v k path.now → IsToldOf C v k text.items) }
+    ensures { IfOk result (λ text. (C : List (List (Key × Value))) (v : ℕ) (k : Key)
+        → IsCycle ⟦<Key as PartialEq>⟧.eq buck C v path.now → ReachesFirst C v k path.now
+        → IsToldOf C v k text.items) }
 {
     let labels = labels_of_cycle(alloc, path)?;
     let mut out = Vec::with_capacity(alloc, LINE)?;

@@ -23,18 +23,21 @@ use std::thread::Threads;
 /// How many bytes are read at most: one more than a script may have.
 const MOST: usize = 4_194_305;
 
-/// Reads the words of the command line, of which the first is the program's name, and does what they say. `run` reads a script
-/// from the source to its end, checks the whole of it, carries it out, and writes its output to the sink, and after it the trace of what
-/// the engine did, if the words ask for it. `bulk` makes a large script by itself, carries it out, and writes one line
-/// of summary; it reads nothing.
+/// Reads the words of the command line, of which the first is the program's name, and does what
+/// they say. `run` reads a script from the source to its end, checks the whole of it, carries it
+/// out, and writes its output to the sink, and after it the trace of what the engine did, if the
+/// words ask for it. `bulk` makes a large script by itself, carries it out, and writes one line of
+/// summary; it reads nothing.
 ///
-/// The status says how it ended, and is tested in this order: words, reading, length, grammar, running, writing; `NoMemory`
-/// may come at any of these points, before anything is written. At most 4,194,305 bytes are read, and at most 65,536 asked for in one
-/// call; the whole rest of the output is handed to the sink in each call, and no memory is taken once it is built. The gate is
-/// told of each job before a worker does it. Of these, clauses speak only of the bytes that are read.
+/// The status says how it ended, and is tested in this order: words, reading, length, grammar,
+/// running, writing; `NoMemory` may come at any of these points, before anything is written. At
+/// most 4,194,305 bytes are read, and at most 65,536 asked for in one call; the whole rest of the
+/// output is handed to the sink in each call, and no memory is taken once it is built. The gate is
+/// told of each job before a worker does it. Of these, clauses speak only of the bytes that are
+/// read.
 ///
-/// With status 0 `kept` gets the engine and the driver's seat at it, whose seen journal is one of the script;
-/// otherwise it stays empty.
+/// With status 0 `kept` gets the engine and the driver's seat at it, whose seen journal is one of
+/// the script; otherwise it stays empty.
 pub fn run<R: Threads + Wait + Sync, S: Source, K: Sink, G: Gate>(
     rt: &R,
     alloc: Global,
@@ -45,19 +48,46 @@ pub fn run<R: Threads + Wait + Sync, S: Source, K: Sink, G: Gate>(
     kept: &mut Option<Kept>,
 ) -> Status
     requires { kept.old ≡ None }
-    ensures words { result ≡ Status.WordsRefused → (IsAccepted (map (λ w. w.now) words.now) → ⊥) × Unread (S.left source.old) (S.left source.new) × Unchanged (K.taken sink.old) (K.taken sink.new) }
-    ensures accepted { IsAccepted (map (λ w. w.now) words.now) ⊎ ((result ≡ Status.WordsRefused) ⊎ (result ≡ Status.NoMemory)) }
+    ensures words { result ≡ Status.WordsRefused
+        → (IsAccepted (map (λ w. w.now) words.now) → ⊥)
+        × Unread (S.left source.old) (S.left source.new)
+        × Unchanged (K.taken sink.old) (K.taken sink.new) }
+    ensures accepted { IsAccepted (map (λ w. w.now) words.now)
+        ⊎ ((result ≡ Status.WordsRefused) ⊎ (result ≡ Status.NoMemory)) }
     ensures few { ReadPart (S.left source.old) (S.left source.new) 4194305 }
-    ensures unread { (targets workers : ℕ) → Asks (map (λ w. w.now) words.now) (command.Bulk targets workers) → Unread (S.left source.old) (S.left source.new) }
-    ensures read { result ≡ Status.ReadFailed → ((workers : ℕ) × (trace : _) × Asks (map (λ w. w.now) words.now) (command.Run workers trace)) × Rose (S.faults source.old) (S.faults source.new) × Unchanged (K.taken sink.old) (K.taken sink.new) }
-    ensures write { result ≡ Status.WriteFailed → Rose (K.faults sink.old) (K.faults sink.new) × ((c : Command) × Asks (map (λ w. w.now) words.now) c × Begins c (S.left source.old) (S.left source.new) (GainedPart (K.taken sink.old) (K.taken sink.new))) }
-    ensures script { result ≡ Status.ScriptRefused → ((workers : ℕ) × (trace : _) × Asks (map (λ w. w.now) words.now) (command.Run workers trace)) × ((read : List ℕ) × (out : List ℕ) × ReadTo (S.left source.old) (S.left source.new) read 4194305 × Refuses read out × Gained (K.taken sink.old) (K.taken sink.new) out) }
-    ensures done { result ≡ Status.Done → (c : Command) × Asks (map (λ w. w.now) words.now) c × Does c (S.left source.old) (S.left source.new) (Gained (K.taken sink.old) (K.taken sink.new)) kept.new }
+    ensures unread { (targets workers : ℕ)
+        → Asks (map (λ w. w.now) words.now) (command.Bulk targets workers)
+        → Unread (S.left source.old) (S.left source.new) }
+    ensures read { result ≡ Status.ReadFailed
+        → ((workers : ℕ) × (trace : _)
+        × Asks (map (λ w. w.now) words.now) (command.Run workers trace))
+        × Rose (S.faults source.old) (S.faults source.new)
+        × Unchanged (K.taken sink.old) (K.taken sink.new) }
+    ensures write { result ≡ Status.WriteFailed
+        → Rose (K.faults sink.old) (K.faults sink.new)
+        × ((c : Command) × Asks (map (λ w. w.now) words.now) c
+        × Begins c (S.left source.old) (S.left source.new)
+        (GainedPart (K.taken sink.old) (K.taken sink.new))) }
+    ensures script { result ≡ Status.ScriptRefused
+        → ((workers : ℕ) × (trace : _)
+        × Asks (map (λ w. w.now) words.now) (command.Run workers trace))
+        × ((read : List ℕ) × (out : List ℕ)
+        × ReadTo (S.left source.old) (S.left source.new) read 4194305 × Refuses read out
+        × Gained (K.taken sink.old) (K.taken sink.new) out) }
+    ensures done { result ≡ Status.Done
+        → (c : Command) × Asks (map (λ w. w.now) words.now) c
+        × Does c (S.left source.old) (S.left source.new)
+        (Gained (K.taken sink.old) (K.taken sink.new)) kept.new }
     ensures memory { result ≡ Status.NoMemory → Unchanged (K.taken sink.old) (K.taken sink.new) }
     ensures empty { result ≢ Status.Done → kept.new ≡ None }
 
-    // A command that has what it needs, and meets no fault of source or sink, is carried out, or memory was refused.
-    ensures complete { IsAccepted (map (λ w. w.now) words.now) → (c : Command) → Asks (map (λ w. w.now) words.now) c → IsGiven c (S.left source.old) → (Rose (S.faults source.old) (S.faults source.new) → ⊥) → (Rose (K.faults sink.old) (K.faults sink.new) → ⊥) → (result ≡ Status.Done) ⊎ (result ≡ Status.NoMemory) }
+    // A command that has what it needs, and meets no fault of source or sink, is carried out, or
+    // memory was refused.
+    ensures complete { IsAccepted (map (λ w. w.now) words.now) → (c : Command)
+        → Asks (map (λ w. w.now) words.now) c → IsGiven c (S.left source.old)
+        → (Rose (S.faults source.old) (S.faults source.new) → ⊥)
+        → (Rose (K.faults sink.old) (K.faults sink.new) → ⊥)
+        → (result ≡ Status.Done) ⊎ (result ≡ Status.NoMemory) }
 {
     readings_are_one();
     match read_words(alloc, words) {
@@ -72,7 +102,8 @@ pub fn run<R: Threads + Wait + Sync, S: Source, K: Sink, G: Gate>(
     }
 }
 
-/// Reads a script from the source to its end, and writes its output, or its first fault, to the sink.
+/// Reads a script from the source to its end, and writes its output, or its first fault, to the
+/// sink.
 fn run_script<R: Threads + Wait + Sync, S: Source, K: Sink, G: Gate>(
     rt: &R,
     alloc: Global,
@@ -87,10 +118,21 @@ fn run_script<R: Threads + Wait + Sync, S: Source, K: Sink, G: Gate>(
     requires empty { kept.old ≡ None }
     ensures accepted { result ≢ Status.WordsRefused }
     ensures few { ReadPart (S.left source.old) (S.left source.new) 4194305 }
-    ensures read { result ≡ Status.ReadFailed → Rose (S.faults source.old) (S.faults source.new) × Unchanged (K.taken sink.old) (K.taken sink.new) }
-    ensures write { result ≡ Status.WriteFailed → Rose (K.faults sink.old) (K.faults sink.new) × ((read : List ℕ) × (out : List ℕ) × ReadTo (S.left source.old) (S.left source.new) read 4194305 × IsWritten trace read out × GainedPart (K.taken sink.old) (K.taken sink.new) out) }
-    ensures script { result ≡ Status.ScriptRefused → (read : List ℕ) × (out : List ℕ) × ReadTo (S.left source.old) (S.left source.new) read 4194305 × Refuses read out × Gained (K.taken sink.old) (K.taken sink.new) out }
-    ensures done { result ≡ Status.Done → (read : List ℕ) × (out : List ℕ) × ReadWhole (S.left source.old) (S.left source.new) read × Answers trace read out kept.new × Gained (K.taken sink.old) (K.taken sink.new) out }
+    ensures read { result ≡ Status.ReadFailed
+        → Rose (S.faults source.old) (S.faults source.new)
+        × Unchanged (K.taken sink.old) (K.taken sink.new) }
+    ensures write { result ≡ Status.WriteFailed
+        → Rose (K.faults sink.old) (K.faults sink.new)
+        × ((read : List ℕ) × (out : List ℕ)
+        × ReadTo (S.left source.old) (S.left source.new) read 4194305 × IsWritten trace read out
+        × GainedPart (K.taken sink.old) (K.taken sink.new) out) }
+    ensures script { result ≡ Status.ScriptRefused
+        → (read : List ℕ) × (out : List ℕ)
+        × ReadTo (S.left source.old) (S.left source.new) read 4194305 × Refuses read out
+        × Gained (K.taken sink.old) (K.taken sink.new) out }
+    ensures done { result ≡ Status.Done
+        → (read : List ℕ) × (out : List ℕ) × ReadWhole (S.left source.old) (S.left source.new) read
+        × Answers trace read out kept.new × Gained (K.taken sink.old) (K.taken sink.new) out }
     ensures memory { result ≡ Status.NoMemory → Unchanged (K.taken sink.old) (K.taken sink.new) }
     ensures empty { result ≢ Status.Done → kept.new ≡ None }
 {

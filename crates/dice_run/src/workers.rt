@@ -14,13 +14,15 @@ use std::alloc::Global;
 use std::sync::Wait;
 use std::thread::Threads;
 
-/// Drives a script on an engine whose one writer this seat is, with so many workers beside it, and answers its output: what each
-/// line prints, in the order of the lines. A request that the script cancels has the line `cancelled`; each other one is waited for,
-/// at its `wait` or at the end, in the order of asking. If it is wanted, the trace of the journal follows the output. The seat comes
-/// back.
+/// Drives a script on an engine whose one writer this seat is, with so many workers beside it, and
+/// answers its output: what each line prints, in the order of the lines. A request that the script
+/// cancels has the line `cancelled`; each other one is waited for, at its `wait` or at the end, in
+/// the order of asking. If it is wanted, the trace of the journal follows the output. The seat
+/// comes back.
 ///
-/// Each worker has a seat that is split off from this one, and does jobs in a thread of its own until the script is done; if no
-/// thread can be made, waiting does all jobs. With no workers no thread is made.
+/// Each worker has a seat that is split off from this one, and does jobs in a thread of its own
+/// until the script is done; if no thread can be made, waiting does all jobs. With no workers no
+/// thread is made.
 pub fn drive<R: Threads + Wait + Sync, G: Gate>(
     rt: &R,
     alloc: Global,
@@ -72,7 +74,9 @@ fn drive_with<R: Threads + Wait + Sync, G: Gate>(
         gate,
         move || -> (Seat<Buck>, Result<Vec<u8>, NoMemory>)
             requires { IsOurs engine.now seat × (seat.mine ≡ []) }
-            ensures { IsOurs engine.entry.now result.0 × IfOk result.1 (λ out. IsPrintout trace script.entry.now result.0.seen out.items) × OnOk result.1 (IsJournalOf script.entry.now result.0.seen) }
+            ensures { IsOurs engine.entry.now result.0
+                × IfOk result.1 (λ out. IsPrintout trace script.entry.now result.0.seen out.items)
+                × OnOk result.1 (IsJournalOf script.entry.now result.0.seen) }
         { drive_alone(rt, alloc, engine, seat, script, trace, gate) },
     )
 }

@@ -28,9 +28,9 @@ use std::alloc::Global;
 use std::sync::Arc;
 use versioned_graph::Graph;
 
-/// Gives up the task at work of a key: it ends as lost, or with a cycle that the key reaches, and with it all that ask for it, for
-/// one of these, and so on; and what nobody asks for then is dropped. Of the cycle's path there is an owner for each of them. It takes
-/// no memory.
+/// Gives up the task at work of a key: it ends as lost, or with a cycle that the key reaches, and
+/// with it all that ask for it, for one of these, and so on; and what nobody asks for then is
+/// dropped. Of the cycle's path there is an owner for each of them. It takes no memory.
 ///
 /// It costs the number of tasks that it ends and drops, and of the keys that they waited for.
 pub fn give_up<U: Universe>(
@@ -40,20 +40,28 @@ pub fn give_up<U: Universe>(
     key: &KeyRef<U>,
     how: How<U::Key>,
 )
-    requires hand { (w : World U.Key U.Value) × (owed : ℕ) × (es : List (U.Key × Stored U.Key U.Value)) × (s : Seen U.Key U.Value) × AtHand U.Key.eq U.meaning version w owed tasks.old desk.old es s }
+    requires hand { (w : World U.Key U.Value) × (owed : ℕ)
+        × (es : List (U.Key × Stored U.Key U.Value)) × (s : Seen U.Key U.Value)
+        × AtHand U.Key.eq U.meaning version w owed tasks.old desk.old es s }
     requires live { is_live U.Key.eq tasks.old (arc_value key.now) ≡ true }
     requires enough { IsEnough U.Key.eq tasks.old (arc_value key.now) how }
-    requires reached { ReachesPath U.Key.eq U.meaning (path_of how) (commits_of (reverse desk.old.events)) version (arc_value key.now) }
-    ensures ends { GivesUpAll U.Key.eq version (path_of how) (arc_value key.now) tasks.old tasks.new desk.old desk.new }
-    ensures given { GivesUp U.Key.eq version (path_of how) (arc_value key.now) tasks.old desk.old tasks.new desk.new }
-    ensures kept { (w : World U.Key U.Value) (owed : ℕ) (es : List (U.Key × Stored U.Key U.Value)) (s : Seen U.Key U.Value) → AtHand U.Key.eq U.meaning version w owed tasks.old desk.old es s → AtHand U.Key.eq U.meaning version w owed tasks.new desk.new es s }
+    requires reached { ReachesPath U.Key.eq U.meaning (path_of how)
+        (commits_of (reverse desk.old.events)) version (arc_value key.now) }
+    ensures ends { GivesUpAll U.Key.eq version (path_of how) (arc_value key.now) tasks.old tasks.new
+        desk.old desk.new }
+    ensures given { GivesUp U.Key.eq version (path_of how) (arc_value key.now) tasks.old desk.old
+        tasks.new desk.new }
+    ensures kept { (w : World U.Key U.Value) (owed : ℕ) (es : List (U.Key × Stored U.Key U.Value))
+        (s : Seen U.Key U.Value) → AtHand U.Key.eq U.meaning version w owed tasks.old desk.old es s
+        → AtHand U.Key.eq U.meaning version w owed tasks.new desk.new es s }
 {
     laws_of::<U>();
     end_all(desk, tasks, version, key, how);
     cascade(desk, tasks, version);
 }
 
-/// Makes what was planned for the keys of a batch, the last part first, in room made ahead. It takes no memory.
+/// Makes what was planned for the keys of a batch, the last part first, in room made ahead. It
+/// takes no memory.
 fn make_all<U: Universe>(
     desk: &mut Desk<U>,
     tasks: &mut Tasks<U>,
@@ -61,11 +69,18 @@ fn make_all<U: Universe>(
     version: u64,
     parts: Vec<Part<U>>,
 )
-    requires hand { (W : List U.Key) × (w : World U.Key U.Value) × (owed : ℕ) × MakesOn U.Key.eq U.meaning version W w owed parts.items tasks.old desk.old graph.old }
+    requires hand { (W : List U.Key) × (w : World U.Key U.Value) × (owed : ℕ)
+        × MakesOn U.Key.eq U.meaning version W w owed parts.items tasks.old desk.old graph.old }
     requires room { HasRoomToMake U.Key.eq parts.items tasks.old desk.old }
     ensures made { MakesParts U.Key.eq parts.items version tasks.old desk.old tasks.new desk.new }
-    ensures looked { (born : ℕ) → AreMakable U.Key.eq U.meaning version born parts.items tasks.old graph.old → MakesParted U.Key.eq U.meaning version born parts.items tasks.old desk.old graph.old tasks.new desk.new graph.new }
-    ensures kept { (W : List U.Key) (w : World U.Key U.Value) (owed : ℕ) → MakesOn U.Key.eq U.meaning version W w owed parts.items tasks.old desk.old graph.old → Working U.Key.eq U.meaning version W w owed tasks.new desk.new × EntriesStand U.Key.eq U.meaning (reverse desk.new.events) graph.new }
+    ensures looked { (born : ℕ)
+        → AreMakable U.Key.eq U.meaning version born parts.items tasks.old graph.old
+        → MakesParted U.Key.eq U.meaning version born parts.items tasks.old desk.old graph.old
+        tasks.new desk.new graph.new }
+    ensures kept { (W : List U.Key) (w : World U.Key U.Value) (owed : ℕ)
+        → MakesOn U.Key.eq U.meaning version W w owed parts.items tasks.old desk.old graph.old
+        → Working U.Key.eq U.meaning version W w owed tasks.new desk.new
+        × EntriesStand U.Key.eq U.meaning (reverse desk.new.events) graph.new }
 {
     laws_of::<U>();
     let mut rest = parts;
@@ -84,16 +99,24 @@ fn make_part<U: Universe>(
 )
     requires own { IsOfKey version (key_in part) part.making }
     requires room { CanMake U.Key.eq version (key_in part) tasks.old desk.old part.making }
-    ensures made { IsMade U.Key.eq version (key_in part) tasks.old desk.old graph.old part.making tasks.new desk.new graph.new }
-    ensures alone { MakesAlone U.Key.eq version (key_in part) tasks.old desk.old graph.old tasks.new desk.new graph.new }
-    ensures kept { (w : World U.Key U.Value) (W : List U.Key) (owed born : ℕ) → Working U.Key.eq U.meaning version W w (owed + 3) tasks.old desk.old → EntriesStand U.Key.eq U.meaning (reverse desk.old.events) graph.old → MayMake U.Key.eq U.meaning (reverse desk.old.events) version (key_in part) born → IsMaking U.Key.eq U.meaning version (key_in part) born tasks.old graph.old part.making → Working U.Key.eq U.meaning version W w owed tasks.new desk.new × EntriesStand U.Key.eq U.meaning (reverse desk.new.events) graph.new }
+    ensures made { IsMade U.Key.eq version (key_in part) tasks.old desk.old graph.old part.making
+        tasks.new desk.new graph.new }
+    ensures alone { MakesAlone U.Key.eq version (key_in part) tasks.old desk.old graph.old tasks.new
+        desk.new graph.new }
+    ensures kept { (w : World U.Key U.Value) (W : List U.Key) (owed born : ℕ)
+        → Working U.Key.eq U.meaning version W w (owed + 3) tasks.old desk.old
+        → EntriesStand U.Key.eq U.meaning (reverse desk.old.events) graph.old
+        → MayMake U.Key.eq U.meaning (reverse desk.old.events) version (key_in part) born
+        → IsMaking U.Key.eq U.meaning version (key_in part) born tasks.old graph.old part.making
+        → Working U.Key.eq U.meaning version W w owed tasks.new desk.new
+        × EntriesStand U.Key.eq U.meaning (reverse desk.new.events) graph.new }
 {
     let Part { key, making, .. } = part;
     make::<U>(desk, tasks, graph, version, &key, making);
 }
 
-/// Does what was planned: the task of a key, which was out, ends, or goes on or waits once what its batch needs is made. It takes no
-/// memory.
+/// Does what was planned: the task of a key, which was out, ends, or goes on or waits once what its
+/// batch needs is made. It takes no memory.
 fn take_up<U: Universe>(
     desk: &mut Desk<U>,
     tasks: &mut Tasks<U>,
@@ -104,12 +127,26 @@ fn take_up<U: Universe>(
     plan: Plan<U>,
 )
     requires own { (parked.job.name.key ≡ arc_value key.now) × (parked.job.name.version ≡ version) }
-    requires out { task_at U.Key.eq tasks.old (arc_value key.now) ≡ Some (held_of parked.job IsOut) }
-    requires next { AsksNext U.Key.eq U.meaning version (arc_value key.now) parked.job.work parked.job.answered (IsWaiting parked.keys) }
-    requires hand { (w : World U.Key U.Value) × (owed : ℕ) × (s : Seen U.Key U.Value) × AtHand U.Key.eq U.meaning version w owed tasks.old desk.old graph.old s × IsPlan U.Key.eq U.meaning version owed parked.job parked.keys tasks.old desk.old graph.old s plan }
-    ensures given { TakesUp U.Key.eq U.meaning version parked.job parked.keys tasks.old desk.old tasks.new desk.new }
-    ensures done { (w : World U.Key U.Value) (owed : ℕ) (s : Seen U.Key U.Value) → AtHand U.Key.eq U.meaning version w owed tasks.old desk.old graph.old s → IsPlan U.Key.eq U.meaning version owed parked.job parked.keys tasks.old desk.old graph.old s plan → IsPlanDone U.Key.eq U.meaning version owed parked.job parked.keys tasks.old desk.old graph.old s plan tasks.new desk.new graph.new }
-    ensures kept { (w : World U.Key U.Value) (owed : ℕ) (s : Seen U.Key U.Value) → AtHand U.Key.eq U.meaning version w owed tasks.old desk.old graph.old s → IsPlan U.Key.eq U.meaning version owed parked.job parked.keys tasks.old desk.old graph.old s plan → AtHand U.Key.eq U.meaning version w owed tasks.new desk.new graph.new s }
+    requires out { task_at U.Key.eq tasks.old (arc_value key.now)
+        ≡ Some (held_of parked.job IsOut) }
+    requires next { AsksNext U.Key.eq U.meaning version (arc_value key.now) parked.job.work
+        parked.job.answered (IsWaiting parked.keys) }
+    requires hand { (w : World U.Key U.Value) × (owed : ℕ) × (s : Seen U.Key U.Value)
+        × AtHand U.Key.eq U.meaning version w owed tasks.old desk.old graph.old s
+        × IsPlan U.Key.eq U.meaning version owed parked.job parked.keys tasks.old desk.old graph.old
+        s plan }
+    ensures given { TakesUp U.Key.eq U.meaning version parked.job parked.keys tasks.old desk.old
+        tasks.new desk.new }
+    ensures done { (w : World U.Key U.Value) (owed : ℕ) (s : Seen U.Key U.Value)
+        → AtHand U.Key.eq U.meaning version w owed tasks.old desk.old graph.old s
+        → IsPlan U.Key.eq U.meaning version owed parked.job parked.keys tasks.old desk.old graph.old
+        s plan
+        → IsPlanDone U.Key.eq U.meaning version owed parked.job parked.keys tasks.old desk.old
+        graph.old s plan tasks.new desk.new graph.new }
+    ensures kept { (w : World U.Key U.Value) (owed : ℕ) (s : Seen U.Key U.Value)
+        → AtHand U.Key.eq U.meaning version w owed tasks.old desk.old graph.old s
+        → IsPlan U.Key.eq U.meaning version owed parked.job parked.keys tasks.old desk.old graph.old
+        s plan → AtHand U.Key.eq U.meaning version w owed tasks.new desk.new graph.new s }
 {
     laws_of::<U>();
     cells_are_the_inputs::<U>();
@@ -126,12 +163,13 @@ fn take_up<U: Universe>(
     }
 }
 
-/// Takes up the batch that a step asks, of the job of a task that is out: what its keys need is made, and the task waits for it, or
-/// goes on if all keys have values at hand. If a key comes to a cycle nothing is made: the task ends with the cycle, and all
-/// that ask for it.
+/// Takes up the batch that a step asks, of the job of a task that is out: what its keys need is
+/// made, and the task waits for it, or goes on if all keys have values at hand. If a key comes to a
+/// cycle nothing is made: the task ends with the cycle, and all that ask for it.
 ///
-/// If memory is refused the step is handed back, and all is as before, but for room; there is room for `owed` events beside then
-/// as before. It costs a look-up for each key of the batch, a walk over the waits that begin there, and what `give_up` says.
+/// If memory is refused the step is handed back, and all is as before, but for room; there is room
+/// for `owed` events beside then as before. It costs a look-up for each key of the batch, a walk
+/// over the waits that begin there, and what `give_up` says.
 pub fn ask_batch<U: Universe>(
     alloc: Global,
     universe: &U,
@@ -144,10 +182,20 @@ pub fn ask_batch<U: Universe>(
 ) -> Result<(), (NoMemory, Step<U>)>
     requires asks { (ks : List U.Key) × (step.outcome ≡ Wanting ks) }
     requires out { task_at U.Key.eq tasks.old step.job.name.key ≡ Some (held_of step.job IsOut) }
-    requires hand { (w : World U.Key U.Value) × AtHand U.Key.eq U.meaning step.job.name.version w owed tasks.old desk.old graph.old cells.now }
-    ensures given { OnOk result ((ks : List U.Key) → step.outcome ≡ Wanting ks → TakesUp U.Key.eq U.meaning step.job.name.version step.job ks tasks.old desk.old tasks.new desk.new) }
-    ensures done { OnOk result ((ks : List U.Key) → step.outcome ≡ Wanting ks → IsBatchDone U.Key.eq U.meaning step.job.name.version step.job ks cells.now tasks.old desk.old graph.old tasks.new desk.new graph.new) }
-    ensures kept { (w : World U.Key U.Value) → AtHand U.Key.eq U.meaning step.job.name.version w owed tasks.old desk.old graph.old cells.now → AtHand U.Key.eq U.meaning step.job.name.version w owed tasks.new desk.new graph.new cells.now }
+    requires hand { (w : World U.Key U.Value)
+        × AtHand U.Key.eq U.meaning step.job.name.version w owed tasks.old desk.old graph.old
+        cells.now }
+    ensures given { OnOk result ((ks : List U.Key) → step.outcome ≡ Wanting ks
+        → TakesUp U.Key.eq U.meaning step.job.name.version step.job ks tasks.old desk.old tasks.new
+        desk.new) }
+    ensures done { OnOk result ((ks : List U.Key) → step.outcome ≡ Wanting ks
+        → IsBatchDone U.Key.eq U.meaning step.job.name.version step.job ks cells.now tasks.old
+        desk.old graph.old tasks.new desk.new graph.new) }
+    ensures kept { (w : World U.Key U.Value)
+        → AtHand U.Key.eq U.meaning step.job.name.version w owed tasks.old desk.old graph.old
+        cells.now
+        → AtHand U.Key.eq U.meaning step.job.name.version w owed tasks.new desk.new graph.new
+        cells.now }
 
     // If memory is refused, all that is seen is as before.
     ensures step { IfErr result (λ e. e.1 ≡ step) }
@@ -185,17 +233,25 @@ fn plan_step<U: Universe>(
     step: &Step<U>,
 ) -> Result<(KeyRef<U>, Plan<U>), NoMemory>
     requires asks { (ks : List U.Key) × (step.now.outcome ≡ Wanting ks) }
-    requires out { task_at U.Key.eq tasks.old step.now.job.name.key ≡ Some (held_of step.now.job IsOut) }
-    requires hand { (w : World U.Key U.Value) × AtHand U.Key.eq U.meaning step.now.job.name.version w owed tasks.old desk.old graph.now cells.now }
+    requires out { task_at U.Key.eq tasks.old step.now.job.name.key
+        ≡ Some (held_of step.now.job IsOut) }
+    requires hand { (w : World U.Key U.Value)
+        × AtHand U.Key.eq U.meaning step.now.job.name.version w owed tasks.old desk.old graph.now
+        cells.now }
     ensures tasks { KeepsTasks U.Key.eq tasks.old tasks.new }
     ensures asks { KeepsAsks U.Key.eq tasks.old tasks.new }
     ensures room { KeepsRoom U.Key.eq tasks.old tasks.new }
     ensures hands { KeepsHands desk.old desk.new }
     ensures desk_room { KeepsDeskRoom desk.old desk.new }
     ensures key { IfOk result (λ r. arc_value r.0 ≡ step.now.job.name.key) }
-    ensures plan { IfOk result (λ r. (ks : List U.Key) → step.now.outcome ≡ Wanting ks → IsPlan U.Key.eq U.meaning step.now.job.name.version owed step.now.job ks tasks.new desk.new graph.now cells.now r.1) }
-    ensures still { IfOk result (λ r. IfEnds r.1 ((tasks.new ≡ tasks.old) × (desk.new ≡ desk.old))) }
-    ensures next { IfOk result (λ r. (ks : List U.Key) → step.now.outcome ≡ Wanting ks → AsksNext U.Key.eq U.meaning step.now.job.name.version step.now.job.name.key step.now.job.work step.now.job.answered (IsWaiting ks)) }
+    ensures plan { IfOk result (λ r. (ks : List U.Key) → step.now.outcome ≡ Wanting ks
+        → IsPlan U.Key.eq U.meaning step.now.job.name.version owed step.now.job ks tasks.new
+        desk.new graph.now cells.now r.1) }
+    ensures still { IfOk result
+        (λ r. IfEnds r.1 ((tasks.new ≡ tasks.old) × (desk.new ≡ desk.old))) }
+    ensures next { IfOk result (λ r. (ks : List U.Key) → step.now.outcome ≡ Wanting ks
+        → AsksNext U.Key.eq U.meaning step.now.job.name.version step.now.job.name.key
+        step.now.job.work step.now.job.answered (IsWaiting ks)) }
 {
     laws_of::<U>();
     let assignment = step.assignment();

@@ -30,11 +30,12 @@ use std::alloc::Global;
 use std::sync::Arc;
 use versioned_graph::Graph;
 
-/// A run that was out is done with this value: an End tells it, the graph keeps the value with the answers as its trace, and the tasks
-/// that waited for the key alone go on. At an error nothing that is seen has changed.
+/// A run that was out is done with this value: an End tells it, the graph keeps the value with the
+/// answers as its trace, and the tasks that waited for the key alone go on. At an error nothing
+/// that is seen has changed.
 ///
-/// It costs a look-up for each key of the trace, the number of tasks that asked for the key, and that of the keys and values of
-/// those that go on.
+/// It costs a look-up for each key of the trace, the number of tasks that asked for the key, and
+/// that of the keys and values of those that go on.
 pub fn done<U: Universe>(
     alloc: Global,
     universe: &U,
@@ -48,16 +49,24 @@ pub fn done<U: Universe>(
     step: &Step<U>,
     value: &ValueRef<U>,
 ) -> Result<(), NoMemory>
-    requires at_hand { (w : World U.Key U.Value) × AtHand U.Key.eq U.meaning version w owed tasks.old desk.old graph.old cells.now }
+    requires at_hand { (w : World U.Key U.Value)
+        × AtHand U.Key.eq U.meaning version w owed tasks.old desk.old graph.old cells.now }
     requires last { cells.now.last < u64.MAX }
-    requires out { task_at U.Key.eq tasks.old (arc_value key.now) ≡ Some (held_of step.now.job IsOut) }
+    requires out { task_at U.Key.eq tasks.old (arc_value key.now)
+        ≡ Some (held_of step.now.job IsOut) }
     requires step { IsStepOf U.meaning U.Value.eq step.now step.now.job }
     requires done { step.now.outcome ≡ Valued (arc_value value.now) }
-    ensures events { OnOk result (desk.new.events ≡ desk.old.events ++ End version (arc_value key.now) ∷ []) }
-    ensures given { OnOk result (EndsAndWakes U.Key.eq U.meaning cells.now version (arc_value key.now) (arc_value value.now) step.now.job.name tasks.old tasks.new) }
-    ensures entries { OnOk result (IsFinished U.Key.eq U.meaning U.Value.eq cells.now version (arc_value key.now) (arc_value value.now) step.now.job.answered graph.old graph.new) }
-    ensures err { OnErr result (IsRefused tasks.old tasks.new desk.old desk.new graph.old graph.new) }
-    ensures kept { (w : World U.Key U.Value) → AtHand U.Key.eq U.meaning version w owed tasks.old desk.old graph.old cells.now → AtHand U.Key.eq U.meaning version w owed tasks.new desk.new graph.new cells.now }
+    ensures events { OnOk result
+        (desk.new.events ≡ desk.old.events ++ End version (arc_value key.now) ∷ []) }
+    ensures given { OnOk result (EndsAndWakes U.Key.eq U.meaning cells.now version
+        (arc_value key.now) (arc_value value.now) step.now.job.name tasks.old tasks.new) }
+    ensures entries { OnOk result (IsFinished U.Key.eq U.meaning U.Value.eq cells.now version
+        (arc_value key.now) (arc_value value.now) step.now.job.answered graph.old graph.new) }
+    ensures err { OnErr result
+        (IsRefused tasks.old tasks.new desk.old desk.new graph.old graph.new) }
+    ensures kept { (w : World U.Key U.Value)
+        → AtHand U.Key.eq U.meaning version w owed tasks.old desk.old graph.old cells.now
+        → AtHand U.Key.eq U.meaning version w owed tasks.new desk.new graph.new cells.now }
 {
     let event = Event::End(version, Arc::try_clone(key)?);
     end_step::<U>(
@@ -65,8 +74,9 @@ pub fn done<U: Universe>(
     )
 }
 
-/// A check of an earlier value that was out found all the same: a Keep tells it with the base, the graph keeps the value with the
-/// answers as its trace, and the tasks that waited for the key alone go on. At an error nothing that is seen has changed.
+/// A check of an earlier value that was out found all the same: a Keep tells it with the base, the
+/// graph keeps the value with the answers as its trace, and the tasks that waited for the key alone
+/// go on. At an error nothing that is seen has changed.
 ///
 /// It costs what `done` costs.
 pub fn same<U: Universe>(
@@ -82,17 +92,26 @@ pub fn same<U: Universe>(
     step: &Step<U>,
     earlier: &Earlier<U>,
 ) -> Result<(), NoMemory>
-    requires at_hand { (w : World U.Key U.Value) × AtHand U.Key.eq U.meaning version w owed tasks.old desk.old graph.old cells.now }
+    requires at_hand { (w : World U.Key U.Value)
+        × AtHand U.Key.eq U.meaning version w owed tasks.old desk.old graph.old cells.now }
     requires last { cells.now.last < u64.MAX }
-    requires out { task_at U.Key.eq tasks.old (arc_value key.now) ≡ Some (held_of step.now.job IsOut) }
+    requires out { task_at U.Key.eq tasks.old (arc_value key.now)
+        ≡ Some (held_of step.now.job IsOut) }
     requires step { IsStepOf U.meaning U.Value.eq step.now step.now.job }
     requires same { step.now.outcome ≡ Unchanged }
     requires earlier { work_of (Some earlier.now) ≡ step.now.job.work }
-    ensures events { OnOk result (desk.new.events ≡ desk.old.events ++ Keep version (arc_value key.now) earlier.now.base ∷ []) }
-    ensures given { OnOk result (EndsAndWakes U.Key.eq U.meaning cells.now version (arc_value key.now) (arc_value earlier.now.value) step.now.job.name tasks.old tasks.new) }
-    ensures entries { OnOk result (IsFinished U.Key.eq U.meaning U.Value.eq cells.now version (arc_value key.now) (arc_value earlier.now.value) step.now.job.answered graph.old graph.new) }
-    ensures err { OnErr result (IsRefused tasks.old tasks.new desk.old desk.new graph.old graph.new) }
-    ensures kept { (w : World U.Key U.Value) → AtHand U.Key.eq U.meaning version w owed tasks.old desk.old graph.old cells.now → AtHand U.Key.eq U.meaning version w owed tasks.new desk.new graph.new cells.now }
+    ensures events { OnOk result (desk.new.events
+        ≡ desk.old.events ++ Keep version (arc_value key.now) earlier.now.base ∷ []) }
+    ensures given { OnOk result (EndsAndWakes U.Key.eq U.meaning cells.now version
+        (arc_value key.now) (arc_value earlier.now.value) step.now.job.name tasks.old tasks.new) }
+    ensures entries { OnOk result (IsFinished U.Key.eq U.meaning U.Value.eq cells.now version
+        (arc_value key.now) (arc_value earlier.now.value) step.now.job.answered graph.old
+        graph.new) }
+    ensures err { OnErr result
+        (IsRefused tasks.old tasks.new desk.old desk.new graph.old graph.new) }
+    ensures kept { (w : World U.Key U.Value)
+        → AtHand U.Key.eq U.meaning version w owed tasks.old desk.old graph.old cells.now
+        → AtHand U.Key.eq U.meaning version w owed tasks.new desk.new graph.new cells.now }
 {
     let event = Event::Keep(version, Arc::try_clone(key)?, earlier.base);
     let value = &earlier.value;
@@ -101,8 +120,9 @@ pub fn same<U: Universe>(
     )
 }
 
-/// A check of an earlier value that was out found that the answer to this key has changed: a Start tells it, and the task computes
-/// the value, from the answers that the check has. At an error nothing that is seen has changed.
+/// A check of an earlier value that was out found that the answer to this key has changed: a Start
+/// tells it, and the task computes the value, from the answers that the check has. At an error
+/// nothing that is seen has changed.
 pub fn differs<U: Universe>(
     desk: &mut Desk<U>,
     tasks: &mut Tasks<U>,
@@ -113,15 +133,25 @@ pub fn differs<U: Universe>(
     earlier: &Earlier<U>,
     dep: &KeyRef<U>,
 ) -> Result<(), NoMemory>
-    requires at_hand { (w : World U.Key U.Value) × (es : List (U.Key × Stored U.Key U.Value)) × (cells : Seen U.Key U.Value) × AtHand U.Key.eq U.meaning version w owed tasks.old desk.old es cells }
-    requires out { task_at U.Key.eq tasks.old (arc_value key.now) ≡ Some (held_of step.now.job IsOut) }
+    requires at_hand { (w : World U.Key U.Value) × (es : List (U.Key × Stored U.Key U.Value))
+        × (cells : Seen U.Key U.Value)
+        × AtHand U.Key.eq U.meaning version w owed tasks.old desk.old es cells }
+    requires out { task_at U.Key.eq tasks.old (arc_value key.now)
+        ≡ Some (held_of step.now.job IsOut) }
     requires step { IsStepOf U.meaning U.Value.eq step.now step.now.job }
     requires differs { step.now.outcome ≡ Changed (arc_value dep.now) }
     requires earlier { work_of (Some earlier.now) ≡ step.now.job.work }
-    ensures events { OnOk result (desk.new.events ≡ desk.old.events ++ Start version (arc_value key.now) (Differs earlier.now.base (arc_value dep.now)) ∷ []) }
-    ensures given { OnOk result (IsTurned U.Key.eq (arc_value key.now) (held_of step.now.job IsOut) (held_of (computing step.now.job) IsReady) tasks.old tasks.new) }
-    ensures err { OnErr result ((tasks.new ≡ tasks.old) × KeepsHands desk.old desk.new × KeepsDeskRoom desk.old desk.new) }
-    ensures kept { (w : World U.Key U.Value) (es : List (U.Key × Stored U.Key U.Value)) (cells : Seen U.Key U.Value) → AtHand U.Key.eq U.meaning version w owed tasks.old desk.old es cells → AtHand U.Key.eq U.meaning version w owed tasks.new desk.new es cells }
+    ensures events { OnOk result (desk.new.events
+        ≡ desk.old.events
+        ++ Start version (arc_value key.now) (Differs earlier.now.base (arc_value dep.now)) ∷ []) }
+    ensures given { OnOk result (IsTurned U.Key.eq (arc_value key.now) (held_of step.now.job IsOut)
+        (held_of (computing step.now.job) IsReady) tasks.old tasks.new) }
+    ensures err { OnErr result
+        ((tasks.new ≡ tasks.old) × KeepsHands desk.old desk.new × KeepsDeskRoom desk.old desk.new) }
+    ensures kept { (w : World U.Key U.Value) (es : List (U.Key × Stored U.Key U.Value))
+        (cells : Seen U.Key U.Value)
+        → AtHand U.Key.eq U.meaning version w owed tasks.old desk.old es cells
+        → AtHand U.Key.eq U.meaning version w owed tasks.new desk.new es cells }
 {
     laws_of::<U>();
     let cause = Cause::Differs(earlier.base, Arc::try_clone(dep)?);
@@ -146,7 +176,8 @@ struct Ending<U: Universe> {
     woken: Vec<Woken<U>>,
 }
 
-/// Makes ahead what the end of a key's task with this value needs. It takes the memory for it, and changes nothing.
+/// Makes ahead what the end of a key's task with this value needs. It takes the memory for it, and
+/// changes nothing.
 fn prepare_end<U: Universe>(
     alloc: Global,
     universe: &U,
@@ -162,7 +193,8 @@ fn prepare_end<U: Universe>(
     ensures value { IfOk result (λ e. arc_value e.value ≡ arc_value value.now) }
     ensures trace { IfOk result (λ e. arc_value e.trace ≡ step.now.job.answered) }
     ensures outcome { IfOk result (λ e. arc_value e.outcome ≡ arc_value value.now) }
-    ensures woken { IfOk result (λ e. AreWoken U.Key.eq U.meaning cells.now version (arc_value key.now) (arc_value value.now) tasks.now e.woken.items) }
+    ensures woken { IfOk result (λ e. AreWoken U.Key.eq U.meaning cells.now version
+        (arc_value key.now) (arc_value value.now) tasks.now e.woken.items) }
 {
     let woken = woken_by::<U>(alloc, universe, cells, tasks, version, key, value)?;
     let trace = step.assignment().answered()?;
@@ -178,7 +210,8 @@ fn prepare_end<U: Universe>(
     })
 }
 
-/// The step ends the task of its key, which is out, with this value, and this event, an End or a Keep, tells it.
+/// The step ends the task of its key, which is out, with this value, and this event, an End or a
+/// Keep, tells it.
 fn end_step<U: Universe>(
     alloc: Global,
     universe: &U,
@@ -193,16 +226,24 @@ fn end_step<U: Universe>(
     event: Event<U::Key, U::Value>,
     value: &ValueRef<U>,
 ) -> Result<(), NoMemory>
-    requires at_hand { (w : World U.Key U.Value) × AtHand U.Key.eq U.meaning version w owed tasks.old desk.old graph.old cells.now }
+    requires at_hand { (w : World U.Key U.Value)
+        × AtHand U.Key.eq U.meaning version w owed tasks.old desk.old graph.old cells.now }
     requires last { cells.now.last < u64.MAX }
-    requires out { task_at U.Key.eq tasks.old (arc_value key.now) ≡ Some (held_of step.now.job IsOut) }
+    requires out { task_at U.Key.eq tasks.old (arc_value key.now)
+        ≡ Some (held_of step.now.job IsOut) }
     requires step { IsStepOf U.meaning U.Value.eq step.now step.now.job }
-    requires ends { EndsWith version (arc_value key.now) step.now (arc_value value.now) (told event) }
+    requires ends { EndsWith version (arc_value key.now) step.now (arc_value value.now)
+        (told event) }
     ensures events { OnOk result (desk.new.events ≡ desk.old.events ++ told event ∷ []) }
-    ensures given { OnOk result (EndsAndWakes U.Key.eq U.meaning cells.now version (arc_value key.now) (arc_value value.now) step.now.job.name tasks.old tasks.new) }
-    ensures entries { OnOk result (IsFinished U.Key.eq U.meaning U.Value.eq cells.now version (arc_value key.now) (arc_value value.now) step.now.job.answered graph.old graph.new) }
-    ensures err { OnErr result (IsRefused tasks.old tasks.new desk.old desk.new graph.old graph.new) }
-    ensures kept { (w : World U.Key U.Value) → AtHand U.Key.eq U.meaning version w owed tasks.old desk.old graph.old cells.now → AtHand U.Key.eq U.meaning version w owed tasks.new desk.new graph.new cells.now }
+    ensures given { OnOk result (EndsAndWakes U.Key.eq U.meaning cells.now version
+        (arc_value key.now) (arc_value value.now) step.now.job.name tasks.old tasks.new) }
+    ensures entries { OnOk result (IsFinished U.Key.eq U.meaning U.Value.eq cells.now version
+        (arc_value key.now) (arc_value value.now) step.now.job.answered graph.old graph.new) }
+    ensures err { OnErr result
+        (IsRefused tasks.old tasks.new desk.old desk.new graph.old graph.new) }
+    ensures kept { (w : World U.Key U.Value)
+        → AtHand U.Key.eq U.meaning version w owed tasks.old desk.old graph.old cells.now
+        → AtHand U.Key.eq U.meaning version w owed tasks.new desk.new graph.new cells.now }
 {
     laws_of::<U>();
     let ending = prepare_end::<U>(alloc, universe, cells, tasks, version, key, step, value)?;

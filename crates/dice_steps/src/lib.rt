@@ -1,5 +1,6 @@
-//! What is made of a step with the tasks of its version in hand: a value ends its task, and those that waited for it go on; a batch
-//! is planned, and makes its task wait, go on, or end with a cycle.
+//! What is made of a step with the tasks of its version in hand: a value ends its task, and those
+//! that waited for it go on; a batch is planned, and makes its task wait, go on, or end with a
+//! cycle.
 #![tactic(auto)]
 
 mod batch;

@@ -10,8 +10,13 @@ use std::sync::Arc;
 
 /// Adds a key to those that were seen; whether it is new there.
 pub fn note<K: Eq + Hash + Drop>(seen: &mut HashSet<Arc<K>>, key: &Arc<K>) -> Result<bool, NoMemory>
-    ensures added { IfOk result (λ is_new. is_new ≡ not (list_any (λ k. K.eq (arc_value key.now) (arc_value k)) seen.old.keys)) }
-    ensures seen { OnOk result ((q : K) → list_any (λ k. K.eq q (arc_value k)) seen.new.keys ≡ (if K.eq (arc_value key.now) q then true else list_any (λ k. K.eq q (arc_value k)) seen.old.keys)) }
+    ensures added { IfOk result (λ is_new. is_new
+        ≡ not (list_any (λ k. K.eq (arc_value key.now) (arc_value k)) seen.old.keys)) }
+    ensures seen { OnOk result ((q : K)
+        → list_any (λ k. K.eq q (arc_value k)) seen.new.keys
+        ≡ (if K.eq (arc_value key.now) q
+        then true
+        else list_any (λ k. K.eq q (arc_value k)) seen.old.keys)) }
 {
     Ok(seen.insert(Arc::try_clone(key)?)?)
 }

@@ -52,7 +52,8 @@ pub(crate) enum Survey<U: Universe> {
 /// What a batch comes to, with all the memory that it takes.
 #[derive(Drop)]
 pub(crate) enum Plan<U: Universe> {
-    /// The task that asks it ends with this cycle, with all that ask for it. Its path has an owner for each of them.
+    /// The task that asks it ends with this cycle, with all that ask for it. Its path has an owner
+    /// for each of them.
     Ends(Owners<U::Key>),
     /// After these are made, all keys have values, and the task goes on.
     GoesOn(Vec<Part<U>>, Next<U>),
@@ -60,11 +61,12 @@ pub(crate) enum Plan<U: Universe> {
     Waits(Vec<Part<U>>, Vec<Wait<U::Key>>),
 }
 
-/// Plans what comes of the batch that the job of this assignment asks, in the order of its keys. It takes all the memory for it, and
-/// makes room for `owed` events beside; nothing else changes, even if memory is refused.
+/// Plans what comes of the batch that the job of this assignment asks, in the order of its keys. It
+/// takes all the memory for it, and makes room for `owed` events beside; nothing else changes, even
+/// if memory is refused.
 ///
-/// It costs a look-up for each key, and a walk over the waits that begin there; if there is a cycle, also a walk over the tasks that
-/// end with it.
+/// It costs a look-up for each key, and a walk over the waits that begin there; if there is a
+/// cycle, also a walk over the tasks that end with it.
 pub(crate) fn plan_batch<U: Universe>(
     alloc: Global,
     universe: &U,
@@ -76,13 +78,16 @@ pub(crate) fn plan_batch<U: Universe>(
     assignment: &Assignment<U>,
     batch: &Batch<U::Key>,
 ) -> Result<Plan<U>, NoMemory>
-    requires { (w : World U.Key U.Value) × AtHand U.Key.eq U.meaning assignment.now.name.version w owed tasks.old desk.old graph.now cells.now }
+    requires { (w : World U.Key U.Value)
+        × AtHand U.Key.eq U.meaning assignment.now.name.version w owed tasks.old desk.old graph.now
+        cells.now }
     ensures tasks { KeepsTasks U.Key.eq tasks.old tasks.new }
     ensures asks { KeepsAsks U.Key.eq tasks.old tasks.new }
     ensures room { KeepsRoom U.Key.eq tasks.old tasks.new }
     ensures hands { KeepsHands desk.old desk.new }
     ensures desk_room { KeepsDeskRoom desk.old desk.new }
-    ensures plan { IfOk result (IsPlan U.Key.eq U.meaning assignment.now.name.version owed assignment.now batch.now tasks.new desk.new graph.now cells.now) }
+    ensures plan { IfOk result (IsPlan U.Key.eq U.meaning assignment.now.name.version owed
+        assignment.now batch.now tasks.new desk.new graph.now cells.now) }
     ensures still { IfOk result (λ p. IfEnds p ((tasks.new ≡ tasks.old) × (desk.new ≡ desk.old))) }
 {
     laws_of::<U>();
@@ -118,7 +123,8 @@ fn told_so_far<U: Universe>(desk: &Desk<U>) -> u64
     desk.journal().len() as u64
 }
 
-/// What the keys of a batch come to, in their order: if one comes to a cycle the others are not looked at. It changes nothing.
+/// What the keys of a batch come to, in their order: if one comes to a cycle the others are not
+/// looked at. It changes nothing.
 fn look_over<U: Universe>(
     alloc: Global,
     universe: &U,
@@ -129,7 +135,8 @@ fn look_over<U: Universe>(
     batch: &Batch<U::Key>,
     born: u64,
 ) -> Result<Survey<U>, NoMemory>
-    ensures { IfOk result (IsSurvey U.Key.eq U.meaning version born tasks.now graph.now (arc_value own.now) batch.now) }
+    ensures { IfOk result (IsSurvey U.Key.eq U.meaning version born tasks.now graph.now
+        (arc_value own.now) batch.now) }
 {
     match batch.keys() {
         [key] => look_at::<U>(alloc, universe, graph, tasks, version, own, key, born),
@@ -154,7 +161,8 @@ fn look_at<U: Universe>(
     key: &KeyRef<U>,
     born: u64,
 ) -> Result<Survey<U>, NoMemory>
-    ensures { IfOk result (IsSurvey U.Key.eq U.meaning version born tasks.now graph.now (arc_value own.now) (arc_value key.now ∷ [])) }
+    ensures { IfOk result (IsSurvey U.Key.eq U.meaning version born tasks.now graph.now
+        (arc_value own.now) (arc_value key.now ∷ [])) }
 {
     let mut parts = Vec::new(alloc);
     if let Kind::Injected = universe.kind(key) {
@@ -168,8 +176,8 @@ fn look_at<U: Universe>(
     Ok(Survey::Parts(parts))
 }
 
-/// What a few keys come to, in their order; each is looked at where it stands first. Those that stand twice are found by a walk over
-/// the parts, which takes no memory.
+/// What a few keys come to, in their order; each is looked at where it stands first. Those that
+/// stand twice are found by a walk over the parts, which takes no memory.
 fn look_over_few<U: Universe>(
     alloc: Global,
     universe: &U,
@@ -180,7 +188,8 @@ fn look_over_few<U: Universe>(
     keys: &[KeyRef<U>],
     born: u64,
 ) -> Result<Survey<U>, NoMemory>
-    ensures { IfOk result (IsSurvey U.Key.eq U.meaning version born tasks.now graph.now (arc_value own.now) (map arc_value keys.now)) }
+    ensures { IfOk result (IsSurvey U.Key.eq U.meaning version born tasks.now graph.now
+        (arc_value own.now) (map arc_value keys.now)) }
 {
     laws_of::<U>();
     let mut parts = Vec::new(alloc);
@@ -200,7 +209,9 @@ fn look_over_few<U: Universe>(
 
 /// Whether a key is injected, or is among those of these parts.
 fn is_passed<U: Universe>(universe: &U, parts: &[Part<U>], key: &KeyRef<U>) -> bool
-    ensures { MatchBool result ((U.meaning.kind (arc_value key.now) ≡ Injected) ⊎ Has (map key_in parts.now) (arc_value key.now)) ((U.meaning.kind (arc_value key.now) ≢ Injected) × (Has (map key_in parts.now) (arc_value key.now) → ⊥)) }
+    ensures { MatchBool result ((U.meaning.kind (arc_value key.now) ≡ Injected)
+        ⊎ Has (map key_in parts.now) (arc_value key.now)) ((U.meaning.kind (arc_value key.now)
+        ≢ Injected) × (Has (map key_in parts.now) (arc_value key.now) → ⊥)) }
 {
     laws_of::<U>();
     match universe.kind(key) {
@@ -239,7 +250,8 @@ fn look_over_all<U: Universe>(
     keys: &[KeyRef<U>],
     born: u64,
 ) -> Result<Survey<U>, NoMemory>
-    ensures { IfOk result (IsSurvey U.Key.eq U.meaning version born tasks.now graph.now (arc_value own.now) (map arc_value keys.now)) }
+    ensures { IfOk result (IsSurvey U.Key.eq U.meaning version born tasks.now graph.now
+        (arc_value own.now) (map arc_value keys.now)) }
 {
     laws_of::<U>();
     let mut seen = HashSet::new(alloc);
@@ -264,8 +276,14 @@ fn is_new<U: Universe>(
     seen: &mut HashSet<KeyRef<U>>,
     key: &KeyRef<U>,
 ) -> Result<bool, NoMemory>
-    ensures new { IfOk result (λ b. MatchBool b ((U.meaning.kind (arc_value key.now) ≢ Injected) × (list_any (λ k. U.Key.eq (arc_value key.now) (arc_value k)) seen.old.keys ≡ false)) ((U.meaning.kind (arc_value key.now) ≡ Injected) ⊎ (list_any (λ k. U.Key.eq (arc_value key.now) (arc_value k)) seen.old.keys ≡ true))) }
-    ensures seen { IfOk result (λ b. (q : U.Key) → list_any (λ k. U.Key.eq q (arc_value k)) seen.new.keys ≡ ((b && U.Key.eq (arc_value key.now) q) || list_any (λ k. U.Key.eq q (arc_value k)) seen.old.keys)) }
+    ensures new { IfOk result (λ b. MatchBool b ((U.meaning.kind (arc_value key.now) ≢ Injected)
+        × (list_any (λ k. U.Key.eq (arc_value key.now) (arc_value k)) seen.old.keys ≡ false))
+        ((U.meaning.kind (arc_value key.now) ≡ Injected)
+        ⊎ (list_any (λ k. U.Key.eq (arc_value key.now) (arc_value k)) seen.old.keys ≡ true))) }
+    ensures seen { IfOk result (λ b. (q : U.Key)
+        → list_any (λ k. U.Key.eq q (arc_value k)) seen.new.keys
+        ≡ ((b && U.Key.eq (arc_value key.now) q)
+        || list_any (λ k. U.Key.eq q (arc_value k)) seen.old.keys)) }
 {
     laws_of::<U>();
     match universe.kind(key) {
@@ -274,16 +292,18 @@ fn is_new<U: Universe>(
     }
 }
 
-/// The cycle to which a wait of the task of `own` for a key comes: the one that it would close, or the one with which the key's task has
-/// ended.
+/// The cycle to which a wait of the task of `own` for a key comes: the one that it would close, or
+/// the one with which the key's task has ended.
 fn cycle_at<U: Universe>(
     alloc: Global,
     tasks: &Tasks<U>,
     own: &KeyRef<U>,
     key: &KeyRef<U>,
 ) -> Result<Option<Arc<Path<U::Key>>>, NoMemory>
-    ensures some { IfOk result (λ o. IfSome o (λ p. IsPathAt U.Key.eq tasks.now (arc_value own.now) (arc_value key.now) (arc_value p))) }
-    ensures apart { IfOk result (λ o. IfNone o (Leads (asked_of U.Key.eq tasks.now) (arc_value key.now) (arc_value own.now) → ⊥)) }
+    ensures some { IfOk result (λ o. IfSome o
+        (λ p. IsPathAt U.Key.eq tasks.now (arc_value own.now) (arc_value key.now) (arc_value p))) }
+    ensures apart { IfOk result (λ o. IfNone o
+        (Leads (asked_of U.Key.eq tasks.now) (arc_value key.now) (arc_value own.now) → ⊥)) }
     ensures whole { IfOk result (λ o. IfNone o (HasNoPath U.Key.eq tasks.now (arc_value key.now))) }
 {
     if let Some(path) = would_close(alloc, tasks, own, key)? {
@@ -300,7 +320,8 @@ fn ended_by_cycle<'a, U: Universe>(
     tasks: &'a Tasks<U>,
     key: &KeyRef<U>,
 ) -> Option<&'a Arc<Path<U::Key>>>
-    ensures { option_map (λ p. arc_value p.now) result ≡ path_with (task_at U.Key.eq tasks.now (arc_value key.now)) }
+    ensures { option_map (λ p. arc_value p.now) result
+        ≡ path_with (task_at U.Key.eq tasks.now (arc_value key.now)) }
 {
     tasks.task(key)?.cycle()
 }
@@ -340,7 +361,8 @@ fn is_awaited<U: Universe>(tasks: &Tasks<U>, key: &KeyRef<U>, making: &Making<U>
     }
 }
 
-/// Makes room for what is planned, and the waits of the task of `own` for the keys that are waited for.
+/// Makes room for what is planned, and the waits of the task of `own` for the keys that are waited
+/// for.
 fn reserve_parts<U: Universe>(
     alloc: Global,
     tasks: &mut Tasks<U>,
@@ -352,7 +374,8 @@ fn reserve_parts<U: Universe>(
     ensures room { KeepsRoom U.Key.eq tasks.old tasks.new }
     ensures placed { OnOk result (ArePlaced U.Key.eq parts.now tasks.new) }
     ensures waits { IfOk result (λ ws. ws.items ≡ waits_of (arc_value own.now) parts.now) }
-    ensures fits { IfOk result (λ ws. length ws.items ≤ wait_room U.Key.eq tasks.new (arc_value own.now)) }
+    ensures fits { IfOk result
+        (λ ws. length ws.items ≤ wait_room U.Key.eq tasks.new (arc_value own.now)) }
 {
     laws_of::<U>();
     let mut waits = Vec::new(alloc);
@@ -374,8 +397,10 @@ fn reserve_part<U: Universe>(
     ensures asks { KeepsAsks U.Key.eq tasks.old tasks.new }
     ensures room { KeepsRoom U.Key.eq tasks.old tasks.new }
     ensures place { OnOk result (has_place U.Key.eq tasks.new (key_in part.now) ≡ true) }
-    ensures asker { OnOk result (part.now.awaited ≡ true → 0 < asker_room U.Key.eq tasks.new (key_in part.now)) }
-    ensures waits { OnOk result (waits.new.items ≡ waits.old.items ++ waits_of (arc_value own.now) (part.now ∷ [])) }
+    ensures asker { OnOk result
+        (part.now.awaited ≡ true → 0 < asker_room U.Key.eq tasks.new (key_in part.now)) }
+    ensures waits { OnOk result
+        (waits.new.items ≡ waits.old.items ++ waits_of (arc_value own.now) (part.now ∷ [])) }
 {
     if !part.awaited {
         return tasks.reserve(&part.key);
@@ -395,8 +420,10 @@ fn answers_of<U: Universe>(
     version: u64,
     batch: &Batch<U::Key>,
 ) -> Result<Option<Answers<U::Value>>, NoMemory>
-    ensures some { IfOk result (λ o. IfSome o (AllZip (IsAtHand U.Key.eq U.meaning version tasks.now graph.now cells.now) batch.now)) }
-    ensures none { IfOk result (λ o. IfNone o ((q : U.Key) × Has batch.now q × HasNone U.Key.eq U.meaning version tasks.now graph.now q)) }
+    ensures some { IfOk result (λ o. IfSome o
+        (AllZip (IsAtHand U.Key.eq U.meaning version tasks.now graph.now cells.now) batch.now)) }
+    ensures none { IfOk result (λ o. IfNone o ((q : U.Key) × Has batch.now q
+        × HasNone U.Key.eq U.meaning version tasks.now graph.now q)) }
 {
     laws_of::<U>();
     let mut answers = Answers::new(alloc);
@@ -419,8 +446,10 @@ fn value_at_hand<'a, U: Universe>(
     version: u64,
     key: &KeyRef<U>,
 ) -> Option<&'a ValueRef<U>>
-    ensures some { IfSome result (λ x. IsAtHand U.Key.eq U.meaning version tasks.now graph.now cells.now (arc_value key.now) (arc_value x.now)) }
-    ensures none { IfNone result (HasNone U.Key.eq U.meaning version tasks.now graph.now (arc_value key.now)) }
+    ensures some { IfSome result (λ x. IsAtHand U.Key.eq U.meaning version tasks.now graph.now
+        cells.now (arc_value key.now) (arc_value x.now)) }
+    ensures none { IfNone result
+        (HasNone U.Key.eq U.meaning version tasks.now graph.now (arc_value key.now)) }
 {
     match universe.kind(key) {
         Kind::Injected => Some(cells.at(version, key)),
@@ -433,7 +462,8 @@ fn value_at_hand<'a, U: Universe>(
 
 /// The value with which the task of a key has ended, if any.
 fn ended_value<'a, U: Universe>(tasks: &'a Tasks<U>, key: &KeyRef<U>) -> Option<&'a ValueRef<U>>
-    ensures { option_map (λ x. arc_value x.now) result ≡ value_of (tasks_of U.Key.eq tasks.now (arc_value key.now)) }
+    ensures { option_map (λ x. arc_value x.now) result
+        ≡ value_of (tasks_of U.Key.eq tasks.now (arc_value key.now)) }
 {
     tasks.task(key)?.value()
 }
@@ -444,8 +474,12 @@ fn kept_value<'a, U: Universe>(
     key: &KeyRef<U>,
     version: u64,
 ) -> Option<&'a ValueRef<U>>
-    ensures some { IfSome result (λ x. (b : ℕ) × (look U.meaning.is_transient (entry_at U.Key.eq graph.now (arc_value key.now)) version ≡ Matches (arc_value x.now) b)) }
-    ensures none { IfNone result ((x : U.Value) (b : ℕ) → look U.meaning.is_transient (entry_at U.Key.eq graph.now (arc_value key.now)) version ≡ Matches x b → ⊥) }
+    ensures some { IfSome result (λ x. (b : ℕ)
+        × (look U.meaning.is_transient (entry_at U.Key.eq graph.now (arc_value key.now)) version
+        ≡ Matches (arc_value x.now) b)) }
+    ensures none { IfNone result ((x : U.Value) (b : ℕ)
+        → look U.meaning.is_transient (entry_at U.Key.eq graph.now (arc_value key.now)) version
+        ≡ Matches x b → ⊥) }
 {
     match looked::<U>(graph, key, version) {
         Found::Match(value, _) => Some(value),

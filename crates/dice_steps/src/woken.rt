@@ -11,10 +11,11 @@ use std::alloc::Global;
 use std::sync::Arc;
 use task_share::table_in_order;
 
-/// The tasks that wait for a key alone, each with what it goes on with when the key's task ends with this value: the answers to its
-/// batch. It takes the memory for them, and changes nothing.
+/// The tasks that wait for a key alone, each with what it goes on with when the key's task ends
+/// with this value: the answers to its batch. It takes the memory for them, and changes nothing.
 ///
-/// It costs the number of tasks that ask for the key, and that of the keys and values of those that wait for it alone.
+/// It costs the number of tasks that ask for the key, and that of the keys and values of those that
+/// wait for it alone.
 pub(crate) fn woken_by<U: Universe>(
     alloc: Global,
     universe: &U,
@@ -25,7 +26,8 @@ pub(crate) fn woken_by<U: Universe>(
     value: &ValueRef<U>,
 ) -> Result<Vec<Woken<U>>, NoMemory>
     requires { HasAnswers U.Key.eq U.meaning (arc_value key.now) tasks.now }
-    ensures { IfOk result (λ ws. AreWoken U.Key.eq U.meaning cells.now version (arc_value key.now) (arc_value value.now) tasks.now ws.items) }
+    ensures { IfOk result (λ ws. AreWoken U.Key.eq U.meaning cells.now version (arc_value key.now)
+        (arc_value value.now) tasks.now ws.items) }
 {
     laws_of::<U>();
     let askers = tasks.askers(key).tasks;
@@ -42,8 +44,10 @@ pub(crate) fn woken_by<U: Universe>(
 
 /// Whether a task that asks for a key asks for no other. It looks at two keys at most.
 fn asks_alone<U: Universe>(tasks: &Tasks<U>, asker: &KeyRef<U>, key: &KeyRef<U>) -> bool
-    ensures alone { result ≡ true → AsksAlone U.Key.eq (arc_value key.now) tasks.now (arc_value asker.now) }
-    ensures more { result ≡ false → AsksMore U.Key.eq (arc_value key.now) tasks.now (arc_value asker.now) }
+    ensures alone { result ≡ true
+        → AsksAlone U.Key.eq (arc_value key.now) tasks.now (arc_value asker.now) }
+    ensures more { result ≡ false
+        → AsksMore U.Key.eq (arc_value key.now) tasks.now (arc_value asker.now) }
 {
     laws_of::<U>();
     table_in_order(tasks);
@@ -68,7 +72,8 @@ fn next_of<U: Universe>(
     asker: &KeyRef<U>,
 ) -> Result<Next<U>, NoMemory>
     requires { WaitsAlone U.Key.eq U.meaning (arc_value key.now) tasks.now (arc_value asker.now) }
-    ensures { IfOk result (IsAnswered U.Key.eq U.meaning cells.now version (arc_value key.now) (arc_value value.now) tasks.now (arc_value asker.now)) }
+    ensures { IfOk result (IsAnswered U.Key.eq U.meaning cells.now version (arc_value key.now)
+        (arc_value value.now) tasks.now (arc_value asker.now)) }
 {
     let Some(task) = tasks.task(asker) else {
         unreachable!();
@@ -87,8 +92,8 @@ fn next_of<U: Universe>(
     task.next(answers)
 }
 
-/// The answer to a key of a batch: the input of an injected key at the version, the value with which the task of `key` ends, and of
-/// any other key the value with which its task has ended.
+/// The answer to a key of a batch: the input of an injected key at the version, the value with
+/// which the task of `key` ends, and of any other key the value with which its task has ended.
 fn answer_of<'a, U: Universe>(
     universe: &U,
     cells: &'a Cells<U>,
@@ -98,8 +103,11 @@ fn answer_of<'a, U: Universe>(
     value: &'a ValueRef<U>,
     asked: &KeyRef<U>,
 ) -> Option<&'a ValueRef<U>>
-    ensures answer { IfSome result (λ x. IsAnswer U.Key.eq U.meaning cells.now version (arc_value key.now) (arc_value value.now) tasks.now (arc_value asked.now) (arc_value x.now)) }
-    ensures some { HasAnswer U.Key.eq U.meaning (arc_value key.now) tasks.now (arc_value asked.now) → IsSome result }
+    ensures answer { IfSome result (λ x. IsAnswer U.Key.eq U.meaning cells.now version
+        (arc_value key.now) (arc_value value.now) tasks.now (arc_value asked.now)
+        (arc_value x.now)) }
+    ensures some { HasAnswer U.Key.eq U.meaning (arc_value key.now) tasks.now (arc_value asked.now)
+        → IsSome result }
 {
     laws_of::<U>();
     match universe.kind(asked) {

@@ -20,8 +20,9 @@ use dice_jobs::{Assignment, Job};
 use dice_key::{KeyRef, Universe, laws_of};
 use journal::Event;
 
-/// The check of a key, which is out, found a changed answer. This event, a Start, tells it, and the task computes the key's value by
-/// this job, which goes on from the answers of the check; the task keeps a copy of it. It takes no memory.
+/// The check of a key, which is out, found a changed answer. This event, a Start, tells it, and the
+/// task computes the key's value by this job, which goes on from the answers of the check; the task
+/// keeps a copy of it. It takes no memory.
 pub fn differ<U: Universe>(
     desk: &mut Desk<U>,
     tasks: &mut Tasks<U>,
@@ -32,12 +33,22 @@ pub fn differ<U: Universe>(
     own: Assignment<U>,
 )
     requires known { Knows U.Key.eq version tasks.old desk.old }
-    requires check { (x : U.Value) × (T : List (Answered U.Key U.Value)) × (b : ℕ) × (task_at U.Key.eq tasks.old (arc_value key.now) ≡ Some (held_of (checking job x T b) IsOut)) }
+    requires check { (x : U.Value) × (T : List (Answered U.Key U.Value)) × (b : ℕ)
+        × (task_at U.Key.eq tasks.old (arc_value key.now)
+        ≡ Some (held_of (checking job x T b) IsOut)) }
     requires own { own ≡ job }
     requires job { job.work ≡ Computes }
-    ensures begun { (x : U.Value) × (T : List (Answered U.Key U.Value)) × (b : ℕ) × BeginsAnew U.Key.eq version (arc_value key.now) (held_of (checking job x T b) IsOut) (held_of job IsReady) (told event) tasks.old tasks.new desk.old desk.new }
+    ensures begun { (x : U.Value) × (T : List (Answered U.Key U.Value)) × (b : ℕ)
+        × BeginsAnew U.Key.eq version (arc_value key.now) (held_of (checking job x T b) IsOut)
+        (held_of job IsReady) (told event) tasks.old tasks.new desk.old desk.new }
     ensures tasked { AreTasked U.Key.eq tasks.old → AreTasked U.Key.eq tasks.new }
-    ensures kept { (w : World U.Key U.Value) (W : List U.Key) (owed : ℕ) (x : U.Value) (T : List (Answered U.Key U.Value)) (base : ℕ) (changed : U.Key) → Working U.Key.eq U.meaning version W w (owed + 1) tasks.old desk.old → told event ≡ Start version (arc_value key.now) (Differs base changed) → task_at U.Key.eq tasks.old (arc_value key.now) ≡ Some (held_of (checking job x T base) IsOut) → ChangesFirst T job.answered changed → Working U.Key.eq U.meaning version W w owed tasks.new desk.new }
+    ensures kept { (w : World U.Key U.Value) (W : List U.Key) (owed : ℕ) (x : U.Value)
+        (T : List (Answered U.Key U.Value)) (base : ℕ) (changed : U.Key)
+        → Working U.Key.eq U.meaning version W w (owed + 1) tasks.old desk.old
+        → told event ≡ Start version (arc_value key.now) (Differs base changed)
+        → task_at U.Key.eq tasks.old (arc_value key.now)
+        ≡ Some (held_of (checking job x T base) IsOut) → ChangesFirst T job.answered changed
+        → Working U.Key.eq U.meaning version W w owed tasks.new desk.new }
 {
     laws_of::<U>();
     let Some(task) = tasks.task_mut(key) else {

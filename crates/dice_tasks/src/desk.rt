@@ -55,15 +55,36 @@ impl<U: Universe> Model for Desk<U> {
     ghost use Rattle.std.specs.Prelude.{◌≤◌, ◌<◌, ◌+◌, ◌^◌, length, vec_capacity};
     ghost use Rattle.indexmap.specs.IndexSet.{spare};
 
-    ghost view = { λ d. record { events = d.journal.events; ready = ready_of d.ready d.at_hand.keys; out = out_of d.ready d.at_hand.keys; live = d.live; ended = map arc_value d.ended.items; spare = d.journal.spare; ready_room = d.ready_room; live_room = d.live_room } };
+    ghost view = { λ d. record {
+      events = d.journal.events;
+      ready = ready_of d.ready d.at_hand.keys;
+      out = out_of d.ready d.at_hand.keys;
+      live = d.live;
+      ended = map arc_value d.ended.items;
+      spare = d.journal.spare;
+      ready_room = d.ready_room;
+      live_room = d.live_room;
+    } };
 
-    ghost invariant = { λ d. IsLaid d.ready d.at_hand.keys × (d.ready_room ≤ spare d.at_hand) × (length d.ended.items + d.live + d.live_room ≤ vec_capacity d.ended) × (d.live + d.live_room < 2 ^ 64) };
+    ghost invariant = { λ d. IsLaid d.ready d.at_hand.keys × (d.ready_room ≤ spare d.at_hand)
+        × (length d.ended.items + d.live + d.live_room ≤ vec_capacity d.ended)
+        × (d.live + d.live_room < 2 ^ 64) };
 }
 
 impl<U: Universe> Desk<U> {
     /// No events, no tasks and no room. It takes no memory.
     pub fn new(alloc: Global) -> Desk<U>
-        ensures { result ≡ record { events = []; ready = []; out = []; live = 0; ended = []; spare = 0; ready_room = 0; live_room = 0 } }
+        ensures { result
+            ≡ record {
+              events = [];
+              ready = [];
+              out = [];
+              live = 0;
+              ended = [];
+              spare = 0;
+              ready_room = 0;
+              live_room = 0;
+            } }
     {
         Desk {
             journal: Journal::new(alloc),
@@ -84,8 +105,9 @@ impl<U: Universe> Desk<U> {
         &self.journal
     }
 
-    /// Makes room for `tasks` tasks to be made or to become ready; for two events for each task at work and each of these; and
-    /// for `owed` and `more` events beside. Nothing else changes, even if memory is refused.
+    /// Makes room for `tasks` tasks to be made or to become ready; for two events for each task at
+    /// work and each of these; and for `owed` and `more` events beside. Nothing else changes, even
+    /// if memory is refused.
     pub fn reserve(&mut self, owed: usize, more: usize, tasks: usize) -> Result<(), NoMemory>
         ensures same { KeepsHands self.old self.new }
         ensures room { KeepsDeskRoom self.old self.new }
@@ -102,7 +124,8 @@ impl<U: Universe> Desk<U> {
         ensures { IfOk result (λ n. (n ≡ length self.now.events) × (n < u64.MAX)) }
     {
         let len = self.journal.len();
-        // No memory holds so many events that there is no next number; a length does not tell that, so it is refused here.
+        // No memory holds so many events that there is no next number; a length does not tell that,
+        // so it is refused here.
         let _next = len.checked_add(1).ok_or(NoMemory)?;
         Ok(len as u64)
     }
@@ -125,7 +148,8 @@ impl<U: Universe> Desk<U> {
         self.journal.push_reserved(event);
     }
 
-    /// Brings the ready task that is to be taken next to the end of the ready ones. It takes no memory.
+    /// Brings the ready task that is to be taken next to the end of the ready ones. It takes no
+    /// memory.
     pub fn turn(&mut self)
         ensures { Reorders self.old self.new }
     {
@@ -136,7 +160,8 @@ impl<U: Universe> Desk<U> {
 
     /// The ready task that is to be taken next, after a turn.
     pub fn next_ready(&self) -> Option<&ReadyTask<U::Key>>
-        ensures some { IfSome result (λ r. (ps : List (ℕ × U.Key)) × (self.now.ready ≡ ps ++ place_of r.now ∷ [])) }
+        ensures some { IfSome result
+            (λ r. (ps : List (ℕ × U.Key)) × (self.now.ready ≡ ps ++ place_of r.now ∷ [])) }
         ensures none { IfNone result (self.now.ready ≡ []) }
     {
         if self.ready == 0 {
@@ -147,15 +172,18 @@ impl<U: Universe> Desk<U> {
 
     /// The number of a task among those that are ready or out.
     pub(crate) fn index_of(&self, version: u64, key: &KeyRef<U>) -> Option<usize>
-        ensures some { IfSome result (λ i. place_at self.now i ≡ Some (version, arc_value key.now)) }
-        ensures none { IfNone result (Has (self.now.ready ++ self.now.out) (version, arc_value key.now) → ⊥) }
+        ensures some { IfSome result
+            (λ i. place_at self.now i ≡ Some (version, arc_value key.now)) }
+        ensures none { IfNone result
+            (Has (self.now.ready ++ self.now.out) (version, arc_value key.now) → ⊥) }
     {
         index_of::<U>(&self.at_hand, version, key)
     }
 
     /// The key of the task of this number.
     pub(crate) fn key_at(&self, index: usize) -> Option<&KeyRef<U>>
-        ensures some { IfSome result (λ k. (v : ℕ) × (place_at self.now index ≡ Some (v, arc_value k.now))) }
+        ensures some { IfSome result
+            (λ k. (v : ℕ) × (place_at self.now index ≡ Some (v, arc_value k.now))) }
         ensures none { IfNone result (place_at self.now index ≡ None) }
     {
         match self.at_hand.get_index(index) {
@@ -189,7 +217,8 @@ impl<U: Universe> Desk<U> {
         take_away::<U>(&mut self.at_hand, self.ready, version, key);
     }
 
-    /// A task that was made, or whose batch is answered, becomes ready, in room made ahead. It takes no memory.
+    /// A task that was made, or whose batch is answered, becomes ready, in room made ahead. It
+    /// takes no memory.
     pub fn readied(&mut self, task: ReadyTask<U::Key>)
         requires ready { Has self.old.ready (place_of task) → ⊥ }
         requires out { Has self.old.out (place_of task) → ⊥ }
@@ -229,8 +258,8 @@ impl<U: Universe> Desk<U> {
         self.live_room += 1;
     }
 
-    /// Puts a key whose task has ended on the list of those whose askers are to be told, in room that the end left. It takes no
-    /// memory.
+    /// Puts a key whose task has ended on the list of those whose askers are to be told, in room
+    /// that the end left. It takes no memory.
     pub(crate) fn push_ended(&mut self, key: KeyRef<U>)
         requires { 0 < self.old.live_room }
         ensures { self.new ≡ with_told_next self.old (arc_value key) }
@@ -241,7 +270,8 @@ impl<U: Universe> Desk<U> {
 
     /// The last key on the list of those whose askers are to be told.
     pub(crate) fn last_ended(&self) -> Option<&KeyRef<U>>
-        ensures some { IfSome result (λ k. (ks : List U.Key) × (self.now.ended ≡ ks ++ arc_value k.now ∷ [])) }
+        ensures some { IfSome result
+            (λ k. (ks : List U.Key) × (self.now.ended ≡ ks ++ arc_value k.now ∷ [])) }
         ensures none { IfNone result (self.now.ended ≡ []) }
     {
         self.ended.last()
@@ -308,11 +338,13 @@ impl<U: Universe> Desk<U> {
     }
 }
 
-/// How many events there has to be room for: two for each task at work and each that may be made, and those beside.
+/// How many events there has to be room for: two for each task at work and each that may be made,
+/// and those beside.
 fn events_wanted(live: usize, tasks: usize, owed: usize, more: usize) -> Result<usize, NoMemory>
     ensures { IfOk result (λ n. n ≡ 2 * (live + tasks) + (owed + more)) }
 {
-    // Room for more events than a number counts is more than any memory has, and is refused as such.
+    // Room for more events than a number counts is more than any memory has, and is refused as
+    // such.
     let works = live.checked_add(tasks).ok_or(NoMemory)?;
     let ends = works.checked_mul(2).ok_or(NoMemory)?;
     let others = owed.checked_add(more).ok_or(NoMemory)?;

@@ -38,7 +38,8 @@ pub enum How<K> {
 
 /// Takes a task that is to end off the ready tasks and off those that are out.
 fn quit<U: Universe>(desk: &mut Desk<U>, task: &Task<U>, version: u64, key: &KeyRef<U>)
-    requires ready { ready_in task.now.standing ≡ true → Has desk.old.ready (version, arc_value key.now) }
+    requires ready { ready_in task.now.standing ≡ true
+        → Has desk.old.ready (version, arc_value key.now) }
     requires out { out_in task.now.standing ≡ true → Has desk.old.out (version, arc_value key.now) }
     ensures { Quits task.now.standing (version, arc_value key.now) desk.old desk.new }
 {
@@ -52,9 +53,18 @@ fn quit<U: Universe>(desk: &mut Desk<U>, task: &Task<U>, version: u64, key: &Key
 /// Drops one task at work that nobody asks for; `false` if there is none. It takes no memory.
 fn drop_one<U: Universe>(desk: &mut Desk<U>, tasks: &mut Tasks<U>, version: u64) -> bool
     requires known { Knows U.Key.eq version tasks.old desk.old }
-    ensures some { result ≡ true → (k : U.Key) × (h : Held U.Key U.Value) × DropsTask U.Key.eq version k h tasks.old tasks.new desk.old desk.new }
-    ensures none { result ≡ false → (desk.new ≡ desk.old) × IsDone (asked_of U.Key.eq tasks.old) × KeepsTasks U.Key.eq tasks.old tasks.new × KeepsAsks U.Key.eq tasks.old tasks.new × KeepsRoom U.Key.eq tasks.old tasks.new }
-    ensures kept { result ≡ true → (w : World U.Key U.Value) (owed : ℕ) → Cleaning U.Key.eq U.meaning version w owed tasks.old desk.old → ended_at (reverse desk.old.events) ≡ Some version → Cleaning U.Key.eq U.meaning version w owed tasks.new desk.new × (ended_at (reverse desk.new.events) ≡ Some version) }
+    ensures some { result ≡ true
+        → (k : U.Key) × (h : Held U.Key U.Value)
+        × DropsTask U.Key.eq version k h tasks.old tasks.new desk.old desk.new }
+    ensures none { result ≡ false
+        → (desk.new ≡ desk.old) × IsDone (asked_of U.Key.eq tasks.old)
+        × KeepsTasks U.Key.eq tasks.old tasks.new × KeepsAsks U.Key.eq tasks.old tasks.new
+        × KeepsRoom U.Key.eq tasks.old tasks.new }
+    ensures kept { result ≡ true → (w : World U.Key U.Value) (owed : ℕ)
+        → Cleaning U.Key.eq U.meaning version w owed tasks.old desk.old
+        → ended_at (reverse desk.old.events) ≡ Some version
+        → Cleaning U.Key.eq U.meaning version w owed tasks.new desk.new
+        × (ended_at (reverse desk.new.events) ≡ Some version) }
 {
     laws_of::<U>();
     let Some((key, task)) = tasks.next_unasked() else {
@@ -67,25 +77,30 @@ fn drop_one<U: Universe>(desk: &mut Desk<U>, tasks: &mut Tasks<U>, version: u64)
     true
 }
 
-/// Drops, one after the other, the tasks at work that nobody asks for, until there is none. It takes no memory.
+/// Drops, one after the other, the tasks at work that nobody asks for, until there is none. It
+/// takes no memory.
 ///
-/// Those that a promise still reaches stay (`task_share::drops_unheld`). It costs the number of tasks that it drops and of the
-/// keys that they waited for.
+/// Those that a promise still reaches stay (`task_share::drops_unheld`). It costs the number of
+/// tasks that it drops and of the keys that they waited for.
 pub fn cascade<U: Universe>(desk: &mut Desk<U>, tasks: &mut Tasks<U>, version: u64)
-    requires cleaning { (w : World U.Key U.Value) × (owed : ℕ) × Cleaning U.Key.eq U.meaning version w owed tasks.old desk.old }
+    requires cleaning { (w : World U.Key U.Value) × (owed : ℕ)
+        × Cleaning U.Key.eq U.meaning version w owed tasks.old desk.old }
     requires after { ended_at (reverse desk.old.events) ≡ Some version }
-    ensures dropped { (ks : List U.Key) × DropsTasks U.Key.eq version ks tasks.old tasks.new desk.old desk.new }
+    ensures dropped { (ks : List U.Key)
+        × DropsTasks U.Key.eq version ks tasks.old tasks.new desk.old desk.new }
     ensures done { IsDone (asked_of U.Key.eq tasks.new) }
     ensures after { ended_at (reverse desk.new.events) ≡ Some version }
     ensures tasked { AreTasked U.Key.eq tasks.old → AreTasked U.Key.eq tasks.new }
-    ensures kept { (w : World U.Key U.Value) (owed : ℕ) → Cleaning U.Key.eq U.meaning version w owed tasks.old desk.old → Working U.Key.eq U.meaning version [] w owed tasks.new desk.new }
+    ensures kept { (w : World U.Key U.Value) (owed : ℕ)
+        → Cleaning U.Key.eq U.meaning version w owed tasks.old desk.old
+        → Working U.Key.eq U.meaning version [] w owed tasks.new desk.new }
 {
     laws_of::<U>();
     'drops: while drop_one(desk, tasks, version) {}
 }
 
-/// Ends the task at work of a key, which asks for nothing any more, and gives the copies of its key. Its askers stay. It takes no
-/// memory.
+/// Ends the task at work of a key, which asks for nothing any more, and gives the copies of its
+/// key. Its askers stay. It takes no memory.
 fn end_task<U: Universe>(
     desk: &mut Desk<U>,
     tasks: &mut Tasks<U>,
@@ -95,7 +110,9 @@ fn end_task<U: Universe>(
 ) -> Option<Spare<U>>
     requires known { Knows U.Key.eq version tasks.old desk.old }
     requires live { is_live U.Key.eq tasks.old (arc_value key.now) ≡ true }
-    ensures ended { (h : Held U.Key U.Value) × EndsTask U.Key.eq version (arc_value key.now) h (came outcome) tasks.old tasks.new desk.old desk.new }
+    ensures ended { (h : Held U.Key U.Value)
+        × EndsTask U.Key.eq version (arc_value key.now) h (came outcome) tasks.old tasks.new
+        desk.old desk.new }
     ensures spare { IfSome result (AreCopies (arc_value key.now)) }
     ensures some { IfNone result ⊥ }
 {
@@ -108,8 +125,8 @@ fn end_task<U: Universe>(
     spare
 }
 
-/// Ends the task at work of a key with its value, and tells it by this event, an End or a Keep. Its askers are still to be told. It
-/// takes no memory.
+/// Ends the task at work of a key with its value, and tells it by this event, an End or a Keep. Its
+/// askers are still to be told. It takes no memory.
 pub fn end_value<U: Universe>(
     desk: &mut Desk<U>,
     tasks: &mut Tasks<U>,
@@ -120,22 +137,44 @@ pub fn end_value<U: Universe>(
 )
     requires known { Knows U.Key.eq version tasks.old desk.old }
     requires live { is_live U.Key.eq tasks.old (arc_value key.now) ≡ true }
-    ensures ended { (h : Held U.Key U.Value) × TellsEnd U.Key.eq version (arc_value key.now) h (WithValue (arc_value value)) (told event) tasks.old tasks.new desk.old desk.new }
+    ensures ended { (h : Held U.Key U.Value)
+        × TellsEnd U.Key.eq version (arc_value key.now) h (WithValue (arc_value value)) (told event)
+        tasks.old tasks.new desk.old desk.new }
     ensures tasked { AreTasked U.Key.eq tasks.old → AreTasked U.Key.eq tasks.new }
-    ensures computed { (w : World U.Key U.Value) (W : List U.Key) (owed : ℕ) (h : Held U.Key U.Value) (A : List (Answered U.Key U.Value)) → Working U.Key.eq U.meaning version W w owed tasks.old desk.old → told event ≡ End version (arc_value key.now) → task_at U.Key.eq tasks.old (arc_value key.now) ≡ Some h → h.standing ≡ Works Computes IsOut A → U.meaning.next (arc_value key.now) A version ≡ Ends (arc_value value) → Working U.Key.eq U.meaning version (arc_value key.now ∷ W) w owed tasks.new desk.new × IsTrace U.Key.eq U.meaning (commits_of (reverse desk.old.events)) version (arc_value key.now) A (arc_value value) }
-    ensures checked { (w : World U.Key U.Value) (W : List U.Key) (owed : ℕ) (h : Held U.Key U.Value) (T A : List (Answered U.Key U.Value)) (base : ℕ) → Working U.Key.eq U.meaning version W w owed tasks.old desk.old → told event ≡ Keep version (arc_value key.now) base → task_at U.Key.eq tasks.old (arc_value key.now) ≡ Some h → h.standing ≡ Works (Checks (arc_value value) T base) IsOut A → map (λ a. a.values) A ≡ map (λ a. a.values) T → Working U.Key.eq U.meaning version (arc_value key.now ∷ W) w owed tasks.new desk.new × IsTrace U.Key.eq U.meaning (commits_of (reverse desk.old.events)) version (arc_value key.now) A (arc_value value) }
+    ensures computed { (w : World U.Key U.Value) (W : List U.Key) (owed : ℕ)
+        (h : Held U.Key U.Value) (A : List (Answered U.Key U.Value))
+        → Working U.Key.eq U.meaning version W w owed tasks.old desk.old
+        → told event ≡ End version (arc_value key.now)
+        → task_at U.Key.eq tasks.old (arc_value key.now) ≡ Some h
+        → h.standing ≡ Works Computes IsOut A
+        → U.meaning.next (arc_value key.now) A version ≡ Ends (arc_value value)
+        → Working U.Key.eq U.meaning version (arc_value key.now ∷ W) w owed tasks.new desk.new
+        × IsTrace U.Key.eq U.meaning (commits_of (reverse desk.old.events)) version
+        (arc_value key.now) A (arc_value value) }
+    ensures checked { (w : World U.Key U.Value) (W : List U.Key) (owed : ℕ) (h : Held U.Key U.Value)
+        (T A : List (Answered U.Key U.Value)) (base : ℕ)
+        → Working U.Key.eq U.meaning version W w owed tasks.old desk.old
+        → told event ≡ Keep version (arc_value key.now) base
+        → task_at U.Key.eq tasks.old (arc_value key.now) ≡ Some h
+        → h.standing ≡ Works (Checks (arc_value value) T base) IsOut A
+        → map (λ a. a.values) A ≡ map (λ a. a.values) T
+        → Working U.Key.eq U.meaning version (arc_value key.now ∷ W) w owed tasks.new desk.new
+        × IsTrace U.Key.eq U.meaning (commits_of (reverse desk.old.events)) version
+        (arc_value key.now) A (arc_value value) }
 {
     laws_of::<U>();
     end_task(desk, tasks, version, key, Outcome::Value(value));
     desk.push(event);
 }
 
-/// Ends the task at work of a key as lost, and puts the key on the list of those whose askers are still to be told. It takes no
-/// memory.
+/// Ends the task at work of a key as lost, and puts the key on the list of those whose askers are
+/// still to be told. It takes no memory.
 fn end_lost<U: Universe>(desk: &mut Desk<U>, tasks: &mut Tasks<U>, version: u64, key: &KeyRef<U>)
     requires known { Knows U.Key.eq version tasks.old desk.old }
     requires live { is_live U.Key.eq tasks.old (arc_value key.now) ≡ true }
-    ensures ended { (h : Held U.Key U.Value) × ListsEnd U.Key.eq version (arc_value key.now) h WithNothing (Lost version (arc_value key.now)) tasks.old tasks.new desk.old desk.new }
+    ensures ended { (h : Held U.Key U.Value)
+        × ListsEnd U.Key.eq version (arc_value key.now) h WithNothing
+        (Lost version (arc_value key.now)) tasks.old tasks.new desk.old desk.new }
 {
     let Some(Spare { first, second }) = end_task(desk, tasks, version, key, Outcome::Lost) else {
         return;
@@ -144,8 +183,8 @@ fn end_lost<U: Universe>(desk: &mut Desk<U>, tasks: &mut Tasks<U>, version: u64,
     desk.push_ended(second);
 }
 
-/// Ends the task at work of a key with a cycle, and puts the key on the list of those whose askers are still to be told. It takes
-/// no memory.
+/// Ends the task at work of a key with a cycle, and puts the key on the list of those whose askers
+/// are still to be told. It takes no memory.
 fn end_cyclic<U: Universe>(
     desk: &mut Desk<U>,
     tasks: &mut Tasks<U>,
@@ -155,7 +194,9 @@ fn end_cyclic<U: Universe>(
 )
     requires known { Knows U.Key.eq version tasks.old desk.old }
     requires live { is_live U.Key.eq tasks.old (arc_value key.now) ≡ true }
-    ensures ended { (h : Held U.Key U.Value) × ListsEnd U.Key.eq version (arc_value key.now) h (WithCycle (arc_value path)) (Cyclic version (arc_value key.now)) tasks.old tasks.new desk.old desk.new }
+    ensures ended { (h : Held U.Key U.Value)
+        × ListsEnd U.Key.eq version (arc_value key.now) h (WithCycle (arc_value path))
+        (Cyclic version (arc_value key.now)) tasks.old tasks.new desk.old desk.new }
 {
     let Some(Spare { first, second }) = end_task(desk, tasks, version, key, Outcome::Cycle(path))
     else {
@@ -165,8 +206,8 @@ fn end_cyclic<U: Universe>(
     desk.push_ended(second);
 }
 
-/// Ends the task at work of a key as is said, and puts the key on the list of those whose askers are still to be told. It takes no
-/// memory.
+/// Ends the task at work of a key as is said, and puts the key on the list of those whose askers
+/// are still to be told. It takes no memory.
 fn end_one<U: Universe>(
     desk: &mut Desk<U>,
     tasks: &mut Tasks<U>,
@@ -177,7 +218,10 @@ fn end_one<U: Universe>(
     requires known { Knows U.Key.eq version tasks.old desk.old }
     requires live { is_live U.Key.eq tasks.old (arc_value key.now) ≡ true }
     requires owner { HasOwners 1 how.old }
-    ensures ended { (h : Held U.Key U.Value) × (o : Came U.Key U.Value) × (o ≡ ends_so (path_of how.old)) × ListsEnd U.Key.eq version (arc_value key.now) h o (told_end version (arc_value key.now) o) tasks.old tasks.new desk.old desk.new }
+    ensures ended { (h : Held U.Key U.Value) × (o : Came U.Key U.Value)
+        × (o ≡ ends_so (path_of how.old))
+        × ListsEnd U.Key.eq version (arc_value key.now) h o (told_end version (arc_value key.now) o)
+        tasks.old tasks.new desk.old desk.new }
     ensures given { AreGiven 1 how.old how.new }
 {
     match how {
@@ -186,7 +230,8 @@ fn end_one<U: Universe>(
     }
 }
 
-/// Ends a task that asks for the last key on the list, or takes this key off if no task does; `false` if the list is empty.
+/// Ends a task that asks for the last key on the list, or takes this key off if no task does;
+/// `false` if the list is empty.
 fn tell_one<U: Universe>(
     desk: &mut Desk<U>,
     tasks: &mut Tasks<U>,
@@ -194,9 +239,14 @@ fn tell_one<U: Universe>(
     how: &mut How<U::Key>,
 ) -> bool
     requires known { Knows U.Key.eq version tasks.old desk.old }
-    requires owner { (q j : U.Key) → Has desk.old.ended q → asks U.Key.eq tasks.old q (Tasked j) ≡ true → HasOwners 1 how.old }
-    ensures some { result ≡ true → (EndsAsker U.Key.eq version (path_of how.old) tasks.old tasks.new desk.old desk.new × AreGiven 1 how.old how.new) ⊎ (HasTold U.Key.eq tasks.old tasks.new desk.old desk.new × (how.new ≡ how.old)) }
-    ensures none { result ≡ false → (desk.old.ended ≡ []) × (desk.new ≡ desk.old) × (tasks.new ≡ tasks.old) }
+    requires owner { (q j : U.Key) → Has desk.old.ended q
+        → asks U.Key.eq tasks.old q (Tasked j) ≡ true → HasOwners 1 how.old }
+    ensures some { result ≡ true
+        → (EndsAsker U.Key.eq version (path_of how.old) tasks.old tasks.new desk.old desk.new
+        × AreGiven 1 how.old how.new)
+        ⊎ (HasTold U.Key.eq tasks.old tasks.new desk.old desk.new × (how.new ≡ how.old)) }
+    ensures none { result ≡ false
+        → (desk.old.ended ≡ []) × (desk.new ≡ desk.old) × (tasks.new ≡ tasks.old) }
 {
     laws_of::<U>();
     let Some(last) = desk.last_ended() else {
@@ -214,8 +264,9 @@ fn tell_one<U: Universe>(
     }
 }
 
-/// Ends the task at work of a key, each task that asks for it, each that asks for one of these, and so on: as lost, or with a
-/// cycle that the key reaches, of whose path there is an owner for each of them. It takes no memory.
+/// Ends the task at work of a key, each task that asks for it, each that asks for one of these, and
+/// so on: as lost, or with a cycle that the key reaches, of whose path there is an owner for each
+/// of them. It takes no memory.
 ///
 /// It costs the number of tasks that it ends and of the keys that they waited for.
 pub fn end_all<U: Universe>(
@@ -225,15 +276,22 @@ pub fn end_all<U: Universe>(
     key: &KeyRef<U>,
     how: How<U::Key>,
 )
-    requires working { (w : World U.Key U.Value) × (owed : ℕ) × Working U.Key.eq U.meaning version [] w owed tasks.old desk.old }
+    requires working { (w : World U.Key U.Value) × (owed : ℕ)
+        × Working U.Key.eq U.meaning version [] w owed tasks.old desk.old }
     requires live { is_live U.Key.eq tasks.old (arc_value key.now) ≡ true }
     requires ended { desk.old.ended ≡ [] }
     requires enough { IsEnough U.Key.eq tasks.old (arc_value key.now) how }
-    requires reached { ReachesPath U.Key.eq U.meaning (path_of how) (commits_of (reverse desk.old.events)) version (arc_value key.now) }
-    ensures ends { (es : List (U.Key × Came U.Key U.Value)) × EndsTasks U.Key.eq version (path_of how) (arc_value key.now) es tasks.old tasks.new desk.old desk.new × EndWithAskers U.Key.eq es tasks.old × Has es (arc_value key.now, ends_so (path_of how)) }
+    requires reached { ReachesPath U.Key.eq U.meaning (path_of how)
+        (commits_of (reverse desk.old.events)) version (arc_value key.now) }
+    ensures ends { (es : List (U.Key × Came U.Key U.Value))
+        × EndsTasks U.Key.eq version (path_of how) (arc_value key.now) es tasks.old tasks.new
+        desk.old desk.new × EndWithAskers U.Key.eq es tasks.old
+        × Has es (arc_value key.now, ends_so (path_of how)) }
     ensures ended { desk.new.ended ≡ [] }
     ensures tasked { AreTasked U.Key.eq tasks.old → AreTasked U.Key.eq tasks.new }
-    ensures kept { (w : World U.Key U.Value) (owed : ℕ) → Working U.Key.eq U.meaning version [] w owed tasks.old desk.old → Working U.Key.eq U.meaning version [] w owed tasks.new desk.new }
+    ensures kept { (w : World U.Key U.Value) (owed : ℕ)
+        → Working U.Key.eq U.meaning version [] w owed tasks.old desk.old
+        → Working U.Key.eq U.meaning version [] w owed tasks.new desk.new }
 {
     laws_of::<U>();
     let mut rest = how;

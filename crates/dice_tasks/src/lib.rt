@@ -1,4 +1,5 @@
-//! The tasks of one version of an engine: each is made, waits, goes on and ends; and the desk, where it is told and counted.
+//! The tasks of one version of an engine: each is made, waits, goes on and ends; and the desk,
+//! where it is told and counted.
 #![tactic(auto)]
 
 mod anew;

@@ -7,9 +7,10 @@ ghost use Rattle.dice_tasks.specs.Shelves.{IsLaid};
 use crate::shelf::Shelf;
 use dice_key::{Universe, laws_of};
 
-/// The line of the ready tasks. Those that came since a task was called stand last. As long as the last is of the version of the task
-/// that was called, it goes next. The others stand in line before them: as they came, the oldest last, or as a heap by version if
-/// more came to stand in line meanwhile.
+/// The line of the ready tasks. Those that came since a task was called stand last. As long as the
+/// last is of the version of the task that was called, it goes next. The others stand in line
+/// before them: as they came, the oldest last, or as a heap by version if more came to stand in
+/// line meanwhile.
 #[derive(Clone, Copy)]
 pub(crate) struct Line {
     /// The version of the task that was called last.
@@ -30,7 +31,8 @@ impl Line {
         }
     }
 
-    /// Whether the last of the ready tasks came after those in line, and is of the version of the task that was called last.
+    /// Whether the last of the ready tasks came after those in line, and is of the version of the
+    /// task that was called last.
     pub(crate) fn goes_on<U: Universe>(&self, shelf: &Shelf<U>, ready: usize) -> bool {
         if ready <= self.len {
             return false;
@@ -45,7 +47,8 @@ impl Line {
     pub(crate) fn call<U: Universe>(&mut self, shelf: &mut Shelf<U>, ready: usize)
         requires some { 0 < ready }
         requires laid { IsLaid ready shelf.old.keys }
-        ensures { IsReordered ready shelf.old.keys shelf.new.keys (spare shelf.old) (spare shelf.new) }
+        ensures { IsReordered ready shelf.old.keys shelf.new.keys (spare shelf.old)
+            (spare shelf.new) }
     {
         self.line_up::<U>(shelf, ready);
         self.bring_first::<U>(shelf, ready);
@@ -64,7 +67,8 @@ impl Line {
     /// Puts the tasks in line that came meanwhile.
     fn line_up<U: Universe>(&mut self, shelf: &mut Shelf<U>, ready: usize)
         requires { IsLaid ready shelf.old.keys }
-        ensures { IsReordered ready shelf.old.keys shelf.new.keys (spare shelf.old) (spare shelf.new) }
+        ensures { IsReordered ready shelf.old.keys shelf.new.keys (spare shelf.old)
+            (spare shelf.new) }
     {
         if self.len == 0 {
             turn_round::<U>(shelf, ready);
@@ -78,7 +82,8 @@ impl Line {
     fn bring_first<U: Universe>(&mut self, shelf: &mut Shelf<U>, ready: usize)
         requires some { 0 < ready }
         requires laid { IsLaid ready shelf.old.keys }
-        ensures { IsReordered ready shelf.old.keys shelf.new.keys (spare shelf.old) (spare shelf.new) }
+        ensures { IsReordered ready shelf.old.keys shelf.new.keys (spare shelf.old)
+            (spare shelf.new) }
     {
         if self.heap > 0 {
             exchange::<U>(shelf, ready, 0, ready - 1);
@@ -146,7 +151,8 @@ fn sink<U: Universe>(shelf: &mut Shelf<U>, ready: usize)
     }
 }
 
-/// The task of the two below one in a heap of this length that is to stand above it: the lower one, if it is lower than that.
+/// The task of the two below one in a heap of this length that is to stand above it: the lower one,
+/// if it is lower than that.
 fn lower_below<U: Universe>(shelf: &Shelf<U>, len: usize, at: usize) -> Option<usize>
     ensures { IfSome result (λ below. (at < below) × (below < len)) }
 {

@@ -70,9 +70,17 @@ pub fn make<U: Universe>(
 )
     requires own { IsOfKey version (arc_value key.now) making }
     requires room { CanMake U.Key.eq version (arc_value key.now) tasks.old desk.old making }
-    ensures made { IsMade U.Key.eq version (arc_value key.now) tasks.old desk.old graph.old making tasks.new desk.new graph.new }
-    ensures alone { MakesAlone U.Key.eq version (arc_value key.now) tasks.old desk.old graph.old tasks.new desk.new graph.new }
-    ensures kept { (w : World U.Key U.Value) (W : List U.Key) (owed born : ℕ) → Working U.Key.eq U.meaning version W w (owed + 3) tasks.old desk.old → EntriesStand U.Key.eq U.meaning (reverse desk.old.events) graph.old → MayMake U.Key.eq U.meaning (reverse desk.old.events) version (arc_value key.now) born → IsMaking U.Key.eq U.meaning version (arc_value key.now) born tasks.old graph.old making → Working U.Key.eq U.meaning version W w owed tasks.new desk.new × EntriesStand U.Key.eq U.meaning (reverse desk.new.events) graph.new }
+    ensures made { IsMade U.Key.eq version (arc_value key.now) tasks.old desk.old graph.old making
+        tasks.new desk.new graph.new }
+    ensures alone { MakesAlone U.Key.eq version (arc_value key.now) tasks.old desk.old graph.old
+        tasks.new desk.new graph.new }
+    ensures kept { (w : World U.Key U.Value) (W : List U.Key) (owed born : ℕ)
+        → Working U.Key.eq U.meaning version W w (owed + 3) tasks.old desk.old
+        → EntriesStand U.Key.eq U.meaning (reverse desk.old.events) graph.old
+        → MayMake U.Key.eq U.meaning (reverse desk.old.events) version (arc_value key.now) born
+        → IsMaking U.Key.eq U.meaning version (arc_value key.now) born tasks.old graph.old making
+        → Working U.Key.eq U.meaning version W w owed tasks.new desk.new
+        × EntriesStand U.Key.eq U.meaning (reverse desk.new.events) graph.new }
 {
     laws_of::<U>();
     match making {
@@ -105,9 +113,25 @@ fn make_match<U: Universe>(
     requires event { arc_value event ≡ arc_value key.now }
     ensures tasks { MakesEnded U.Key.eq (arc_value key.now) task tasks.old tasks.new }
     ensures desk { desk.new ≡ with_event desk.old (Keep version (arc_value key.now) base) }
-    ensures entries { (q : U.Key) → entry_at U.Key.eq graph.new q ≡ cond (U.Key.eq (arc_value key.now) q) (option_map (seen_at version) (entry_at U.Key.eq graph.old (arc_value key.now))) (entry_at U.Key.eq graph.old q) }
-    ensures edges { (j : U.Key) (q : U.Key) → is_edge U.Key.eq graph.new j q ≡ is_edge U.Key.eq graph.old j q }
-    ensures stands { (x : U.Value) (w : World U.Key U.Value) (W : List U.Key) (owed born : ℕ) → Working U.Key.eq U.meaning version W w (owed + 1) tasks.old desk.old → EntriesStand U.Key.eq U.meaning (reverse desk.old.events) graph.old → MayMake U.Key.eq U.meaning (reverse desk.old.events) version (arc_value key.now) born → IsFree (task_at U.Key.eq tasks.old (arc_value key.now)) → IsMatched U.Key.eq U.meaning (reverse desk.old.events) graph.old version (arc_value key.now) x base → task ≡ held_ended (record { version = version; key = arc_value key.now; born = born }) (WithValue x) → Working U.Key.eq U.meaning version W w owed tasks.new desk.new × EntriesStand U.Key.eq U.meaning (reverse desk.new.events) graph.new }
+    ensures entries { (q : U.Key)
+        → entry_at U.Key.eq graph.new q
+        ≡ cond (U.Key.eq (arc_value key.now) q)
+        (option_map (seen_at version) (entry_at U.Key.eq graph.old (arc_value key.now)))
+        (entry_at U.Key.eq graph.old q) }
+    ensures edges { (j : U.Key) (q : U.Key)
+        → is_edge U.Key.eq graph.new j q ≡ is_edge U.Key.eq graph.old j q }
+    ensures stands { (x : U.Value) (w : World U.Key U.Value) (W : List U.Key) (owed born : ℕ)
+        → Working U.Key.eq U.meaning version W w (owed + 1) tasks.old desk.old
+        → EntriesStand U.Key.eq U.meaning (reverse desk.old.events) graph.old
+        → MayMake U.Key.eq U.meaning (reverse desk.old.events) version (arc_value key.now) born
+        → IsFree (task_at U.Key.eq tasks.old (arc_value key.now))
+        → IsMatched U.Key.eq U.meaning (reverse desk.old.events) graph.old version
+        (arc_value key.now) x base
+        → task
+        ≡ held_ended (record { version = version; key = arc_value key.now; born = born })
+        (WithValue x)
+        → Working U.Key.eq U.meaning version W w owed tasks.new desk.new
+        × EntriesStand U.Key.eq U.meaning (reverse desk.new.events) graph.new }
 {
     laws_of::<U>();
     desk.push(Event::Keep(version, event, base));
@@ -131,8 +155,17 @@ fn make_run<U: Universe>(
     requires event { arc_value event ≡ arc_value key.now }
     requires ready { place_of ready ≡ (version, arc_value key.now) }
     ensures tasks { Makes U.Key.eq (arc_value key.now) task tasks.old tasks.new }
-    ensures desk { Readies (version, arc_value key.now) (with_made (with_event desk.old (Start version (arc_value key.now) (reason_of cause)))) desk.new }
-    ensures kept { (w : World U.Key U.Value) (W : List U.Key) (owed born : ℕ) → Working U.Key.eq U.meaning version W w (owed + 3) tasks.old desk.old → MayMake U.Key.eq U.meaning (reverse desk.old.events) version (arc_value key.now) born → IsFree (task_at U.Key.eq tasks.old (arc_value key.now)) → IsTrueCause U.Key.eq U.meaning (reverse desk.old.events) version (arc_value key.now) (reason_of cause) → task ≡ held_run (record { version = version; key = arc_value key.now; born = born }) → Working U.Key.eq U.meaning version W w owed tasks.new desk.new }
+    ensures desk { Readies (version, arc_value key.now)
+        (with_made (with_event desk.old (Start version (arc_value key.now) (reason_of cause))))
+        desk.new }
+    ensures kept { (w : World U.Key U.Value) (W : List U.Key) (owed born : ℕ)
+        → Working U.Key.eq U.meaning version W w (owed + 3) tasks.old desk.old
+        → MayMake U.Key.eq U.meaning (reverse desk.old.events) version (arc_value key.now) born
+        → IsFree (task_at U.Key.eq tasks.old (arc_value key.now))
+        → IsTrueCause U.Key.eq U.meaning (reverse desk.old.events) version (arc_value key.now)
+        (reason_of cause)
+        → task ≡ held_run (record { version = version; key = arc_value key.now; born = born })
+        → Working U.Key.eq U.meaning version W w owed tasks.new desk.new }
 {
     laws_of::<U>();
     desk.push(Event::Start(version, event, cause));
@@ -154,7 +187,15 @@ fn make_check<U: Universe>(
     requires ready { place_of ready ≡ (version, arc_value key.now) }
     ensures tasks { Makes U.Key.eq (arc_value key.now) task tasks.old tasks.new }
     ensures desk { Readies (version, arc_value key.now) (with_made desk.old) desk.new }
-    ensures kept { (x : U.Value) (T : List (Answered U.Key U.Value)) (b : ℕ) (w : World U.Key U.Value) (W : List U.Key) (owed born : ℕ) → Working U.Key.eq U.meaning version W w (owed + 2) tasks.old desk.old → MayMake U.Key.eq U.meaning (reverse desk.old.events) version (arc_value key.now) born → IsFree (task_at U.Key.eq tasks.old (arc_value key.now)) → WasSeen U.Key.eq U.meaning (reverse desk.old.events) (arc_value key.now) x T b → task ≡ held_check (record { version = version; key = arc_value key.now; born = born }) x T b → Working U.Key.eq U.meaning version W w owed tasks.new desk.new }
+    ensures kept { (x : U.Value) (T : List (Answered U.Key U.Value)) (b : ℕ)
+        (w : World U.Key U.Value) (W : List U.Key) (owed born : ℕ)
+        → Working U.Key.eq U.meaning version W w (owed + 2) tasks.old desk.old
+        → MayMake U.Key.eq U.meaning (reverse desk.old.events) version (arc_value key.now) born
+        → IsFree (task_at U.Key.eq tasks.old (arc_value key.now))
+        → WasSeen U.Key.eq U.meaning (reverse desk.old.events) (arc_value key.now) x T b
+        → task
+        ≡ held_check (record { version = version; key = arc_value key.now; born = born }) x T b
+        → Working U.Key.eq U.meaning version W w owed tasks.new desk.new }
 {
     laws_of::<U>();
     desk.made();
@@ -164,7 +205,8 @@ fn make_check<U: Universe>(
 
 /// Whether the key has a task that was not given up.
 fn has_task<U: Universe>(tasks: &Tasks<U>, key: &KeyRef<U>) -> bool
-    ensures { MatchBool result (HasTask (task_at U.Key.eq tasks.now (arc_value key.now))) (IsFree (task_at U.Key.eq tasks.now (arc_value key.now))) }
+    ensures { MatchBool result (HasTask (task_at U.Key.eq tasks.now (arc_value key.now)))
+        (IsFree (task_at U.Key.eq tasks.now (arc_value key.now))) }
 {
     match tasks.task(key) {
         Some(task) => !task.is_lost(),
@@ -174,7 +216,8 @@ fn has_task<U: Universe>(tasks: &Tasks<U>, key: &KeyRef<U>) -> bool
 
 /// The name of a task that is made now.
 fn name_of<U: Universe>(version: u64, key: &KeyRef<U>, born: u64) -> Result<JobName<U>, NoMemory>
-    ensures { IfOk result (λ n. n ≡ record { version = version; key = arc_value key.now; born = born }) }
+    ensures { IfOk result
+        (λ n. n ≡ record { version = version; key = arc_value key.now; born = born }) }
 {
     Ok(JobName::new(version, Arc::try_clone(key)?, born))
 }
@@ -205,7 +248,8 @@ fn prepare_match<U: Universe>(
     value: &ValueRef<U>,
     base: u64,
 ) -> Result<Making<U>, NoMemory>
-    ensures making { IfOk result (IsMakingFor version (arc_value key.now) born (Matches (arc_value value.now) base)) }
+    ensures making { IfOk result
+        (IsMakingFor version (arc_value key.now) born (Matches (arc_value value.now) base)) }
     ensures own { IfOk result (IsOfKey version (arc_value key.now)) }
 {
     let name = name_of::<U>(version, key, born)?;
@@ -249,7 +293,8 @@ fn prepare_check<U: Universe>(
     born: u64,
     earlier: Earlier<U>,
 ) -> Result<Making<U>, NoMemory>
-    ensures making { IfOk result (IsMakingFor version (arc_value key.now) born (Checks (arc_value earlier.value) (arc_value earlier.trace) earlier.base)) }
+    ensures making { IfOk result (IsMakingFor version (arc_value key.now) born
+        (Checks (arc_value earlier.value) (arc_value earlier.trace) earlier.base)) }
     ensures own { IfOk result (IsOfKey version (arc_value key.now)) }
 {
     let name = name_of::<U>(version, key, born)?;
@@ -259,8 +304,9 @@ fn prepare_check<U: Universe>(
     Ok(Making::Check { ready, task })
 }
 
-/// What is to be made of a key, which is not injected, at a version, when the journal has `born` events: nothing if it has
-/// a task that was not given up, otherwise what a look-up says. It takes the memory for it, and changes nothing.
+/// What is to be made of a key, which is not injected, at a version, when the journal has `born`
+/// events: nothing if it has a task that was not given up, otherwise what a look-up says. It takes
+/// the memory for it, and changes nothing.
 pub fn prepare<U: Universe>(
     alloc: Global,
     graph: &Graph<U>,
@@ -270,7 +316,8 @@ pub fn prepare<U: Universe>(
     born: u64,
 ) -> Result<Making<U>, NoMemory>
     requires { U.meaning.kind (arc_value key.now) ≢ Injected }
-    ensures making { IfOk result (IsMaking U.Key.eq U.meaning version (arc_value key.now) born tasks.now graph.now) }
+    ensures making { IfOk result
+        (IsMaking U.Key.eq U.meaning version (arc_value key.now) born tasks.now graph.now) }
     ensures own { IfOk result (IsOfKey version (arc_value key.now)) }
 {
     if has_task::<U>(tasks, key) {

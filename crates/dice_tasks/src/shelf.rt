@@ -25,16 +25,24 @@ pub struct ReadyTask<K> {
 impl<K: Eq + Hash> Equivalent<ReadyTask<K>> for (u64, &Arc<K>) {
     ghost equivalent = { λ q x. nat_eq q.0 x.version && K.eq (arc_value q.1.now) (arc_value x.key) };
 
-    ghost respects_hash = { λ q x h i. fed.u64 ((unsigned_Decides q.0 x.version).0 (first_so (nat_eq q.0 x.version) (K.eq (arc_value q.1.now) (arc_value x.key)) h) i) ++ K.respects_eq (arc_value q.1.now) (arc_value x.key) (second_so (nat_eq q.0 x.version) (K.eq (arc_value q.1.now) (arc_value x.key)) h) i };
+    ghost respects_hash = { λ q x h i. fed.u64 ((unsigned_Decides q.0 x.version).0
+        (first_so (nat_eq q.0 x.version) (K.eq (arc_value q.1.now) (arc_value x.key)) h) i)
+        ++ K.respects_eq (arc_value q.1.now) (arc_value x.key)
+        (second_so (nat_eq q.0 x.version) (K.eq (arc_value q.1.now) (arc_value x.key)) h) i };
 
-    ghost respects_eq = { λ q x y h i. nat_eq ((unsigned_Decides q.0 x.version).0 (first_so (nat_eq q.0 x.version) (K.eq (arc_value q.1.now) (arc_value x.key)) h) i) y.version && K.Eq.laws.congr (arc_value q.1.now) (arc_value x.key) (arc_value y.key) (second_so (nat_eq q.0 x.version) (K.eq (arc_value q.1.now) (arc_value x.key)) h) i };
+    ghost respects_eq = { λ q x y h i. nat_eq ((unsigned_Decides q.0 x.version).0
+        (first_so (nat_eq q.0 x.version) (K.eq (arc_value q.1.now) (arc_value x.key)) h) i)
+        y.version
+        && K.Eq.laws.congr (arc_value q.1.now) (arc_value x.key) (arc_value y.key)
+        (second_so (nat_eq q.0 x.version) (K.eq (arc_value q.1.now) (arc_value x.key)) h) i };
 
     fn equivalent(&self, task: &ReadyTask<K>) -> bool {
         self.0 == task.version && *self.1 == task.key
     }
 }
 
-/// The tasks that are ready or out. The first of them, as many as a number beside it says, are ready.
+/// The tasks that are ready or out. The first of them, as many as a number beside it says, are
+/// ready.
 pub(crate) type Shelf<U> = IndexSet<ReadyTask<<U as Universe>::Key>>;
 
 /// The index of a task.
@@ -43,8 +51,10 @@ pub(crate) fn index_of<U: Universe>(
     version: u64,
     key: &KeyRef<U>,
 ) -> Option<usize>
-    ensures some { IfSome result (λ i. (x : Ready U.Key) × (slice_get shelf.now.keys i ≡ Some x) × (place_of x ≡ (version, arc_value key.now))) }
-    ensures none { IfNone result (Has (map place_of shelf.now.keys) (version, arc_value key.now) → ⊥) }
+    ensures some { IfSome result (λ i. (x : Ready U.Key) × (slice_get shelf.now.keys i ≡ Some x)
+        × (place_of x ≡ (version, arc_value key.now))) }
+    ensures none { IfNone result
+        (Has (map place_of shelf.now.keys) (version, arc_value key.now) → ⊥) }
 {
     laws_of::<U>();
     shelf.get_index_of((version, key))
@@ -60,8 +70,10 @@ pub(crate) fn put_back<U: Universe>(
     requires bound { ready ≤ length shelf.old.keys }
     requires distinct { AreDistinct (map place_of shelf.old.keys) }
     requires out { Has (out_of ready shelf.old.keys) (version, arc_value key.now) }
-    ensures ready { ready_of (ready + 1) shelf.new.keys ≡ ready_of ready shelf.old.keys ++ (version, arc_value key.now) ∷ [] }
-    ensures out { Loses (version, arc_value key.now) (out_of ready shelf.old.keys) (out_of (ready + 1) shelf.new.keys) }
+    ensures ready { ready_of (ready + 1) shelf.new.keys
+        ≡ ready_of ready shelf.old.keys ++ (version, arc_value key.now) ∷ [] }
+    ensures out { Loses (version, arc_value key.now) (out_of ready shelf.old.keys)
+        (out_of (ready + 1) shelf.new.keys) }
     ensures more { ready < length shelf.old.keys }
     ensures len { length shelf.new.keys ≡ length shelf.old.keys }
     ensures distinct { AreDistinct (map place_of shelf.new.keys) }
@@ -84,7 +96,8 @@ pub(crate) fn take_away<U: Universe>(
     requires distinct { AreDistinct (map place_of shelf.old.keys) }
     requires out { Has (out_of ready shelf.old.keys) (version, arc_value key.now) }
     ensures ready { ready_of ready shelf.new.keys ≡ ready_of ready shelf.old.keys }
-    ensures out { Loses (version, arc_value key.now) (out_of ready shelf.old.keys) (out_of ready shelf.new.keys) }
+    ensures out { Loses (version, arc_value key.now) (out_of ready shelf.old.keys)
+        (out_of ready shelf.new.keys) }
     ensures more { ready < length shelf.old.keys }
     ensures len { length shelf.new.keys + 1 ≡ length shelf.old.keys }
     ensures distinct { AreDistinct (map place_of shelf.new.keys) }
@@ -102,7 +115,8 @@ pub(crate) fn put_in<U: Universe>(shelf: &mut Shelf<U>, ready: usize, task: Read
     requires distinct { AreDistinct (map place_of shelf.old.keys) }
     requires new { Has (map place_of shelf.old.keys) (place_of task) → ⊥ }
     requires room { 0 < spare shelf.old }
-    ensures ready { ready_of (ready + 1) shelf.new.keys ≡ ready_of ready shelf.old.keys ++ place_of task ∷ [] }
+    ensures ready { ready_of (ready + 1) shelf.new.keys
+        ≡ ready_of ready shelf.old.keys ++ place_of task ∷ [] }
     ensures out { Stays (out_of ready shelf.old.keys) (out_of (ready + 1) shelf.new.keys) }
     ensures len { length shelf.new.keys ≡ length shelf.old.keys + 1 }
     ensures small { length shelf.new.keys < 2 ^ 64 }
@@ -125,7 +139,8 @@ pub(crate) fn take_out<U: Universe>(
     requires bound { ready < length shelf.old.keys }
     requires distinct { AreDistinct (map place_of shelf.old.keys) }
     requires ready { Has (ready_of (ready + 1) shelf.old.keys) (version, arc_value key.now) }
-    ensures ready { Loses (version, arc_value key.now) (ready_of (ready + 1) shelf.old.keys) (ready_of ready shelf.new.keys) }
+    ensures ready { Loses (version, arc_value key.now) (ready_of (ready + 1) shelf.old.keys)
+        (ready_of ready shelf.new.keys) }
     ensures out { Stays (out_of (ready + 1) shelf.old.keys) (out_of ready shelf.new.keys) }
     ensures len { length shelf.new.keys + 1 ≡ length shelf.old.keys }
     ensures distinct { AreDistinct (map place_of shelf.new.keys) }

@@ -41,7 +41,8 @@ pub(crate) struct Spare<U: Universe> {
     pub(crate) second: KeyRef<U>,
 }
 
-/// What a waiting task goes on with when its batch is answered, made ahead: what its job is for then, twice, and the answers.
+/// What a waiting task goes on with when its batch is answered, made ahead: what its job is for
+/// then, twice, and the answers.
 pub struct Next<U: Universe> {
     own: Assignment<U>,
     job: Assignment<U>,
@@ -74,7 +75,9 @@ impl<U: Universe> Next<U> {
     /// What a parked job goes on with when its batch has these answers, a value for each key.
     pub(crate) fn of(parked: &Parked<U>, answers: Answers<U::Value>) -> Result<Next<U>, NoMemory>
         requires { length answers ≡ length parked.now.keys }
-        ensures { IfOk result (λ n. n ≡ record { job = answered_more parked.now.job parked.now.keys answers; values = answers }) }
+        ensures { IfOk result (λ n. n
+            ≡ record
+            { job = answered_more parked.now.job parked.now.keys answers; values = answers }) }
     {
         let job = parked.answered(&answers)?;
         let own = job.try_clone()?;
@@ -88,7 +91,8 @@ impl<U: Universe> Next<U> {
         answers: Answers<U::Value>,
     ) -> Result<Next<U>, NoMemory>
         requires { length answers ≡ length batch.now }
-        ensures { IfOk result (λ n. n ≡ record { job = answered_more assignment.now batch.now answers; values = answers }) }
+        ensures { IfOk result (λ n. n
+            ≡ record { job = answered_more assignment.now batch.now answers; values = answers }) }
     {
         let job = assignment.extended(batch, &answers)?;
         let own = job.try_clone()?;
@@ -137,7 +141,8 @@ impl<U: Universe> Drop for Task<U> {
     }
 }
 
-/// Puts a value in place of another, which is dropped: by one call, and not by what an assignment writes out at each place.
+/// Puts a value in place of another, which is dropped: by one call, and not by what an assignment
+/// writes out at each place.
 fn put<T: Drop>(place: &mut T, value: T)
     ensures { place.new ≡ value }
 {
@@ -151,9 +156,13 @@ impl<U: Universe> Model for Task<U> {
 
     ghost use Rattle.dice_tasks.specs.Loads.{standing_of, IsLoaded, IsSupplied};
 
-    ghost view = { λ t. record { name = t.parts.value.name; standing = standing_of t.parts.value.load t.parts.value.state } };
+    ghost view = { λ t. record {
+      name = t.parts.value.name;
+      standing = standing_of t.parts.value.load t.parts.value.state;
+    } };
 
-    ghost invariant = { λ t. IsLoaded t.parts.value.name t.parts.value.load t.parts.value.state × IsSupplied t.parts.value.name.key t.parts.value.load t.parts.value.spare };
+    ghost invariant = { λ t. IsLoaded t.parts.value.name t.parts.value.load t.parts.value.state
+        × IsSupplied t.parts.value.name.key t.parts.value.load t.parts.value.spare };
 }
 
 impl<U: Universe> Task<U> {
@@ -161,7 +170,8 @@ impl<U: Universe> Task<U> {
     pub(crate) fn run(alloc: Global, name: JobName<U>, spare: Spare<U>) -> Result<Task<U>, NoMemory>
         requires kind { U.meaning.kind name.key ≢ Injected }
         requires spare { AreCopies name.key spare }
-        ensures { IfOk result (λ t. t ≡ held_of (record { name = name; answered = []; work = Computes }) IsReady) }
+        ensures { IfOk result
+            (λ t. t ≡ held_of (record { name = name; answered = []; work = Computes }) IsReady) }
     {
         let job = Job::begin(alloc, name.try_clone()?);
         let own = job.assignment().try_clone()?;
@@ -185,7 +195,9 @@ impl<U: Universe> Task<U> {
         earlier: Earlier<U>,
     ) -> Result<Task<U>, NoMemory>
         requires { AreCopies name.key spare }
-        ensures { IfOk result (λ t. t ≡ held_of (record { name = name; answered = []; work = work_of (Some earlier) }) IsReady) }
+        ensures { IfOk result (λ t. t
+            ≡ held_of (record { name = name; answered = []; work = work_of (Some earlier) })
+            IsReady) }
     {
         let job = Job::check(alloc, name.try_clone()?, earlier)?;
         let own = job.assignment().try_clone()?;
@@ -223,8 +235,10 @@ impl<U: Universe> Task<U> {
 
     /// Takes the job of a ready task: it goes out. `None` if the task is not ready.
     pub(crate) fn take(&mut self) -> Option<Job<U>>
-        ensures some { IfSome result (λ j. (self.old ≡ held_of j IsReady) × (self.new ≡ held_of j IsOut)) }
-        ensures none { IfNone result ((self.new ≡ self.old) × (ready_in self.old.standing ≡ false)) }
+        ensures some { IfSome result
+            (λ j. (self.old ≡ held_of j IsReady) × (self.new ≡ held_of j IsOut)) }
+        ensures none { IfNone result
+            ((self.new ≡ self.old) × (ready_in self.old.standing ≡ false)) }
     {
         let parts = &mut *self.parts;
         match mem::replace(&mut parts.load, Load::Nothing) {
@@ -250,10 +264,13 @@ impl<U: Universe> Task<U> {
         }
     }
 
-    /// Takes back the job that is out, undone: the task is ready again. Another job is handed back. It takes no memory.
+    /// Takes back the job that is out, undone: the task is ready again. Another job is handed back.
+    /// It takes no memory.
     pub(crate) fn back(&mut self, job: Job<U>) -> Option<Job<U>>
-        ensures some { IfSome result (λ j. (j ≡ job) × (self.new ≡ self.old) × (self.old ≡ held_of job IsOut → ⊥)) }
-        ensures none { IfNone result ((self.old ≡ held_of job IsOut) × (self.new ≡ held_of job IsReady)) }
+        ensures some { IfSome result
+            (λ j. (j ≡ job) × (self.new ≡ self.old) × (self.old ≡ held_of job IsOut → ⊥)) }
+        ensures none { IfNone result
+            ((self.old ≡ held_of job IsOut) × (self.new ≡ held_of job IsReady)) }
     {
         if !self.is_away(job.assignment()) {
             return Some(job);
@@ -281,7 +298,9 @@ impl<U: Universe> Task<U> {
 
     /// Whether the job that is out is like the step's: of its name and work, and equally far.
     pub fn is_like(&self, step: &Step<U>) -> bool
-        ensures { IsTrue result ↔ ((j : Assigned U.Key U.Value) × (self.now ≡ held_of j IsOut) × AreAlike step.now.job j) }
+        ensures { IsTrue result
+            ↔ ((j : Assigned U.Key U.Value) × (self.now ≡ held_of j IsOut)
+            × AreAlike step.now.job j) }
     {
         match &self.parts.load {
             Load::Away(own) => step.is_like(own),
@@ -299,10 +318,11 @@ impl<U: Universe> Task<U> {
         put(&mut parts.load, Load::Parked(parked));
     }
 
-    /// What a waiting task goes on with when its batch has these answers, a value for each key. It costs the number of keys and
-    /// values, over all batches.
+    /// What a waiting task goes on with when its batch has these answers, a value for each key. It
+    /// costs the number of keys and values, over all batches.
     pub fn next(&self, answers: Answers<U::Value>) -> Result<Next<U>, NoMemory>
-        requires { (w : Waits U.Key U.Value) × (self.now ≡ held_of w.job (IsWaiting w.keys)) × (length answers ≡ length w.keys) }
+        requires { (w : Waits U.Key U.Value) × (self.now ≡ held_of w.job (IsWaiting w.keys))
+            × (length answers ≡ length w.keys) }
         ensures { IfOk result (λ n. FollowsOn self.now n × (n.values ≡ answers)) }
     {
         match &self.parts.load {
@@ -327,7 +347,8 @@ impl<U: Universe> Task<U> {
         }
     }
 
-    /// The job that was out asked a batch that is answered already: the task is ready again. It takes no memory.
+    /// The job that was out asked a batch that is answered already: the task is ready again. It
+    /// takes no memory.
     pub(crate) fn go_on(&mut self, parked: Parked<U>, next: Next<U>)
         requires out { self.old ≡ held_of parked.job IsOut }
         requires count { length next.values ≡ length parked.keys }
@@ -340,10 +361,11 @@ impl<U: Universe> Task<U> {
         put(&mut parts.load, Load::Job(job, own));
     }
 
-    /// The check that was out found a difference: the key's value is computed, from the answers that the check has. It takes no
-    /// memory.
+    /// The check that was out found a difference: the key's value is computed, from the answers
+    /// that the check has. It takes no memory.
     pub(crate) fn begin_anew(&mut self, job: Job<U>, own: Assignment<U>)
-        requires check { (x : U.Value) × (T : List (Answered U.Key U.Value)) × (b : ℕ) × (self.old ≡ held_of (checking job x T b) IsOut) }
+        requires check { (x : U.Value) × (T : List (Answered U.Key U.Value)) × (b : ℕ)
+            × (self.old ≡ held_of (checking job x T b) IsOut) }
         requires own { own ≡ job }
         requires job { job.work ≡ Computes }
         ensures { self.new ≡ held_of job IsReady }

@@ -21,10 +21,14 @@ use journal::Cause;
 use std::sync::Arc;
 use versioned_graph::{Found, Graph, Why};
 
-/// What is known of a key at a version. It takes no memory, and costs one look-up and one binary search.
+/// What is known of a key at a version. It takes no memory, and costs one look-up and one binary
+/// search.
 pub fn looked<'a, U: Universe>(graph: &'a Graph<U>, key: &KeyRef<U>, version: u64) -> Found<'a, U>
-    ensures exact { look_of result ≡ look U.meaning.is_transient (entry_at U.Key.eq graph.now (arc_value key.now)) version }
-    ensures says { (R : List (Told U.Key U.Value)) → EntriesStand U.Key.eq U.meaning R graph.now → version ≤ length (commits_of R) → LookStands U.Key.eq U.meaning R graph.now version (arc_value key.now) (look_of result) }
+    ensures exact { look_of result
+        ≡ look U.meaning.is_transient (entry_at U.Key.eq graph.now (arc_value key.now)) version }
+    ensures says { (R : List (Told U.Key U.Value)) → EntriesStand U.Key.eq U.meaning R graph.now
+        → version ≤ length (commits_of R)
+        → LookStands U.Key.eq U.meaning R graph.now version (arc_value key.now) (look_of result) }
 {
     graph.lookup(key, version)
 }
@@ -41,16 +45,24 @@ pub(crate) fn cause_of<K: Drop>(why: Why) -> Cause<K>
 
 /// After a match notes that the key's value was seen at the version. It takes no memory.
 pub(crate) fn seen<U: Universe>(graph: &mut Graph<U>, key: &KeyRef<U>, version: u64)
-    ensures entries { (q : U.Key) → entry_at U.Key.eq graph.new q ≡ (if U.Key.eq (arc_value key.now) q then option_map (seen_at version) (entry_at U.Key.eq graph.old (arc_value key.now)) else entry_at U.Key.eq graph.old q) }
-    ensures edges { (j : U.Key) (q : U.Key) → is_edge U.Key.eq graph.new j q ≡ is_edge U.Key.eq graph.old j q }
-    ensures kept { (R : List (Told U.Key U.Value)) (x : U.Value) (base : ℕ) → EntriesStand U.Key.eq U.meaning R graph.old → version ≤ length (commits_of R) → IsMatched U.Key.eq U.meaning R graph.old version (arc_value key.now) x base → EntriesStand U.Key.eq U.meaning (Keep version (arc_value key.now) base ∷ R) graph.new }
+    ensures entries { (q : U.Key)
+        → entry_at U.Key.eq graph.new q
+        ≡ (if U.Key.eq (arc_value key.now) q
+        then option_map (seen_at version) (entry_at U.Key.eq graph.old (arc_value key.now))
+        else entry_at U.Key.eq graph.old q) }
+    ensures edges { (j : U.Key) (q : U.Key)
+        → is_edge U.Key.eq graph.new j q ≡ is_edge U.Key.eq graph.old j q }
+    ensures kept { (R : List (Told U.Key U.Value)) (x : U.Value) (base : ℕ)
+        → EntriesStand U.Key.eq U.meaning R graph.old → version ≤ length (commits_of R)
+        → IsMatched U.Key.eq U.meaning R graph.old version (arc_value key.now) x base
+        → EntriesStand U.Key.eq U.meaning (Keep version (arc_value key.now) base ∷ R) graph.new }
 {
     laws_of::<U>();
     graph.seen(key, version);
 }
 
-/// Keeps the value that a key was decided by at a version, with the trace through which it came there. At an error all is as
-/// before. It costs what `Graph::finish` does.
+/// Keeps the value that a key was decided by at a version, with the trace through which it came
+/// there. At an error all is as before. It costs what `Graph::finish` does.
 pub fn finish<U: Universe>(
     graph: &mut Graph<U>,
     cells: &Cells<U>,
@@ -60,10 +72,29 @@ pub fn finish<U: Universe>(
     trace: Arc<Trace<U>>,
 ) -> Result<(), NoMemory>
     requires version { version < u64.MAX }
-    ensures entries { OnOk result ((q : U.Key) → entry_at U.Key.eq graph.new q ≡ (if U.Key.eq (arc_value key) q then Some (written U.meaning U.Value.eq (entry_at U.Key.eq graph.old (arc_value key)) (finished U.meaning U.Value.eq (cell_at U.Key.eq U.meaning cells.now) (entry_at U.Key.eq graph.old) version (arc_value value) (arc_value trace))) else entry_at U.Key.eq graph.old q)) }
-    ensures edges { OnOk result (Records U.Key.eq U.meaning U.Value.eq (arc_value key) (finished U.meaning U.Value.eq (cell_at U.Key.eq U.meaning cells.now) (entry_at U.Key.eq graph.old) version (arc_value value) (arc_value trace)) graph.old graph.new) }
-    ensures ended { OnOk result ((R : List (Told U.Key U.Value)) → EntriesStand U.Key.eq U.meaning R graph.old → AreOf U.Key.eq (commits_of R) cells.now → version ≤ length (commits_of R) → IsTrace U.Key.eq U.meaning (commits_of R) version (arc_value key) (arc_value trace) (arc_value value) → EntriesStand U.Key.eq U.meaning (End version (arc_value key) ∷ R) graph.new) }
-    ensures kept { OnOk result ((R : List (Told U.Key U.Value)) (base : ℕ) → EntriesStand U.Key.eq U.meaning R graph.old → AreOf U.Key.eq (commits_of R) cells.now → version ≤ length (commits_of R) → IsTrace U.Key.eq U.meaning (commits_of R) version (arc_value key) (arc_value trace) (arc_value value) → EntriesStand U.Key.eq U.meaning (Keep version (arc_value key) base ∷ R) graph.new) }
+    ensures entries { OnOk result ((q : U.Key)
+        → entry_at U.Key.eq graph.new q
+        ≡ (if U.Key.eq (arc_value key) q
+        then Some (written U.meaning U.Value.eq (entry_at U.Key.eq graph.old (arc_value key))
+        (finished U.meaning U.Value.eq (cell_at U.Key.eq U.meaning cells.now)
+        (entry_at U.Key.eq graph.old) version (arc_value value) (arc_value trace)))
+        else entry_at U.Key.eq graph.old q)) }
+    ensures edges { OnOk result (Records U.Key.eq U.meaning U.Value.eq (arc_value key)
+        (finished U.meaning U.Value.eq (cell_at U.Key.eq U.meaning cells.now)
+        (entry_at U.Key.eq graph.old) version (arc_value value) (arc_value trace)) graph.old
+        graph.new) }
+    ensures ended { OnOk result ((R : List (Told U.Key U.Value))
+        → EntriesStand U.Key.eq U.meaning R graph.old → AreOf U.Key.eq (commits_of R) cells.now
+        → version ≤ length (commits_of R)
+        → IsTrace U.Key.eq U.meaning (commits_of R) version (arc_value key) (arc_value trace)
+        (arc_value value)
+        → EntriesStand U.Key.eq U.meaning (End version (arc_value key) ∷ R) graph.new) }
+    ensures kept { OnOk result ((R : List (Told U.Key U.Value)) (base : ℕ)
+        → EntriesStand U.Key.eq U.meaning R graph.old → AreOf U.Key.eq (commits_of R) cells.now
+        → version ≤ length (commits_of R)
+        → IsTrace U.Key.eq U.meaning (commits_of R) version (arc_value key) (arc_value trace)
+        (arc_value value)
+        → EntriesStand U.Key.eq U.meaning (Keep version (arc_value key) base ∷ R) graph.new) }
     ensures err { OnErr result (graph.new ≡ graph.old) }
 {
     laws_of::<U>();

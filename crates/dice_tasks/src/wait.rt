@@ -23,11 +23,17 @@ use dice_jobs::{Job, Parked};
 use dice_key::{KeyRef, Universe, laws_of};
 use task_share::Wait;
 
-/// Takes the job of the ready task that is to be taken next, among the tasks of its version: it goes out. It takes no memory.
+/// Takes the job of the ready task that is to be taken next, among the tasks of its version: it
+/// goes out. It takes no memory.
 pub fn take<U: Universe>(desk: &mut Desk<U>, tasks: &mut Tasks<U>) -> Option<Job<U>>
-    requires { (v : ℕ) × (k : U.Key) × (ps : List (ℕ × U.Key)) × (w : World U.Key U.Value) × (owed : ℕ) × (desk.old.ready ≡ ps ++ (v, k) ∷ []) × Working U.Key.eq U.meaning v [] w owed tasks.old desk.old }
-    ensures taken { IfSome result (λ j. TakesJob U.Key.eq j.name.version j.name.key j tasks.old tasks.new desk.old desk.new) }
-    ensures kept { IfSome result (λ j. (w : World U.Key U.Value) (W : List U.Key) (owed : ℕ) → Working U.Key.eq U.meaning j.name.version W w owed tasks.old desk.old → Working U.Key.eq U.meaning j.name.version W w owed tasks.new desk.new) }
+    requires { (v : ℕ) × (k : U.Key) × (ps : List (ℕ × U.Key)) × (w : World U.Key U.Value)
+        × (owed : ℕ) × (desk.old.ready ≡ ps ++ (v, k) ∷ [])
+        × Working U.Key.eq U.meaning v [] w owed tasks.old desk.old }
+    ensures taken { IfSome result
+        (λ j. TakesJob U.Key.eq j.name.version j.name.key j tasks.old tasks.new desk.old desk.new) }
+    ensures kept { IfSome result (λ j. (w : World U.Key U.Value) (W : List U.Key) (owed : ℕ)
+        → Working U.Key.eq U.meaning j.name.version W w owed tasks.old desk.old
+        → Working U.Key.eq U.meaning j.name.version W w owed tasks.new desk.new) }
     ensures some { IfNone result ⊥ }
 {
     laws_of::<U>();
@@ -44,7 +50,8 @@ pub fn take<U: Universe>(desk: &mut Desk<U>, tasks: &mut Tasks<U>) -> Option<Job
 /// Takes the job of the ready task of a key. It takes no memory.
 fn take_job<U: Universe>(tasks: &mut Tasks<U>, key: &KeyRef<U>) -> Option<Job<U>>
     requires { is_ready (tasks_of U.Key.eq tasks.old (arc_value key.now)) ≡ true }
-    ensures taken { IfSome result (λ j. IsTurned U.Key.eq (arc_value key.now) (held_of j IsReady) (held_of j IsOut) tasks.old tasks.new) }
+    ensures taken { IfSome result (λ j. IsTurned U.Key.eq (arc_value key.now) (held_of j IsReady)
+        (held_of j IsOut) tasks.old tasks.new) }
     ensures some { IfNone result ⊥ }
 {
     laws_of::<U>();
@@ -52,17 +59,23 @@ fn take_job<U: Universe>(tasks: &mut Tasks<U>, key: &KeyRef<U>) -> Option<Job<U>
     task.take()
 }
 
-/// Takes back a job, undone, if it is out: its task is ready again. Another job is handed back. It takes no memory.
+/// Takes back a job, undone, if it is out: its task is ready again. Another job is handed back. It
+/// takes no memory.
 pub fn put_back<U: Universe>(
     desk: &mut Desk<U>,
     tasks: &mut Tasks<U>,
     job: Job<U>,
 ) -> Option<Job<U>>
     requires known { Knows U.Key.eq job.name.version tasks.old desk.old }
-    ensures same { IfSome result (λ j. (j ≡ job) × (desk.new ≡ desk.old) × KeepsTable U.Key.eq tasks.old tasks.new) }
-    ensures other { IfSome result (λ j. task_at U.Key.eq tasks.old job.name.key ≡ Some (held_of job IsOut) → ⊥) }
-    ensures back { IfNone result (ReturnsJob U.Key.eq job.name.version job.name.key job job tasks.old tasks.new desk.old desk.new) }
-    ensures kept { IfNone result ((w : World U.Key U.Value) (W : List U.Key) (owed : ℕ) → Working U.Key.eq U.meaning job.name.version W w owed tasks.old desk.old → Working U.Key.eq U.meaning job.name.version W w owed tasks.new desk.new) }
+    ensures same { IfSome result
+        (λ j. (j ≡ job) × (desk.new ≡ desk.old) × KeepsTable U.Key.eq tasks.old tasks.new) }
+    ensures other { IfSome result
+        (λ j. task_at U.Key.eq tasks.old job.name.key ≡ Some (held_of job IsOut) → ⊥) }
+    ensures back { IfNone result (ReturnsJob U.Key.eq job.name.version job.name.key job job
+        tasks.old tasks.new desk.old desk.new) }
+    ensures kept { IfNone result ((w : World U.Key U.Value) (W : List U.Key) (owed : ℕ)
+        → Working U.Key.eq U.meaning job.name.version W w owed tasks.old desk.old
+        → Working U.Key.eq U.meaning job.name.version W w owed tasks.new desk.new) }
 {
     laws_of::<U>();
     let Some(index) = desk.index_of(job.name().version(), job.name().key()) else {
@@ -79,9 +92,12 @@ pub fn put_back<U: Universe>(
 
 /// Takes back a job, undone, if this task's is out. It takes no memory.
 fn return_to<U: Universe>(desk: &mut Desk<U>, task: &mut Task<U>, job: Job<U>) -> Option<Job<U>>
-    requires known { task.old ≡ held_of job IsOut → Has desk.old.out (job.name.version, job.name.key) }
-    ensures some { IfSome result (λ j. (j ≡ job) × (task.new ≡ task.old) × (desk.new ≡ desk.old) × (task.old ≡ held_of job IsOut → ⊥)) }
-    ensures none { IfNone result ((task.old ≡ held_of job IsOut) × (task.new ≡ held_of job IsReady) × Returns (job.name.version, job.name.key) desk.old desk.new) }
+    requires known { task.old ≡ held_of job IsOut
+        → Has desk.old.out (job.name.version, job.name.key) }
+    ensures some { IfSome result (λ j. (j ≡ job) × (task.new ≡ task.old) × (desk.new ≡ desk.old)
+        × (task.old ≡ held_of job IsOut → ⊥)) }
+    ensures none { IfNone result ((task.old ≡ held_of job IsOut) × (task.new ≡ held_of job IsReady)
+        × Returns (job.name.version, job.name.key) desk.old desk.new) }
 {
     match task.back(job) {
         Some(job) => Some(job),
@@ -93,8 +109,8 @@ fn return_to<U: Universe>(desk: &mut Desk<U>, task: &mut Task<U>, job: Job<U>) -
     }
 }
 
-/// The job of a key, which was out, has asked a batch that is answered already: its task is ready again, with this to go on. It
-/// takes no memory.
+/// The job of a key, which was out, has asked a batch that is answered already: its task is ready
+/// again, with this to go on. It takes no memory.
 pub fn go_on<U: Universe>(
     desk: &mut Desk<U>,
     tasks: &mut Tasks<U>,
@@ -104,11 +120,18 @@ pub fn go_on<U: Universe>(
     next: Next<U>,
 )
     requires known { Knows U.Key.eq version tasks.old desk.old }
-    requires out { task_at U.Key.eq tasks.old (arc_value key.now) ≡ Some (held_of parked.job IsOut) }
+    requires out { task_at U.Key.eq tasks.old (arc_value key.now)
+        ≡ Some (held_of parked.job IsOut) }
     requires count { length next.values ≡ length parked.keys }
     requires next { next.job ≡ answered_more parked.job parked.keys next.values }
-    ensures ready { ReturnsJob U.Key.eq version (arc_value key.now) parked.job next.job tasks.old tasks.new desk.old desk.new }
-    ensures kept { (w : World U.Key U.Value) (W : List U.Key) (owed : ℕ) → Working U.Key.eq U.meaning version W w owed tasks.old desk.old → AsksNext U.Key.eq U.meaning version (arc_value key.now) parked.job.work parked.job.answered (IsWaiting parked.keys) → AllZip (HasValue U.Key.eq U.meaning (commits_of (reverse desk.old.events)) version) parked.keys next.values → Working U.Key.eq U.meaning version W w owed tasks.new desk.new }
+    ensures ready { ReturnsJob U.Key.eq version (arc_value key.now) parked.job next.job tasks.old
+        tasks.new desk.old desk.new }
+    ensures kept { (w : World U.Key U.Value) (W : List U.Key) (owed : ℕ)
+        → Working U.Key.eq U.meaning version W w owed tasks.old desk.old
+        → AsksNext U.Key.eq U.meaning version (arc_value key.now) parked.job.work
+        parked.job.answered (IsWaiting parked.keys)
+        → AllZip (HasValue U.Key.eq U.meaning (commits_of (reverse desk.old.events)) version)
+        parked.keys next.values → Working U.Key.eq U.meaning version W w owed tasks.new desk.new }
 {
     laws_of::<U>();
     let Some(task) = tasks.task_mut(key) else {
@@ -118,7 +141,8 @@ pub fn go_on<U: Universe>(
     desk.returned(version, key);
 }
 
-/// The job of a key, which was out, waits for its batch, by these waits of its task, in room made ahead. It takes no memory.
+/// The job of a key, which was out, waits for its batch, by these waits of its task, in room made
+/// ahead. It takes no memory.
 pub fn park<U: Universe>(
     desk: &mut Desk<U>,
     tasks: &mut Tasks<U>,
@@ -128,10 +152,15 @@ pub fn park<U: Universe>(
     waits: Vec<Wait<U::Key>>,
 )
     requires known { Knows U.Key.eq version tasks.old desk.old }
-    requires out { task_at U.Key.eq tasks.old (arc_value key.now) ≡ Some (held_of parked.job IsOut) }
+    requires out { task_at U.Key.eq tasks.old (arc_value key.now)
+        ≡ Some (held_of parked.job IsOut) }
     requires room { HasRoomFor U.Key.eq waits.items tasks.old }
-    ensures parks { ParksJob U.Key.eq version (arc_value key.now) parked waits.items tasks.old tasks.new desk.old desk.new }
-    ensures kept { (w : World U.Key U.Value) (W : List U.Key) (owed : ℕ) → Working U.Key.eq U.meaning version W w owed tasks.old desk.old → MayPark U.Key.eq U.meaning version (arc_value key.now) parked waits.items tasks.old → Working U.Key.eq U.meaning version W w owed tasks.new desk.new }
+    ensures parks { ParksJob U.Key.eq version (arc_value key.now) parked waits.items tasks.old
+        tasks.new desk.old desk.new }
+    ensures kept { (w : World U.Key U.Value) (W : List U.Key) (owed : ℕ)
+        → Working U.Key.eq U.meaning version W w owed tasks.old desk.old
+        → MayPark U.Key.eq U.meaning version (arc_value key.now) parked waits.items tasks.old
+        → Working U.Key.eq U.meaning version W w owed tasks.new desk.new }
 {
     laws_of::<U>();
     let Some(task) = tasks.task_mut(key) else {
@@ -146,7 +175,9 @@ pub fn park<U: Universe>(
 fn add_waits<U: Universe>(tasks: &mut Tasks<U>, waits: Vec<Wait<U::Key>>)
     requires { HasRoomFor U.Key.eq waits.items tasks.old }
     ensures tasks { KeepsTasks U.Key.eq tasks.old tasks.new }
-    ensures asks { (q : U.Key) (a : By U.Key) → asks U.Key.eq tasks.new q a ≡ (asks U.Key.eq tasks.old q a || waits_so U.Key.eq waits.items q a) }
+    ensures asks { (q : U.Key) (a : By U.Key)
+        → asks U.Key.eq tasks.new q a
+        ≡ (asks U.Key.eq tasks.old q a || waits_so U.Key.eq waits.items q a) }
 {
     laws_of::<U>();
     let mut rest = waits;

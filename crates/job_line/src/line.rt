@@ -63,7 +63,8 @@ impl<J: Drop> JobLine<J> {
     pub fn take<R: Wait>(&self, rt: &R, pass: &mut Pass<J>) -> Option<J>
         requires own { pass.old.line ≡ self.now }
         ensures some { IfSome result (λ job. Took pass.old job pass.new) }
-        ensures none { IfNone result ((pass.new ≡ after_empty pass.old) × Held [] pass.old.seen pass.old.places) }
+        ensures none { IfNone result
+            ((pass.new ≡ after_empty pass.old) × Held [] pass.old.seen pass.old.places) }
     {
         let job = self.queue.pop_as::<Pop, R>(rt, &mut pass.raw);
         if job.is_none() {
@@ -76,7 +77,8 @@ impl<J: Drop> JobLine<J> {
     #[tactic(auto, using(crate::proofs::Keeps::looks))]
     pub fn left<R: Wait>(&self, rt: &R, pass: &mut Pass<J>) -> usize
         requires own { pass.old.line ≡ self.now }
-        ensures held { (items : List J) × (length items ≡ result) × Held items pass.old.seen pass.old.places }
+        ensures held { (items : List J) × (length items ≡ result)
+            × Held items pass.old.seen pass.old.places }
         ensures apart { AreDistinct pass.new.places }
         ensures pass { pass.new ≡ pass.old }
     {

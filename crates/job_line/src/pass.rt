@@ -26,7 +26,8 @@ impl<J: Drop> Model for Pass<J> {
       empties = p.empties;
     } };
 
-    ghost invariant = { λ p. (p.raw.me.hand ≡ None) × (p.raw.me.spare ≡ None) × (p.raw.me.view.client.putter ≡ false) };
+    ghost invariant = { λ p. (p.raw.me.hand ≡ None) × (p.raw.me.spare ≡ None)
+        × (p.raw.me.view.client.putter ≡ false) };
 }
 
 impl<J: Drop> Pass<J> {

@@ -18,9 +18,14 @@ impl<J: Drop> Model for Putter<J> {
 
     ghost Value = { PutterView J };
 
-    ghost view = { λ p. record { line = record { web = p.raw.web; heap = p.raw.heap }; puts = p.raw.me.view.client.seen } };
+    ghost view = { λ p. record {
+      line = record { web = p.raw.web; heap = p.raw.heap };
+      puts = p.raw.me.view.client.seen;
+    } };
 
-    ghost invariant = { λ p. (p.raw.me.hand ≡ None) × (p.raw.me.spare ≡ None) × (p.raw.me.view.client.putter ≡ true) × (p.raw.me.view.client.places ≡ []) × (length p.raw.me.view.client.seen ≡ p.count) };
+    ghost invariant = { λ p. (p.raw.me.hand ≡ None) × (p.raw.me.spare ≡ None)
+        × (p.raw.me.view.client.putter ≡ true) × (p.raw.me.view.client.places ≡ [])
+        × (length p.raw.me.view.client.seen ≡ p.count) };
 }
 
 impl<J: Drop> Putter<J> {

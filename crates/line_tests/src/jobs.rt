@@ -75,7 +75,8 @@ fn put_all<R: Wait>(rt: &R, line: &JobLine<Order>, mut putter: Putter<Order>) ->
     true
 }
 
-// Takes jobs up to an order to stop, and answers them. If the line is empty after the putter has ended, the order could not be put.
+// Takes jobs up to an order to stop, and answers them. If the line is empty after the putter has
+// ended, the order could not be put.
 fn take_all<R: Wait>(
     rt: &R,
     alloc: Global,
@@ -105,7 +106,8 @@ fn take_all<R: Wait>(
 
 type Takers = (Pass<Order>, Result<Vec<u64>, AllocError>);
 
-// One thread puts, and two take. The one that puts stands last: if no thread can be made for the others, it goes first.
+// One thread puts, and two take. The one that puts stands last: if no thread can be made for the
+// others, it goes first.
 fn take_in_two_threads<R: Wait + Threads + Sync>(
     rt: &R,
     alloc: Global,

@@ -49,7 +49,8 @@ fn number(looked: &Looked) -> Option<u64> {
     }
 }
 
-/// What looks find before a publish, and after it, once the reader learnt of it: at the row's version and at the next one.
+/// What looks find before a publish, and after it, once the reader learnt of it: at the row's
+/// version and at the next one.
 fn looks<R: Wait>(
     rt: &R,
     alloc: Global,

@@ -9,7 +9,8 @@ use std::alloc::Global;
 /// How many numbers a walk mostly meets at most.
 pub(crate) const ROOM: usize = 28;
 
-/// The numbers that a walk has met, in their order, and beside each the index of the one through whose wait it was met.
+/// The numbers that a walk has met, in their order, and beside each the index of the one through
+/// whose wait it was met.
 pub(crate) struct Trail {
     pub(crate) met: IndexSet<usize>,
     pub(crate) parents: Vec<usize>,
@@ -40,7 +41,8 @@ impl Trail {
 
     /// Notes a number with the index of its parent, unless it was met before.
     pub(crate) fn note(&mut self, number: usize, parent: usize) -> Result<(), NoMemory>
-        ensures { OnOk result (IsNoted number parent self.old.met.keys self.old.parents.items self.new.met.keys self.new.parents.items) }
+        ensures { OnOk result (IsNoted number parent self.old.met.keys self.old.parents.items
+            self.new.met.keys self.new.parents.items) }
     {
         if self.met.insert(number)? {
             self.parents.push(parent)?;

@@ -21,8 +21,8 @@ pub trait Waits {
         ensures { result.now ≡ waits self.now number };
 }
 
-/// The way along the waits from `start` to a number that waits for `goal`, both among them; `None` exactly if no waits lead
-/// from the start to the goal.
+/// The way along the waits from `start` to a number that waits for `goal`, both among them; `None`
+/// exactly if no waits lead from the start to the goal.
 ///
 /// Each number is met at most once, and each of its waits passed at most once.
 pub fn way<W: Waits>(
@@ -50,7 +50,8 @@ pub fn way<W: Waits>(
     Ok(None)
 }
 
-/// All numbers to which waits lead from `start`, which is among them, in the order in which a walk meets them.
+/// All numbers to which waits lead from `start`, which is among them, in the order in which a walk
+/// meets them.
 ///
 /// Each number is met at most once, and each of its waits passed at most once.
 pub fn all_from<W: Waits>(
@@ -93,10 +94,12 @@ fn follow<W: Waits>(
 ) -> Result<bool, NoMemory>
     requires trail { IsTrail (W.waits graph.now) goal trail.old.met.keys trail.old.parents.items }
     requires there { slice_get trail.old.met.keys head ≡ Some number }
-    ensures trail { OnOk result (IsTrail (W.waits graph.now) goal trail.new.met.keys trail.new.parents.items) }
+    ensures trail { OnOk result
+        (IsTrail (W.waits graph.now) goal trail.new.met.keys trail.new.parents.items) }
     ensures grows { OnOk result (Grows trail.old.met.keys trail.new.met.keys) }
     ensures met { IfOk result (λ b. b ≡ true → Has (W.waits graph.now number) goal) }
-    ensures followed { IfOk result (λ b. b ≡ false → (m : ℕ) → Has (W.waits graph.now number) m → Has trail.new.met.keys m) }
+    ensures followed { IfOk result
+        (λ b. b ≡ false → (m : ℕ) → Has (W.waits graph.now number) m → Has trail.new.met.keys m) }
 {
     for wait in graph.waits_of(number) {
         if *wait == goal {

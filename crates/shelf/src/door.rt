@@ -9,7 +9,8 @@ use dice_key::Universe;
 use std::marker::Model;
 use std::mem;
 
-/// A place at a shelf, if there is one, and a count of the times that its reader was refused. Contracts see it as a `ReaderView`.
+/// A place at a shelf, if there is one, and a count of the times that its reader was refused.
+/// Contracts see it as a `ReaderView`.
 #[derive(Drop)]
 pub struct Door<U: Universe> {
     raw: Option<RawReader<U>>,
@@ -41,11 +42,13 @@ impl<U: Universe> Door<U> {
         self.refused
     }
 
-    /// Lets the reader in, who has the place until it leaves, or counts that it was refused. It waits for nobody.
+    /// Lets the reader in, who has the place until it leaves, or counts that it was refused. It
+    /// waits for nobody.
     pub(crate) fn enter(&mut self) -> Option<RawReading<U>>
         ensures place { IfSome result (λ r. HasLeft self.old self.new) }
         ensures seen { IfSome result (λ r. (view r.place).seen ≡ r.part.value) }
-        ensures goes_on { IfSome result (λ r. GoesOn U.Key.eq U.meaning self.old.seen r.part.value) }
+        ensures goes_on { IfSome result
+            (λ r. GoesOn U.Key.eq U.meaning self.old.seen r.part.value) }
         ensures none { IfNone result (self.new ≡ after_refusal self.old) }
     {
         let Some(reader) = mem::take(&mut self.raw) else {

@@ -1,4 +1,6 @@
-//! A shelf of finished values. One end writes, and readers look without a wait, in any thread. What a reader sees begins with all that it saw or was told of, and each row in it is the value of its key.
+//! A shelf of finished values. One end writes, and readers look without a wait, in any thread. What
+//! a reader sees begins with all that it saw or was told of, and each row in it is the value of its
+//! key.
 #![tactic(auto)]
 
 mod door;

@@ -3,7 +3,8 @@ use crossbeam_utils::rule::Protocol;
 use left_right::{Absorb, writer};
 use std::marker::Model;
 
-/// What the writing end keeps of its list: when a list is sound, a list to begin with, and the list that an end has seen.
+/// What the writing end keeps of its list: when a list is sound, a list to begin with, and the list
+/// that an end has seen.
 pub trait Keeping<S, W> {
     ghost sound: { S → Type 0 };
 
@@ -12,7 +13,9 @@ pub trait Keeping<S, W> {
     ghost seen: { W → S };
 }
 
-/// The writing end of a shelf. It is generic so that its rule is a bound of its own. Contracts see it as a `PenView`: all that was appended, and what of it is published. It is not `Drop`: end it by `end`.
+/// The writing end of a shelf. It is generic so that its rule is a bound of its own. Contracts see
+/// it as a `PenView`: all that was appended, and what of it is published. It is not `Drop`: end it
+/// by `end`.
 pub struct Pen<T: Absorb<O> + Drop, O: Drop, W, P: Protocol<T, W> + Keeping<T::State, W>> {
     pub(crate) raw: Option<writer::Writer<T, O, W, P>>,
 }

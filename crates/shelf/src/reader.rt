@@ -24,7 +24,8 @@ pub enum LookRefusal {
     Shut,
 }
 
-/// A reader of the shelf of a universe, with a count of the looks that it was refused. It waits for nobody. Contracts see it as a `ReaderView`.
+/// A reader of the shelf of a universe, with a count of the looks that it was refused. It waits for
+/// nobody. Contracts see it as a `ReaderView`.
 #[derive(Drop)]
 pub struct Reader<U: Universe> {
     pub(crate) door: Door<U>,
@@ -44,7 +45,8 @@ fn copied<K: Eq + Hash + Drop, V: Drop>(
     version: u64,
     key: &K,
 ) -> Result<Option<Arc<V>>, AllocError>
-    ensures { IfOk result (λ x. option_map (λ y. arc_value y) x ≡ row_at (K.eq key.now) version store.now) }
+    ensures { IfOk result
+        (λ x. option_map (λ y. arc_value y) x ≡ row_at (K.eq key.now) version store.now) }
 {
     match store.row(version, key) {
         Some(value) => Ok(Some(Arc::try_clone(value)?)),
@@ -53,16 +55,21 @@ fn copied<K: Eq + Hash + Drop, V: Drop>(
 }
 
 impl<U: Universe> Reader<U> {
-    /// How many looks were refused because the reader was not let in. At the type's end the count stands still.
+    /// How many looks were refused because the reader was not let in. At the type's end the count
+    /// stands still.
     pub fn refused(&self) -> u64
         ensures { result ≡ self.now.refused }
     {
         self.door.refused()
     }
 
-    /// The value of the row of that version and key in the list that is published, which begins with the one that the reader saw or was told of last. `None` exactly if it has no such row. `Shut` only if the count of refusals rose. It is one read of a hash map, however long the list is.
+    /// The value of the row of that version and key in the list that is published, which begins
+    /// with the one that the reader saw or was told of last. `None` exactly if it has no such row.
+    /// `Shut` only if the count of refusals rose. It is one read of a hash map, however long the
+    /// list is.
     pub fn look(&mut self, version: u64, key: &U::Key) -> Result<Option<Arc<U::Value>>, LookRefusal>
-        ensures found { IfOk result (λ x. Looked U.Key.eq U.meaning self.old self.new × (option_map (λ y. arc_value y) x ≡ row_at (U.Key.eq key.now) version self.new.seen)) }
+        ensures found { IfOk result (λ x. Looked U.Key.eq U.meaning self.old self.new
+            × (option_map (λ y. arc_value y) x ≡ row_at (U.Key.eq key.now) version self.new.seen)) }
         ensures no_memory { result ≡ Err NoMemory → Looked U.Key.eq U.meaning self.old self.new }
         ensures shut { result ≡ Err Shut → self.new ≡ after_refusal self.old }
         ensures no_place { self.old.shut ≡ true → result ≡ Err Shut }
@@ -78,7 +85,9 @@ impl<U: Universe> Reader<U> {
         }
     }
 
-    /// The reader takes over the place of what it is told, so its looks see a list that begins with the one told. If the shelver had no place for it, the reader is refused from then on. It waits for nobody and takes no memory.
+    /// The reader takes over the place of what it is told, so its looks see a list that begins with
+    /// the one told. If the shelver had no place for it, the reader is refused from then on. It
+    /// waits for nobody and takes no memory.
     pub fn learn(&mut self, told: Told<U>)
         ensures { self.new ≡ door_to told self.old.refused }
     {

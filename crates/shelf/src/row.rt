@@ -23,9 +23,15 @@ pub(crate) struct RowKey<K> {
 impl<K: Eq + Hash> Equivalent<RowKey<K>> for (u64, &K) {
     ghost equivalent = { λ q x. nat_eq q.0 x.version && K.eq q.1.now (arc_value x.key) };
 
-    ghost respects_hash = { λ q x h i. fed.u64 ((unsigned_Decides q.0 x.version).0 (first_so (nat_eq q.0 x.version) (K.eq q.1.now (arc_value x.key)) h) i) ++ K.respects_eq q.1.now (arc_value x.key) (second_so (nat_eq q.0 x.version) (K.eq q.1.now (arc_value x.key)) h) i };
+    ghost respects_hash = { λ q x h i. fed.u64 ((unsigned_Decides q.0 x.version).0
+        (first_so (nat_eq q.0 x.version) (K.eq q.1.now (arc_value x.key)) h) i)
+        ++ K.respects_eq q.1.now (arc_value x.key)
+        (second_so (nat_eq q.0 x.version) (K.eq q.1.now (arc_value x.key)) h) i };
 
-    ghost respects_eq = { λ q x y h i. nat_eq ((unsigned_Decides q.0 x.version).0 (first_so (nat_eq q.0 x.version) (K.eq q.1.now (arc_value x.key)) h) i) y.version && K.Eq.laws.congr q.1.now (arc_value x.key) (arc_value y.key) (second_so (nat_eq q.0 x.version) (K.eq q.1.now (arc_value x.key)) h) i };
+    ghost respects_eq = { λ q x y h i. nat_eq ((unsigned_Decides q.0 x.version).0
+        (first_so (nat_eq q.0 x.version) (K.eq q.1.now (arc_value x.key)) h) i) y.version
+        && K.Eq.laws.congr q.1.now (arc_value x.key) (arc_value y.key)
+        (second_so (nat_eq q.0 x.version) (K.eq q.1.now (arc_value x.key)) h) i };
 
     fn equivalent(&self, row: &RowKey<K>) -> bool {
         self.0 == row.version && *self.1 == *row.key

@@ -8,7 +8,8 @@ use left_right::reader;
 use std::collections::LinkedList;
 use std::marker::PhantomData;
 
-/// What an end knows: the list that it has seen or was told of last. It is plain data for the rule: no value of it is made.
+/// What an end knows: the list that it has seen or was told of last. It is plain data for the rule:
+/// no value of it is made.
 pub struct Seen<K, V> {
     pub seen: LinkedList<Plain<K, V>>,
 }

@@ -55,9 +55,15 @@ fn publish_raw<U: Universe, R: Wait>(
     rt: &R,
     writer: RawWriter<U>,
 ) -> (RawWriter<U>, Result<(), AllocError>)
-    requires sound { IsSound U.Key.eq U.meaning (fold with_op writer.desk.shown.value (drop writer.behind writer.log.items)) }
-    ensures published { IfOk result.1 (λ _. (result.0.desk.shown.value ≡ fold with_op writer.desk.shown.value (drop writer.behind writer.log.items)) × (drop result.0.behind result.0.log.items ≡ []) × ((view result.0.desk.place).seen ≡ result.0.desk.shown.value)) }
-    ensures refused { IfErr result.1 (λ _. (result.0.desk.shown.value ≡ writer.desk.shown.value) × (drop result.0.behind result.0.log.items ≡ drop writer.behind writer.log.items) × (view result.0.desk.place ≡ view writer.desk.place)) }
+    requires sound { IsSound U.Key.eq U.meaning
+        (fold with_op writer.desk.shown.value (drop writer.behind writer.log.items)) }
+    ensures published { IfOk result.1 (λ _. (result.0.desk.shown.value
+        ≡ fold with_op writer.desk.shown.value (drop writer.behind writer.log.items))
+        × (drop result.0.behind result.0.log.items ≡ [])
+        × ((view result.0.desk.place).seen ≡ result.0.desk.shown.value)) }
+    ensures refused { IfErr result.1 (λ _. (result.0.desk.shown.value ≡ writer.desk.shown.value)
+        × (drop result.0.behind result.0.log.items ≡ drop writer.behind writer.log.items)
+        × (view result.0.desk.place ≡ view writer.desk.place)) }
 {
     writer.publish_as::<See<U>, R>(rt)
 }
@@ -67,12 +73,20 @@ fn append_raw<U: Universe>(
     writer: &mut RawWriter<U>,
     op: ShelfOp<U::Key, U::Value>,
 ) -> Result<(), ShelfOp<U::Key, U::Value>>
-    requires sound { IsSound U.Key.eq U.meaning (fold with_op writer.old.desk.shown.value (drop writer.old.behind writer.old.log.items)) }
-    requires may { MayFollow U.Key.eq U.meaning (commits_in (fold with_op writer.old.desk.shown.value (drop writer.old.behind writer.old.log.items))) (plain op) }
+    requires sound { IsSound U.Key.eq U.meaning
+        (fold with_op writer.old.desk.shown.value (drop writer.old.behind writer.old.log.items)) }
+    requires may { MayFollow U.Key.eq U.meaning (commits_in
+        (fold with_op writer.old.desk.shown.value (drop writer.old.behind writer.old.log.items)))
+        (plain op) }
     ensures desk { writer.new.desk ≡ writer.old.desk }
-    ensures sound { IsSound U.Key.eq U.meaning (fold with_op writer.new.desk.shown.value (drop writer.new.behind writer.new.log.items)) }
-    ensures ok { IfOk result (λ _. fold with_op writer.new.desk.shown.value (drop writer.new.behind writer.new.log.items) ≡ fold with_op writer.old.desk.shown.value (drop writer.old.behind writer.old.log.items) ++ plain op ∷ []) }
-    ensures err { IfErr result (λ _. drop writer.new.behind writer.new.log.items ≡ drop writer.old.behind writer.old.log.items) }
+    ensures sound { IsSound U.Key.eq U.meaning
+        (fold with_op writer.new.desk.shown.value (drop writer.new.behind writer.new.log.items)) }
+    ensures ok { IfOk result (λ _. fold with_op writer.new.desk.shown.value
+        (drop writer.new.behind writer.new.log.items)
+        ≡ fold with_op writer.old.desk.shown.value (drop writer.old.behind writer.old.log.items)
+        ++ plain op ∷ []) }
+    ensures err { IfErr result (λ _. drop writer.new.behind writer.new.log.items
+        ≡ drop writer.old.behind writer.old.log.items) }
 {
     writer.append(op)
 }
@@ -103,12 +117,14 @@ fn fill<U: Universe>(
 }
 
 impl<U: Universe> Shelver<U> {
-    /// An empty shelf, and so many readers of it, with as many places again for what readers are told. A reader for which there was no place is refused each look.
+    /// An empty shelf, and so many readers of it, with as many places again for what readers are
+    /// told. A reader for which there was no place is refused each look.
     #[tactic(auto, using(crate::proofs::Keeps::begins))]
     pub fn new(alloc: Global, readers: u32) -> Result<(Shelver<U>, Vec<Reader<U>>), NoMemory>
         requires { 0 < readers }
         ensures shelver { IfOk result (λ t. t.0 ≡ no_pen []) }
-        ensures readers { IfOk result (λ t. (length t.1.items ≡ readers) × All IsNewReader t.1.items) }
+        ensures readers { IfOk result
+            (λ t. (length t.1.items ≡ readers) × All IsNewReader t.1.items) }
     {
         let ends = Vec::with_capacity(alloc, readers as usize)?;
         let (first, second) = (Store::new(alloc), Store::new(alloc));
@@ -118,10 +134,13 @@ impl<U: Universe> Shelver<U> {
         Ok((Pen { raw: Some(writer) }, ends))
     }
 
-    /// Adds an operation at the end, which readers see once it is published. A commit has to have the shape of one. A row has to have the value of its key at its version over the commits before it.
+    /// Adds an operation at the end, which readers see once it is published. A commit has to have
+    /// the shape of one. A row has to have the value of its key at its version over the commits
+    /// before it.
     pub fn append(&mut self, op: ShelfOp<U::Key, U::Value>) -> Result<(), NoMemory>
         requires { MayFollow U.Key.eq U.meaning (commits_in self.old.list) (plain op) }
-        ensures ok { IfOk result (λ _. self.new ≡ record self.old { list = self.old.list ++ plain op ∷ [] }) }
+        ensures ok { IfOk result
+            (λ _. self.new ≡ record self.old { list = self.old.list ++ plain op ∷ [] }) }
         ensures err { OnErr result (self.new ≡ self.old) }
     {
         let Some(writer) = &mut self.raw else {
@@ -147,7 +166,9 @@ impl<U: Universe> Shelver<U> {
         Ok(done?)
     }
 
-    /// Tells what is published, once for a reader that learns it. It has a place until then; there are as many as readers, and if none is free it tells nothing. It waits for nobody and takes no memory.
+    /// Tells what is published, once for a reader that learns it. It has a place until then; there
+    /// are as many as readers, and if none is free it tells nothing. It waits for nobody and takes
+    /// no memory.
     pub fn told(&mut self) -> Told<U>
         ensures told { IfSome result (λ xs. xs ≡ self.old.published) }
         ensures same { self.new ≡ self.old }

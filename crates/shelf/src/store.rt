@@ -14,7 +14,8 @@ use std::hash::Hash;
 use std::marker::Model;
 use std::sync::Arc;
 
-/// All operations in order, and beside them the rows in a hash map. Contracts see it as the list of its operations.
+/// All operations in order, and beside them the rows in a hash map. Contracts see it as the list of
+/// its operations.
 #[derive(Drop)]
 pub struct Store<K: Eq + Hash + Drop, V: Drop> {
     log: Vec<ShelfOp<K, V>>,
@@ -69,7 +70,8 @@ impl<K: Eq + Hash + Drop, V: Drop> Store<K, V> {
 
     /// The value of the first row of that version and key, by one look-up in the hash map.
     pub(crate) fn row(&self, version: u64, key: &K) -> Option<&Arc<V>>
-        ensures { option_map (λ x. arc_value x.now) result ≡ row_at (K.eq key.now) version self.now }
+        ensures { option_map (λ x. arc_value x.now) result
+            ≡ row_at (K.eq key.now) version self.now }
     {
         row_in(&self.rows, version, key)
     }

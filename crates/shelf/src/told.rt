@@ -7,7 +7,8 @@ use crate::shelver::RawWriter;
 use dice_key::Universe;
 use std::marker::Model;
 
-/// What is published, for a reader that learns it. It has a place at the shelf, which that reader takes over. Contracts see it as the list that it tells, or as nothing if no place was free.
+/// What is published, for a reader that learns it. It has a place at the shelf, which that reader
+/// takes over. Contracts see it as the list that it tells, or as nothing if no place was free.
 #[derive(Drop)]
 pub struct Told<U: Universe> {
     pub(crate) raw: Option<RawReader<U>>,
@@ -26,7 +27,9 @@ impl<U: Universe> Model for Told<U> {
 // A new place that was told what is published, if one is free.
 pub(crate) fn told_place<U: Universe>(writer: &mut RawWriter<U>) -> Option<RawReader<U>>
     ensures told { IfSome result (λ r. (view r.place).seen ≡ (view writer.old.desk.place).seen) }
-    ensures kept { (writer.new.desk.shown ≡ writer.old.desk.shown) × (writer.new.log ≡ writer.old.log) × (writer.new.behind ≡ writer.old.behind) × (view writer.new.desk.place ≡ view writer.old.desk.place) }
+    ensures kept { (writer.new.desk.shown ≡ writer.old.desk.shown)
+        × (writer.new.log ≡ writer.old.log) × (writer.new.behind ≡ writer.old.behind)
+        × (view writer.new.desk.place ≡ view writer.old.desk.place) }
 {
     let mut reader = writer.factory().reader().ok()?;
     reader.learn::<Note>(writer.tell::<Note>());

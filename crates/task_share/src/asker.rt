@@ -13,8 +13,8 @@ pub enum Asker<K> {
     Task(Arc<K>),
 }
 
-/// Those who ask for a key: the numbers of the promises and the keys of the tasks, each in no order. The table's numbers of these
-/// keys are in the order of the keys.
+/// Those who ask for a key: the numbers of the promises and the keys of the tasks, each in no
+/// order. The table's numbers of these keys are in the order of the keys.
 #[derive(Drop)]
 pub struct Askers<'a, K> {
     pub promises: &'a [u64],
@@ -22,7 +22,8 @@ pub struct Askers<'a, K> {
     pub numbers: &'a [usize],
 }
 
-/// One task's wait for another, with the pointers that the table keeps of it, so that it can be added without memory.
+/// One task's wait for another, with the pointers that the table keeps of it, so that it can be
+/// added without memory.
 #[derive(Drop)]
 pub struct Wait<K> {
     key: Arc<K>,
@@ -44,7 +45,8 @@ impl<K> Wait<K> {
     pub fn new(key: &Arc<K>, asker: &Arc<K>) -> Result<Wait<K>, NoMemory>
     where
         K: Drop,
-        ensures { IfOk result (λ w. w ≡ record { key = arc_value key.now; asker = arc_value asker.now }) }
+        ensures { IfOk result
+            (λ w. w ≡ record { key = arc_value key.now; asker = arc_value asker.now }) }
     {
         Ok(Wait {
             key: Arc::try_clone(key)?,

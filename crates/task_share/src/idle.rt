@@ -1,4 +1,5 @@
-//! The tasks that nobody asks for: how one is found among the candidates, and how its asks are withdrawn.
+//! The tasks that nobody asks for: how one is found among the candidates, and how its asks are
+//! withdrawn.
 ghost use Rattle.std.specs.Prelude.{◌≡◌, ◌≤◌, ◌++◌, ◌∷◌, [], ℕ, List, slice_get, false, Some, None, map, vec_capacity, IfSome, IfNone};
 ghost use Rattle.std.specs.Arc.{arc_value};
 ghost use Rattle.std.specs.Map.{lookup, values_of};
@@ -19,7 +20,8 @@ fn is_idle_at<K: Eq + Hash + Drop, T: Drop>(
     places: &IndexMap<Arc<K>, Place<K, T>>,
     key: &Arc<K>,
 ) -> bool
-    ensures { result ≡ is_for is_idle (lookup (K.eq (arc_value key.now)) (shares_of places.now.entries)) }
+    ensures { result
+        ≡ is_for is_idle (lookup (K.eq (arc_value key.now)) (shares_of places.now.entries)) }
 {
     match places.get(key) {
         Some(place) => is_unasked(place),
@@ -31,9 +33,12 @@ fn is_idle_at<K: Eq + Hash + Drop, T: Drop>(
 fn give_back<K: Eq + Hash + Drop, T: Drop>(places: &mut IndexMap<Arc<K>, Place<K, T>>, key: Arc<K>)
     requires equality { IsEquality K.eq }
     requires linked { IsLinked K.eq places.old.entries }
-    requires busy { is_for is_idle (lookup (K.eq (arc_value key)) (shares_of places.old.entries)) ≡ false }
+    requires busy { is_for is_idle (lookup (K.eq (arc_value key)) (shares_of places.old.entries))
+        ≡ false }
     ensures linked { IsLinked K.eq places.new.entries }
-    ensures listed { (cs : List K) (room : ℕ) → IsListed K.eq (shares_of places.old.entries) (cs ++ arc_value key ∷ []) room → IsListed K.eq (shares_of places.new.entries) cs room }
+    ensures listed { (cs : List K) (room : ℕ)
+        → IsListed K.eq (shares_of places.old.entries) (cs ++ arc_value key ∷ []) room
+        → IsListed K.eq (shares_of places.new.entries) cs room }
     ensures kept { IsKept K.eq (shares_of places.old.entries) (shares_of places.new.entries) }
 {
     let Some(place) = places.get_mut(&key) else {
@@ -42,8 +47,8 @@ fn give_back<K: Eq + Hash + Drop, T: Drop>(places: &mut IndexMap<Arc<K>, Place<K
     place.name = Some(key);
 }
 
-/// Takes the task of a key out with what it waits for, if it has not ended and nobody asks for it; otherwise the key goes back to
-/// its place. The place stays, so that all numbers do.
+/// Takes the task of a key out with what it waits for, if it has not ended and nobody asks for it;
+/// otherwise the key goes back to its place. The place stays, so that all numbers do.
 fn take_idle<K: Eq + Hash + Drop, T: Drop>(
     places: &mut IndexMap<Arc<K>, Place<K, T>>,
     alloc: Global,
@@ -53,10 +58,15 @@ fn take_idle<K: Eq + Hash + Drop, T: Drop>(
     requires linked { IsLinked K.eq places.old.entries }
     requires runs { AllRun K.eq (shares_of places.old.entries) }
     ensures linked { IsLinked K.eq places.new.entries }
-    ensures listed { (cs : List K) (room : ℕ) → IsListed K.eq (shares_of places.old.entries) (cs ++ arc_value key ∷ []) room → IsListed K.eq (shares_of places.new.entries) cs room }
+    ensures listed { (cs : List K) (room : ℕ)
+        → IsListed K.eq (shares_of places.old.entries) (cs ++ arc_value key ∷ []) room
+        → IsListed K.eq (shares_of places.new.entries) cs room }
     ensures numbered { IfSome result (λ f. AreNumbered (names_of places.new.entries) f.2.entries) }
-    ensures some { IfSome result (λ f. IsPopped K.eq (arc_value f.0) f.1 (map arc_value (values_of f.2.entries)) (shares_of places.old.entries) (shares_of places.new.entries)) }
-    ensures none { IfNone result (IsKept K.eq (shares_of places.old.entries) (shares_of places.new.entries)) }
+    ensures some { IfSome result (λ f. IsPopped K.eq (arc_value f.0) f.1
+        (map arc_value (values_of f.2.entries)) (shares_of places.old.entries)
+        (shares_of places.new.entries)) }
+    ensures none { IfNone result
+        (IsKept K.eq (shares_of places.old.entries) (shares_of places.new.entries)) }
 {
     if !is_idle_at(places, &key) {
         give_back(places, key);
@@ -82,12 +92,17 @@ pub fn pop_idle<K: Eq + Hash + Drop, T: Drop>(
 ) -> Option<(Arc<K>, T, IndexMap<usize, Arc<K>>)>
     requires equality { IsEquality K.eq }
     requires linked { IsLinked K.eq places.old.entries }
-    requires listed { IsListed K.eq (shares_of places.old.entries) (map arc_value candidates.old.items) (vec_capacity candidates.old) }
+    requires listed { IsListed K.eq (shares_of places.old.entries)
+        (map arc_value candidates.old.items) (vec_capacity candidates.old) }
     ensures linked { IsLinked K.eq places.new.entries }
-    ensures listed { IsListed K.eq (shares_of places.new.entries) (map arc_value candidates.new.items) (vec_capacity candidates.new) }
+    ensures listed { IsListed K.eq (shares_of places.new.entries)
+        (map arc_value candidates.new.items) (vec_capacity candidates.new) }
     ensures numbered { IfSome result (λ f. AreNumbered (names_of places.new.entries) f.2.entries) }
-    ensures some { IfSome result (λ f. IsPopped K.eq (arc_value f.0) f.1 (map arc_value (values_of f.2.entries)) (shares_of places.old.entries) (shares_of places.new.entries)) }
-    ensures none { IfNone result (IsKept K.eq (shares_of places.old.entries) (shares_of places.new.entries) × NoneIdle K.eq (shares_of places.new.entries)) }
+    ensures some { IfSome result (λ f. IsPopped K.eq (arc_value f.0) f.1
+        (map arc_value (values_of f.2.entries)) (shares_of places.old.entries)
+        (shares_of places.new.entries)) }
+    ensures none { IfNone result (IsKept K.eq (shares_of places.old.entries)
+        (shares_of places.new.entries) × NoneIdle K.eq (shares_of places.new.entries)) }
 {
     while let Some(key) = candidates.pop() {
         if let Some(found) = take_idle(places, alloc, key) {
@@ -107,10 +122,14 @@ pub fn withdraw<K: Eq + Hash + Drop, T: Drop>(
     requires equality { IsEquality K.eq }
     requires linked { IsLinked K.eq places.old.entries }
     requires numbered { AreNumbered (names_of places.old.entries) waits.entries }
-    requires listed { IsListed K.eq (shares_of places.old.entries) (map arc_value candidates.old.items) (vec_capacity candidates.old) }
+    requires listed { IsListed K.eq (shares_of places.old.entries)
+        (map arc_value candidates.old.items) (vec_capacity candidates.old) }
     ensures linked { IsLinked K.eq places.new.entries }
-    ensures listed { IsListed K.eq (shares_of places.new.entries) (map arc_value candidates.new.items) (vec_capacity candidates.new) }
-    ensures withdrawn { (k : K) → slice_get (names_of places.old.entries) asker ≡ Some k → Withdraws K.eq k (map arc_value (values_of waits.entries)) (shares_of places.old.entries) (shares_of places.new.entries) }
+    ensures listed { IsListed K.eq (shares_of places.new.entries)
+        (map arc_value candidates.new.items) (vec_capacity candidates.new) }
+    ensures withdrawn { (k : K) → slice_get (names_of places.old.entries) asker ≡ Some k
+        → Withdraws K.eq k (map arc_value (values_of waits.entries)) (shares_of places.old.entries)
+        (shares_of places.new.entries) }
 {
     let mut rest = waits;
     while let Some((at, _asked)) = rest.pop() {

@@ -1,4 +1,5 @@
-//! Tasks that are shared by all who ask for them, and the cascade that drops those that nobody asks for any longer.
+//! Tasks that are shared by all who ask for them, and the cascade that drops those that nobody asks
+//! for any longer.
 #![tactic(auto)]
 
 mod asker;

@@ -10,11 +10,12 @@ use std::alloc::Global;
 use std::hash::Hash;
 use std::sync::Arc;
 
-/// The place of a key: its task, whether it has not ended, who asks for it, and what it waits for: keys by their numbers, with a
-/// pointer to each. A place may stand before its task does, as room.
+/// The place of a key: its task, whether it has not ended, who asks for it, and what it waits for:
+/// keys by their numbers, with a pointer to each. A place may stand before its task does, as room.
 ///
-/// The place holds its key until the key goes to the candidates, so that a key may become one without memory. A place whose task was
-/// taken out with the key has neither; it is no room until it is given the key anew.
+/// The place holds its key until the key goes to the candidates, so that a key may become one
+/// without memory. A place whose task was taken out with the key has neither; it is no room until
+/// it is given the key anew.
 pub struct Place<K: Eq + Hash + Drop, T: Drop> {
     pub task: Option<T>,
     pub live: bool,
@@ -41,7 +42,8 @@ impl<K: Eq + Hash + Drop, T: Drop> Drop for Place<K, T> {
 impl<K: Eq + Hash + Drop, T: Drop> Place<K, T> {
     /// The task with what it waits for, if there is one.
     pub fn into_task(self) -> Option<(T, IndexMap<usize, Arc<K>>)>
-        ensures some { IfSome result (λ f. (self.task ≡ Some f.0) × (f.1.entries ≡ self.waits.entries)) }
+        ensures some { IfSome result
+            (λ f. (self.task ≡ Some f.0) × (f.1.entries ≡ self.waits.entries)) }
         ensures none { IfNone result (self.task ≡ None) }
     {
         let Place {
@@ -72,9 +74,11 @@ pub fn is_unasked<K: Eq + Hash + Drop, T: Drop>(place: &Place<K, T>) -> bool
 
 /// If nobody asks for the task, its key goes to the candidates. It takes no memory.
 pub fn settle<K: Eq + Hash + Drop, T: Drop>(place: &mut Place<K, T>, candidates: &mut Vec<Arc<K>>)
-    requires { is_some place.old.name ≡ true → length candidates.old.items < vec_capacity candidates.old }
+    requires { is_some place.old.name ≡ true
+        → length candidates.old.items < vec_capacity candidates.old }
     ensures place { share_of place.new ≡ settled (share_of place.old) }
-    ensures candidates { map arc_value candidates.new.items ≡ map arc_value candidates.old.items ++ option_to_list (released (share_of place.old)) }
+    ensures candidates { map arc_value candidates.new.items
+        ≡ map arc_value candidates.old.items ++ option_to_list (released (share_of place.old)) }
     ensures room { vec_capacity candidates.new ≡ vec_capacity candidates.old }
     ensures askers { place.new.askers ≡ place.old.askers }
     ensures waits { place.new.waits ≡ place.old.waits }

@@ -25,10 +25,14 @@ pub fn leave_promise<K: Eq + Hash + Drop, T: Drop>(
 )
     requires equality { IsEquality K.eq }
     requires linked { IsLinked K.eq places.old.entries }
-    requires listed { IsListed K.eq (shares_of places.old.entries) (map arc_value candidates.old.items) (vec_capacity candidates.old) }
+    requires listed { IsListed K.eq (shares_of places.old.entries)
+        (map arc_value candidates.old.items) (vec_capacity candidates.old) }
     ensures linked { IsLinked K.eq places.new.entries }
-    ensures listed { IsListed K.eq (shares_of places.new.entries) (map arc_value candidates.new.items) (vec_capacity candidates.new) }
-    ensures changed { IsChanged K.eq (arc_value key.now) (λ p r. Left K.eq (Promised number) p r × UsesRoom 0 0 0 p r) (shares_of places.old.entries) (shares_of places.new.entries) }
+    ensures listed { IsListed K.eq (shares_of places.new.entries)
+        (map arc_value candidates.new.items) (vec_capacity candidates.new) }
+    ensures changed { IsChanged K.eq (arc_value key.now)
+        (λ p r. Left K.eq (Promised number) p r × UsesRoom 0 0 0 p r) (shares_of places.old.entries)
+        (shares_of places.new.entries) }
 {
     let Some(place) = places.get_mut(key) else {
         return;
@@ -46,11 +50,15 @@ pub fn leave_task<K: Eq + Hash + Drop, T: Drop>(
 )
     requires equality { IsEquality K.eq }
     requires linked { IsLinked K.eq places.old.entries }
-    requires listed { IsListed K.eq (shares_of places.old.entries) (map arc_value candidates.old.items) (vec_capacity candidates.old) }
-    ensures listed { IsListed K.eq (shares_of places.new.entries) (map arc_value candidates.new.items) (vec_capacity candidates.new) }
+    requires listed { IsListed K.eq (shares_of places.old.entries)
+        (map arc_value candidates.old.items) (vec_capacity candidates.old) }
+    ensures listed { IsListed K.eq (shares_of places.new.entries)
+        (map arc_value candidates.new.items) (vec_capacity candidates.new) }
     ensures linked { IsLinked K.eq places.new.entries }
     ensures names { names_of places.new.entries ≡ names_of places.old.entries }
-    ensures changed { (j : K) → slice_get (names_of places.old.entries) asker ≡ Some j → IsChangedAt K.eq at (λ p r. Left K.eq (Tasked j) p r × UsesRoom 0 0 0 p r) places.old.entries places.new.entries }
+    ensures changed { (j : K) → slice_get (names_of places.old.entries) asker ≡ Some j
+        → IsChangedAt K.eq at (λ p r. Left K.eq (Tasked j) p r × UsesRoom 0 0 0 p r)
+        places.old.entries places.new.entries }
 {
     let Some(place) = places.get_index_mut(at) else {
         return;
@@ -59,7 +67,8 @@ pub fn leave_task<K: Eq + Hash + Drop, T: Drop>(
     settle(place, candidates);
 }
 
-/// Takes one asking task away from a key, which is given by number, and gives its number and its key.
+/// Takes one asking task away from a key, which is given by number, and gives its number and its
+/// key.
 pub fn pop_asker<K: Eq + Hash + Drop, T: Drop>(
     places: &mut IndexMap<Arc<K>, Place<K, T>>,
     candidates: &mut Vec<Arc<K>>,
@@ -67,14 +76,24 @@ pub fn pop_asker<K: Eq + Hash + Drop, T: Drop>(
 ) -> Option<(usize, Arc<K>)>
     requires equality { IsEquality K.eq }
     requires linked { IsLinked K.eq places.old.entries }
-    requires listed { IsListed K.eq (shares_of places.old.entries) (map arc_value candidates.old.items) (vec_capacity candidates.old) }
-    ensures listed { IsListed K.eq (shares_of places.new.entries) (map arc_value candidates.new.items) (vec_capacity candidates.new) }
-    ensures named { IfSome result (λ r. slice_get (names_of places.old.entries) r.0 ≡ Some (arc_value r.1)) }
-    ensures asked { (k : K) → slice_get (names_of places.old.entries) at ≡ Some k → IfSome result (λ r. asks K.eq (shares_of places.old.entries) k (Tasked (arc_value r.1)) ≡ true) }
-    ensures some { IfSome result (λ a. IsChangedAt K.eq at (λ p r. Left K.eq (Tasked (arc_value a.1)) p r × UsesRoom 0 0 0 p r) places.old.entries places.new.entries) }
-    ensures fewer { IfSome result (λ r. ask_count (shares_of places.new.entries) < ask_count (shares_of places.old.entries)) }
-    ensures alone { (k : K) → slice_get (names_of places.old.entries) at ≡ Some k → IfNone result ((j : K) → asks K.eq (shares_of places.old.entries) k (Tasked j) ≡ false) }
-    ensures none { IfNone result (IsChangedAt K.eq at (λ p r. Stays K.eq p r × UsesRoom 0 0 0 p r) places.old.entries places.new.entries) }
+    requires listed { IsListed K.eq (shares_of places.old.entries)
+        (map arc_value candidates.old.items) (vec_capacity candidates.old) }
+    ensures listed { IsListed K.eq (shares_of places.new.entries)
+        (map arc_value candidates.new.items) (vec_capacity candidates.new) }
+    ensures named { IfSome result
+        (λ r. slice_get (names_of places.old.entries) r.0 ≡ Some (arc_value r.1)) }
+    ensures asked { (k : K) → slice_get (names_of places.old.entries) at ≡ Some k
+        → IfSome result
+        (λ r. asks K.eq (shares_of places.old.entries) k (Tasked (arc_value r.1)) ≡ true) }
+    ensures some { IfSome result (λ a. IsChangedAt K.eq at
+        (λ p r. Left K.eq (Tasked (arc_value a.1)) p r × UsesRoom 0 0 0 p r) places.old.entries
+        places.new.entries) }
+    ensures fewer { IfSome result
+        (λ r. ask_count (shares_of places.new.entries) < ask_count (shares_of places.old.entries)) }
+    ensures alone { (k : K) → slice_get (names_of places.old.entries) at ≡ Some k
+        → IfNone result ((j : K) → asks K.eq (shares_of places.old.entries) k (Tasked j) ≡ false) }
+    ensures none { IfNone result (IsChangedAt K.eq at (λ p r. Stays K.eq p r × UsesRoom 0 0 0 p r)
+        places.old.entries places.new.entries) }
 {
     let Some(place) = places.get_index_mut(at) else {
         return None;
@@ -94,10 +113,14 @@ pub fn put_task<K: Eq + Hash + Drop, T: Drop>(
     requires equality { IsEquality K.eq }
     requires linked { IsLinked K.eq places.old.entries }
     requires place { has_place K.eq (shares_of places.old.entries) (arc_value key.now) ≡ true }
-    requires listed { IsListed K.eq (shares_of places.old.entries) (map arc_value candidates.old.items) (vec_capacity candidates.old) }
+    requires listed { IsListed K.eq (shares_of places.old.entries)
+        (map arc_value candidates.old.items) (vec_capacity candidates.old) }
     ensures linked { IsLinked K.eq places.new.entries }
-    ensures listed { IsListed K.eq (shares_of places.new.entries) (map arc_value candidates.new.items) (vec_capacity candidates.new) }
-    ensures changed { IsChanged K.eq (arc_value key.now) (λ p r. Turns K.eq (λ t. Some task) (λ e. true) (λ x b. b) (λ d b. b) p r × UsesRoom 0 0 0 p r) (shares_of places.old.entries) (shares_of places.new.entries) }
+    ensures listed { IsListed K.eq (shares_of places.new.entries)
+        (map arc_value candidates.new.items) (vec_capacity candidates.new) }
+    ensures changed { IsChanged K.eq (arc_value key.now) (λ p r. Turns K.eq (λ t. Some task)
+        (λ e. true) (λ x b. b) (λ d b. b) p r × UsesRoom 0 0 0 p r) (shares_of places.old.entries)
+        (shares_of places.new.entries) }
 {
     let Some(place) = places.get_mut(key) else {
         return;
@@ -115,10 +138,14 @@ pub fn end_task<K: Eq + Hash + Drop, T: Drop>(
 ) -> IndexMap<usize, Arc<K>>
     requires equality { IsEquality K.eq }
     requires linked { IsLinked K.eq places.old.entries }
-    ensures listed { KeepsListed K.eq (shares_of places.old.entries) (shares_of places.new.entries) }
+    ensures listed { KeepsListed K.eq (shares_of places.old.entries)
+        (shares_of places.new.entries) }
     ensures numbered { AreNumbered (names_of places.new.entries) result.entries }
-    ensures waits { (k : K) → slice_get (names_of places.old.entries) at ≡ Some k → map arc_value (values_of result.entries) ≡ waits_at K.eq (shares_of places.old.entries) k }
-    ensures changed { IsChangedAt K.eq at (λ p r. Turns K.eq (λ t. t) (λ e. false) (λ x b. b) (λ d b. false) p r × UsesRoom 0 0 p.wait_room p r) places.old.entries places.new.entries }
+    ensures waits { (k : K) → slice_get (names_of places.old.entries) at ≡ Some k
+        → map arc_value (values_of result.entries)
+        ≡ waits_at K.eq (shares_of places.old.entries) k }
+    ensures changed { IsChangedAt K.eq at (λ p r. Turns K.eq (λ t. t) (λ e. false) (λ x b. b)
+        (λ d b. false) p r × UsesRoom 0 0 p.wait_room p r) places.old.entries places.new.entries }
 {
     let none = IndexMap::new(alloc);
     let Some(place) = places.get_index_mut(at) else {
@@ -136,8 +163,12 @@ pub fn drop_wait<K: Eq + Hash + Drop, T: Drop>(
 )
     requires equality { IsEquality K.eq }
     requires linked { IsLinked K.eq places.old.entries }
-    ensures listed { KeepsListed K.eq (shares_of places.old.entries) (shares_of places.new.entries) }
-    ensures changed { (d : K) → slice_get (names_of places.old.entries) asked ≡ Some d → IsChangedAt K.eq at (λ p r. Turns K.eq (λ t. t) (λ e. e) (λ x b. b) (λ c b. b && not (K.eq d c)) p r × UsesRoom 0 0 0 p r) places.old.entries places.new.entries }
+    ensures listed { KeepsListed K.eq (shares_of places.old.entries)
+        (shares_of places.new.entries) }
+    ensures changed { (d : K) → slice_get (names_of places.old.entries) asked ≡ Some d
+        → IsChangedAt K.eq at (λ p r. Turns K.eq (λ t. t) (λ e. e) (λ x b. b)
+        (λ c b. b && not (K.eq d c)) p r × UsesRoom 0 0 0 p r) places.old.entries
+        places.new.entries }
 {
     let Some(place) = places.get_index_mut(at) else {
         return;
@@ -153,10 +184,14 @@ pub fn add_promise<K: Eq + Hash + Drop, T: Drop>(
 )
     requires equality { IsEquality K.eq }
     requires linked { IsLinked K.eq places.old.entries }
-    requires room { (asks K.eq (shares_of places.old.entries) (arc_value key.now) (Promised number) ≡ true) ⊎ (0 < promise_room K.eq (shares_of places.old.entries) (arc_value key.now)) }
+    requires room { (asks K.eq (shares_of places.old.entries) (arc_value key.now) (Promised number)
+        ≡ true) ⊎ (0 < promise_room K.eq (shares_of places.old.entries) (arc_value key.now)) }
     ensures linked { IsLinked K.eq places.new.entries }
-    ensures listed { KeepsListed K.eq (shares_of places.old.entries) (shares_of places.new.entries) }
-    ensures changed { IsChanged K.eq (arc_value key.now) (λ p r. Joined K.eq (Promised number) p r × UsesRoom 1 0 0 p r) (shares_of places.old.entries) (shares_of places.new.entries) }
+    ensures listed { KeepsListed K.eq (shares_of places.old.entries)
+        (shares_of places.new.entries) }
+    ensures changed { IsChanged K.eq (arc_value key.now)
+        (λ p r. Joined K.eq (Promised number) p r × UsesRoom 1 0 0 p r)
+        (shares_of places.old.entries) (shares_of places.new.entries) }
 {
     let Some(place) = places.get_mut(key) else {
         return;
@@ -174,9 +209,14 @@ pub fn add_asker<K: Eq + Hash + Drop, T: Drop>(
     requires equality { IsEquality K.eq }
     requires linked { IsLinked K.eq places.old.entries }
     requires named { slice_get (names_of places.old.entries) number ≡ Some (arc_value asker) }
-    requires room { (k : K) → slice_get (names_of places.old.entries) at ≡ Some k → (asks K.eq (shares_of places.old.entries) k (Tasked (arc_value asker)) ≡ true) ⊎ (0 < asker_room K.eq (shares_of places.old.entries) k) }
-    ensures listed { KeepsListed K.eq (shares_of places.old.entries) (shares_of places.new.entries) }
-    ensures changed { IsChangedAt K.eq at (λ p r. Joined K.eq (Tasked (arc_value asker)) p r × UsesRoom 0 1 0 p r) places.old.entries places.new.entries }
+    requires room { (k : K) → slice_get (names_of places.old.entries) at ≡ Some k
+        → (asks K.eq (shares_of places.old.entries) k (Tasked (arc_value asker)) ≡ true)
+        ⊎ (0 < asker_room K.eq (shares_of places.old.entries) k) }
+    ensures listed { KeepsListed K.eq (shares_of places.old.entries)
+        (shares_of places.new.entries) }
+    ensures changed { IsChangedAt K.eq at
+        (λ p r. Joined K.eq (Tasked (arc_value asker)) p r × UsesRoom 0 1 0 p r) places.old.entries
+        places.new.entries }
 {
     let Some(place) = places.get_index_mut(at) else {
         return;
@@ -184,7 +224,8 @@ pub fn add_asker<K: Eq + Hash + Drop, T: Drop>(
     let _ = place.askers.insert(number, asker);
 }
 
-/// Adds a key, with its number, to those that the task of another one waits for, in room made ahead. That one is given by number.
+/// Adds a key, with its number, to those that the task of another one waits for, in room made
+/// ahead. That one is given by number.
 pub fn add_wait<K: Eq + Hash + Drop, T: Drop>(
     places: &mut IndexMap<Arc<K>, Place<K, T>>,
     at: usize,
@@ -194,9 +235,14 @@ pub fn add_wait<K: Eq + Hash + Drop, T: Drop>(
     requires equality { IsEquality K.eq }
     requires linked { IsLinked K.eq places.old.entries }
     requires named { slice_get (names_of places.old.entries) number ≡ Some (arc_value asked) }
-    requires room { (k : K) → slice_get (names_of places.old.entries) at ≡ Some k → (list_any (K.eq (arc_value asked)) (waits_at K.eq (shares_of places.old.entries) k) ≡ true) ⊎ (0 < wait_room K.eq (shares_of places.old.entries) k) }
-    ensures listed { KeepsListed K.eq (shares_of places.old.entries) (shares_of places.new.entries) }
-    ensures changed { IsChangedAt K.eq at (λ p r. Turns K.eq (λ t. t) (λ e. e) (λ x b. b) (λ d b. b || K.eq (arc_value asked) d) p r × UsesRoom 0 0 1 p r) places.old.entries places.new.entries }
+    requires room { (k : K) → slice_get (names_of places.old.entries) at ≡ Some k
+        → (list_any (K.eq (arc_value asked)) (waits_at K.eq (shares_of places.old.entries) k)
+        ≡ true) ⊎ (0 < wait_room K.eq (shares_of places.old.entries) k) }
+    ensures listed { KeepsListed K.eq (shares_of places.old.entries)
+        (shares_of places.new.entries) }
+    ensures changed { IsChangedAt K.eq at (λ p r. Turns K.eq (λ t. t) (λ e. e) (λ x b. b)
+        (λ d b. b || K.eq (arc_value asked) d) p r × UsesRoom 0 0 1 p r) places.old.entries
+        places.new.entries }
 {
     let Some(place) = places.get_index_mut(at) else {
         return;

@@ -12,7 +12,8 @@ use std::alloc::Global;
 use std::hash::Hash;
 use std::sync::Arc;
 
-/// Makes a place for a key that has none, or gives the key to its place, if that has neither task nor key.
+/// Makes a place for a key that has none, or gives the key to its place, if that has neither task
+/// nor key.
 pub fn reserve_place<K: Eq + Hash + Drop, T: Drop>(
     places: &mut IndexMap<Arc<K>, Place<K, T>>,
     candidates: &mut Vec<Arc<K>>,
@@ -21,11 +22,14 @@ pub fn reserve_place<K: Eq + Hash + Drop, T: Drop>(
 ) -> Result<(), NoMemory>
     requires equality { IsEquality K.eq }
     requires linked { IsLinked K.eq places.old.entries }
-    requires listed { IsListed K.eq (shares_of places.old.entries) (map arc_value candidates.old.items) (vec_capacity candidates.old) }
+    requires listed { IsListed K.eq (shares_of places.old.entries)
+        (map arc_value candidates.old.items) (vec_capacity candidates.old) }
     ensures linked { IsLinked K.eq places.new.entries }
-    ensures listed { IsListed K.eq (shares_of places.new.entries) (map arc_value candidates.new.items) (vec_capacity candidates.new) }
+    ensures listed { IsListed K.eq (shares_of places.new.entries)
+        (map arc_value candidates.new.items) (vec_capacity candidates.new) }
     ensures kept { IsKept K.eq (shares_of places.old.entries) (shares_of places.new.entries) }
-    ensures ok { OnOk result (has_place K.eq (shares_of places.new.entries) (arc_value key.now) ≡ true) }
+    ensures ok { OnOk result
+        (has_place K.eq (shares_of places.new.entries) (arc_value key.now) ≡ true) }
 {
     if let Some(at) = places.get_index_of(key) {
         return reserve_there(places, at, key);
@@ -47,9 +51,11 @@ fn reserve_there<K: Eq + Hash + Drop, T: Drop>(
     requires linked { IsLinked K.eq places.old.entries }
     requires named { slice_get (names_of places.old.entries) at ≡ Some (arc_value key.now) }
     ensures linked { IsLinked K.eq places.new.entries }
-    ensures listed { KeepsListed K.eq (shares_of places.old.entries) (shares_of places.new.entries) }
+    ensures listed { KeepsListed K.eq (shares_of places.old.entries)
+        (shares_of places.new.entries) }
     ensures kept { IsKept K.eq (shares_of places.old.entries) (shares_of places.new.entries) }
-    ensures ok { OnOk result (has_place K.eq (shares_of places.new.entries) (arc_value key.now) ≡ true) }
+    ensures ok { OnOk result
+        (has_place K.eq (shares_of places.new.entries) (arc_value key.now) ≡ true) }
 {
     if !takes_task_at(places, at) {
         let name = Arc::try_clone(key)?;
@@ -65,7 +71,8 @@ fn takes_task_at<K: Eq + Hash + Drop, T: Drop>(
 ) -> bool
     requires equality { IsEquality K.eq }
     requires linked { IsLinked K.eq places.now.entries }
-    ensures { (k : K) → slice_get (names_of places.now.entries) at ≡ Some k → result ≡ has_place K.eq (shares_of places.now.entries) k }
+    ensures { (k : K) → slice_get (names_of places.now.entries) at ≡ Some k
+        → result ≡ has_place K.eq (shares_of places.now.entries) k }
 {
     match places.get_index(at) {
         Some((_, place)) => place.task.is_some() || place.name.is_some(),
@@ -84,7 +91,8 @@ fn name_place<K: Eq + Hash + Drop, T: Drop>(
     requires named { slice_get (names_of places.old.entries) at ≡ Some (arc_value name) }
     requires free { has_place K.eq (shares_of places.old.entries) (arc_value name) ≡ false }
     ensures linked { IsLinked K.eq places.new.entries }
-    ensures listed { KeepsListed K.eq (shares_of places.old.entries) (shares_of places.new.entries) }
+    ensures listed { KeepsListed K.eq (shares_of places.old.entries)
+        (shares_of places.new.entries) }
     ensures kept { IsKept K.eq (shares_of places.old.entries) (shares_of places.new.entries) }
     ensures ok { has_place K.eq (shares_of places.new.entries) (arc_value name) ≡ true }
 {
@@ -102,9 +110,13 @@ pub fn reserve_promise<K: Eq + Hash + Drop, T: Drop>(
     requires equality { IsEquality K.eq }
     requires linked { IsLinked K.eq places.old.entries }
     ensures linked { IsLinked K.eq places.new.entries }
-    ensures listed { KeepsListed K.eq (shares_of places.old.entries) (shares_of places.new.entries) }
-    ensures changed { IsChanged K.eq (arc_value key.now) (λ p r. Stays K.eq p r × UsesRoom 0 0 0 p r) (shares_of places.old.entries) (shares_of places.new.entries) }
-    ensures ok { OnOk result (has_place K.eq (shares_of places.old.entries) (arc_value key.now) ≡ true → 0 < promise_room K.eq (shares_of places.new.entries) (arc_value key.now)) }
+    ensures listed { KeepsListed K.eq (shares_of places.old.entries)
+        (shares_of places.new.entries) }
+    ensures changed { IsChanged K.eq (arc_value key.now)
+        (λ p r. Stays K.eq p r × UsesRoom 0 0 0 p r) (shares_of places.old.entries)
+        (shares_of places.new.entries) }
+    ensures ok { OnOk result (has_place K.eq (shares_of places.old.entries) (arc_value key.now)
+        ≡ true → 0 < promise_room K.eq (shares_of places.new.entries) (arc_value key.now)) }
 {
     let Some(place) = places.get_mut(key) else {
         return Ok(());
@@ -121,9 +133,13 @@ pub fn reserve_asker<K: Eq + Hash + Drop, T: Drop>(
     requires equality { IsEquality K.eq }
     requires linked { IsLinked K.eq places.old.entries }
     ensures linked { IsLinked K.eq places.new.entries }
-    ensures listed { KeepsListed K.eq (shares_of places.old.entries) (shares_of places.new.entries) }
-    ensures changed { IsChanged K.eq (arc_value key.now) (λ p r. Stays K.eq p r × UsesRoom 0 0 0 p r) (shares_of places.old.entries) (shares_of places.new.entries) }
-    ensures ok { OnOk result (has_place K.eq (shares_of places.old.entries) (arc_value key.now) ≡ true → 0 < asker_room K.eq (shares_of places.new.entries) (arc_value key.now)) }
+    ensures listed { KeepsListed K.eq (shares_of places.old.entries)
+        (shares_of places.new.entries) }
+    ensures changed { IsChanged K.eq (arc_value key.now)
+        (λ p r. Stays K.eq p r × UsesRoom 0 0 0 p r) (shares_of places.old.entries)
+        (shares_of places.new.entries) }
+    ensures ok { OnOk result (has_place K.eq (shares_of places.old.entries) (arc_value key.now)
+        ≡ true → 0 < asker_room K.eq (shares_of places.new.entries) (arc_value key.now)) }
 {
     let Some(place) = places.get_mut(key) else {
         return Ok(());
@@ -141,9 +157,13 @@ pub fn reserve_waits<K: Eq + Hash + Drop, T: Drop>(
     requires equality { IsEquality K.eq }
     requires linked { IsLinked K.eq places.old.entries }
     ensures linked { IsLinked K.eq places.new.entries }
-    ensures listed { KeepsListed K.eq (shares_of places.old.entries) (shares_of places.new.entries) }
-    ensures changed { IsChanged K.eq (arc_value key.now) (λ p r. Stays K.eq p r × UsesRoom 0 0 0 p r) (shares_of places.old.entries) (shares_of places.new.entries) }
-    ensures ok { OnOk result (has_place K.eq (shares_of places.old.entries) (arc_value key.now) ≡ true → additional ≤ wait_room K.eq (shares_of places.new.entries) (arc_value key.now)) }
+    ensures listed { KeepsListed K.eq (shares_of places.old.entries)
+        (shares_of places.new.entries) }
+    ensures changed { IsChanged K.eq (arc_value key.now)
+        (λ p r. Stays K.eq p r × UsesRoom 0 0 0 p r) (shares_of places.old.entries)
+        (shares_of places.new.entries) }
+    ensures ok { OnOk result (has_place K.eq (shares_of places.old.entries) (arc_value key.now)
+        ≡ true → additional ≤ wait_room K.eq (shares_of places.new.entries) (arc_value key.now)) }
 {
     let Some(place) = places.get_mut(key) else {
         return Ok(());

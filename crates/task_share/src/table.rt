@@ -32,11 +32,12 @@ use std::sync::Arc;
 
 /// The tasks of one epoch, each shared by all who ask for it.
 ///
-/// A key may have a task, which has ended or not, and askers: promises and other tasks. A task waits for the keys that it asks
-/// for. Askers are a set: who joins twice has joined once.
+/// A key may have a task, which has ended or not, and askers: promises and other tasks. A task
+/// waits for the keys that it asks for. Askers are a set: who joins twice has joined once.
 ///
-/// A call takes constant time, however many tasks and askers there are, but for growth; `ended` and `next_unasked` take it for
-/// each key that the task waited for, and `next_unasked` for each candidate, which an earlier call made.
+/// A call takes constant time, however many tasks and askers there are, but for growth; `ended` and
+/// `next_unasked` take it for each key that the task waited for, and `next_unasked` for each
+/// candidate, which an earlier call made.
 pub struct Table<K: Eq + Hash + Drop, T: Drop> {
     places: IndexMap<Arc<K>, Place<K, T>>,
     candidates: Vec<Arc<K>>,
@@ -65,7 +66,9 @@ impl<K: Eq + Hash + Drop, T: Drop> Model for Table<K, T> {
 
     ghost view = { λ a. shares_of a.places.entries };
 
-    ghost invariant = { λ a. IsEquality K.eq × IsWhole K.eq (shares_of a.places.entries) (map arc_value a.candidates.items) (vec_capacity a.candidates) × IsLinked K.eq a.places.entries };
+    ghost invariant = { λ a. IsEquality K.eq
+        × IsWhole K.eq (shares_of a.places.entries) (map arc_value a.candidates.items)
+        (vec_capacity a.candidates) × IsLinked K.eq a.places.entries };
 }
 
 impl<K: Eq + Hash + Drop, T: Drop> Table<K, T> {
@@ -91,12 +94,16 @@ impl<K: Eq + Hash + Drop, T: Drop> Table<K, T> {
         room::reserve_place(&mut self.places, &mut self.candidates, self.alloc, key)
     }
 
-    /// Puts a task, which has not ended, to a key with room for it that has none or an ended one. The askers stay. It takes no memory.
+    /// Puts a task, which has not ended, to a key with room for it that has none or an ended one.
+    /// The askers stay. It takes no memory.
     pub fn make_reserved(&mut self, key: &Arc<K>, task: T)
         requires room { has_place K.eq self.old (arc_value key.now) ≡ true }
         requires free { is_live K.eq self.old (arc_value key.now) ≡ false }
-        ensures tasks { (q : K) → task_at K.eq self.new q ≡ (if K.eq (arc_value key.now) q then Some task else task_at K.eq self.old q) }
-        ensures live { (q : K) → is_live K.eq self.new q ≡ (K.eq (arc_value key.now) q || is_live K.eq self.old q) }
+        ensures tasks { (q : K)
+            → task_at K.eq self.new q
+            ≡ (if K.eq (arc_value key.now) q then Some task else task_at K.eq self.old q) }
+        ensures live { (q : K)
+            → is_live K.eq self.new q ≡ (K.eq (arc_value key.now) q || is_live K.eq self.old q) }
         ensures asks { KeepsAsks K.eq self.old self.new }
         ensures room { KeepsRoom K.eq self.old self.new }
     {
@@ -108,8 +115,11 @@ impl<K: Eq + Hash + Drop, T: Drop> Table<K, T> {
     /// At an error all is as before, but for room, and the task is dropped.
     pub fn make(&mut self, key: &Arc<K>, task: T) -> Result<(), NoMemory>
         requires { is_live K.eq self.old (arc_value key.now) ≡ false }
-        ensures tasks { OnOk result ((q : K) → task_at K.eq self.new q ≡ (if K.eq (arc_value key.now) q then Some task else task_at K.eq self.old q)) }
-        ensures live { OnOk result ((q : K) → is_live K.eq self.new q ≡ (K.eq (arc_value key.now) q || is_live K.eq self.old q)) }
+        ensures tasks { OnOk result ((q : K)
+            → task_at K.eq self.new q
+            ≡ (if K.eq (arc_value key.now) q then Some task else task_at K.eq self.old q)) }
+        ensures live { OnOk result ((q : K)
+            → is_live K.eq self.new q ≡ (K.eq (arc_value key.now) q || is_live K.eq self.old q)) }
         ensures asks { KeepsAsks K.eq self.old self.new }
         ensures room { KeepsRoom K.eq self.old self.new }
         ensures err { OnErr result (KeepsTasks K.eq self.old self.new) }
@@ -154,22 +164,33 @@ impl<K: Eq + Hash + Drop, T: Drop> Table<K, T> {
 
     /// Adds a promise to the askers of a key, in room made ahead. It takes no memory.
     pub fn add_promise(&mut self, key: &Arc<K>, number: u64)
-        requires { (asks K.eq self.old (arc_value key.now) (Promised number) ≡ true) ⊎ (0 < promise_room K.eq self.old (arc_value key.now)) }
+        requires { (asks K.eq self.old (arc_value key.now) (Promised number) ≡ true)
+            ⊎ (0 < promise_room K.eq self.old (arc_value key.now)) }
         ensures tasks { KeepsTasks K.eq self.old self.new }
-        ensures asks { (q : K) (a : By K) → asks K.eq self.new q a ≡ (asks K.eq self.old q a || (K.eq (arc_value key.now) q && is_by K.eq (Promised number) a)) }
-        ensures room { UsesRoomOf K.eq (λ q. if K.eq (arc_value key.now) q then 1 else 0) (λ q. 0) (λ q. 0) self.old self.new }
+        ensures asks { (q : K) (a : By K)
+            → asks K.eq self.new q a
+            ≡ (asks K.eq self.old q a
+            || (K.eq (arc_value key.now) q && is_by K.eq (Promised number) a)) }
+        ensures room { UsesRoomOf K.eq (λ q. if K.eq (arc_value key.now) q then 1 else 0) (λ q. 0)
+            (λ q. 0) self.old self.new }
         ensures count { ask_count self.new ≤ ask_count self.old }
     {
         add_promise(&mut self.places, key, number);
     }
 
-    /// Adds a task to the askers of the key that it waits for, in room made ahead. It takes no memory.
+    /// Adds a task to the askers of the key that it waits for, in room made ahead. It takes no
+    /// memory.
     pub fn add_wait(&mut self, wait: Wait<K>)
-        requires asker { (asks K.eq self.old wait.key (Tasked wait.asker) ≡ true) ⊎ (0 < asker_room K.eq self.old wait.key) }
-        requires wait { (asks K.eq self.old wait.key (Tasked wait.asker) ≡ true) ⊎ (0 < wait_room K.eq self.old wait.asker) }
+        requires asker { (asks K.eq self.old wait.key (Tasked wait.asker) ≡ true)
+            ⊎ (0 < asker_room K.eq self.old wait.key) }
+        requires wait { (asks K.eq self.old wait.key (Tasked wait.asker) ≡ true)
+            ⊎ (0 < wait_room K.eq self.old wait.asker) }
         ensures tasks { KeepsTasks K.eq self.old self.new }
-        ensures asks { (q : K) (a : By K) → asks K.eq self.new q a ≡ (asks K.eq self.old q a || (K.eq wait.key q && is_by K.eq (Tasked wait.asker) a)) }
-        ensures room { UsesRoomOf K.eq (λ q. 0) (λ q. if K.eq wait.key q then 1 else 0) (λ q. if K.eq wait.asker q then 1 else 0) self.old self.new }
+        ensures asks { (q : K) (a : By K)
+            → asks K.eq self.new q a
+            ≡ (asks K.eq self.old q a || (K.eq wait.key q && is_by K.eq (Tasked wait.asker) a)) }
+        ensures room { UsesRoomOf K.eq (λ q. 0) (λ q. if K.eq wait.key q then 1 else 0)
+            (λ q. if K.eq wait.asker q then 1 else 0) self.old self.new }
         ensures count { ask_count self.new ≤ ask_count self.old + 1 }
     {
         let (key, asker) = wait.into_parts();
@@ -186,7 +207,10 @@ impl<K: Eq + Hash + Drop, T: Drop> Table<K, T> {
     /// Adds an asker to a key. At an error all is as before, but for room.
     pub fn join(&mut self, key: &Arc<K>, asker: Asker<K>) -> Result<(), NoMemory>
         ensures tasks { KeepsTasks K.eq self.old self.new }
-        ensures asks { OnOk result ((q : K) (a : By K) → asks K.eq self.new q a ≡ (asks K.eq self.old q a || (K.eq (arc_value key.now) q && is_by K.eq (by_of asker) a))) }
+        ensures asks { OnOk result ((q : K) (a : By K)
+            → asks K.eq self.new q a
+            ≡ (asks K.eq self.old q a
+            || (K.eq (arc_value key.now) q && is_by K.eq (by_of asker) a))) }
         ensures err { OnErr result (KeepsAsks K.eq self.old self.new) }
         ensures count { ask_count self.new ≤ ask_count self.old + 1 }
     {
@@ -198,7 +222,10 @@ impl<K: Eq + Hash + Drop, T: Drop> Table<K, T> {
 
     fn join_promise(&mut self, key: &Arc<K>, number: u64) -> Result<(), NoMemory>
         ensures tasks { KeepsTasks K.eq self.old self.new }
-        ensures asks { OnOk result ((q : K) (a : By K) → asks K.eq self.new q a ≡ (asks K.eq self.old q a || (K.eq (arc_value key.now) q && is_by K.eq (Promised number) a))) }
+        ensures asks { OnOk result ((q : K) (a : By K)
+            → asks K.eq self.new q a
+            ≡ (asks K.eq self.old q a
+            || (K.eq (arc_value key.now) q && is_by K.eq (Promised number) a))) }
         ensures err { OnErr result (KeepsAsks K.eq self.old self.new) }
         ensures count { ask_count self.new ≤ ask_count self.old + 1 }
     {
@@ -209,7 +236,10 @@ impl<K: Eq + Hash + Drop, T: Drop> Table<K, T> {
 
     fn join_task(&mut self, key: &Arc<K>, asker: &Arc<K>) -> Result<(), NoMemory>
         ensures tasks { KeepsTasks K.eq self.old self.new }
-        ensures asks { OnOk result ((q : K) (a : By K) → asks K.eq self.new q a ≡ (asks K.eq self.old q a || (K.eq (arc_value key.now) q && is_by K.eq (Tasked (arc_value asker.now)) a))) }
+        ensures asks { OnOk result ((q : K) (a : By K)
+            → asks K.eq self.new q a
+            ≡ (asks K.eq self.old q a
+            || (K.eq (arc_value key.now) q && is_by K.eq (Tasked (arc_value asker.now)) a))) }
         ensures err { OnErr result (KeepsAsks K.eq self.old self.new) }
         ensures count { ask_count self.new ≤ ask_count self.old + 1 }
     {
@@ -223,7 +253,10 @@ impl<K: Eq + Hash + Drop, T: Drop> Table<K, T> {
     /// Takes an asker away from a key. It takes no memory.
     pub fn leave(&mut self, key: &Arc<K>, asker: &Asker<K>)
         ensures tasks { KeepsTasks K.eq self.old self.new }
-        ensures asks { (q : K) (a : By K) → asks K.eq self.new q a ≡ (asks K.eq self.old q a && not (K.eq (arc_value key.now) q && is_by K.eq (by_of asker.now) a)) }
+        ensures asks { (q : K) (a : By K)
+            → asks K.eq self.new q a
+            ≡ (asks K.eq self.old q a
+            && not (K.eq (arc_value key.now) q && is_by K.eq (by_of asker.now) a)) }
         ensures room { KeepsRoom K.eq self.old self.new }
     {
         match asker {
@@ -234,7 +267,10 @@ impl<K: Eq + Hash + Drop, T: Drop> Table<K, T> {
 
     fn leave_by_promise(&mut self, key: &Arc<K>, number: u64)
         ensures tasks { KeepsTasks K.eq self.old self.new }
-        ensures asks { (q : K) (a : By K) → asks K.eq self.new q a ≡ (asks K.eq self.old q a && not (K.eq (arc_value key.now) q && is_by K.eq (Promised number) a)) }
+        ensures asks { (q : K) (a : By K)
+            → asks K.eq self.new q a
+            ≡ (asks K.eq self.old q a
+            && not (K.eq (arc_value key.now) q && is_by K.eq (Promised number) a)) }
         ensures room { KeepsRoom K.eq self.old self.new }
     {
         leave_promise(&mut self.places, &mut self.candidates, key, number);
@@ -242,7 +278,10 @@ impl<K: Eq + Hash + Drop, T: Drop> Table<K, T> {
 
     fn leave_by_task(&mut self, key: &Arc<K>, asker: &Arc<K>)
         ensures tasks { KeepsTasks K.eq self.old self.new }
-        ensures asks { (q : K) (a : By K) → asks K.eq self.new q a ≡ (asks K.eq self.old q a && not (K.eq (arc_value key.now) q && is_by K.eq (Tasked (arc_value asker.now)) a)) }
+        ensures asks { (q : K) (a : By K)
+            → asks K.eq self.new q a
+            ≡ (asks K.eq self.old q a
+            && not (K.eq (arc_value key.now) q && is_by K.eq (Tasked (arc_value asker.now)) a)) }
         ensures room { KeepsRoom K.eq self.old self.new }
     {
         let Some(at) = self.places.get_index_of(key) else {
@@ -255,15 +294,22 @@ impl<K: Eq + Hash + Drop, T: Drop> Table<K, T> {
         drop_wait(&mut self.places, from, at);
     }
 
-    /// Takes one asking task away from a key, and gives its key; `None` exactly if no task asks for the key. It takes no memory.
+    /// Takes one asking task away from a key, and gives its key; `None` exactly if no task asks for
+    /// the key. It takes no memory.
     ///
     /// Each asker that it gives lowers the number of asks of tasks, so a loop over it ends.
     pub fn take_asker(&mut self, key: &Arc<K>) -> Option<Arc<K>>
         ensures tasks { KeepsTasks K.eq self.old self.new }
-        ensures asked { IfSome result (λ j. asks K.eq self.old (arc_value key.now) (Tasked (arc_value j)) ≡ true) }
-        ensures asks { IfSome result (λ j. (q : K) (a : By K) → asks K.eq self.new q a ≡ (asks K.eq self.old q a && not (K.eq (arc_value key.now) q && is_by K.eq (Tasked (arc_value j)) a))) }
+        ensures asked { IfSome result
+            (λ j. asks K.eq self.old (arc_value key.now) (Tasked (arc_value j)) ≡ true) }
+        ensures asks { IfSome result (λ j. (q : K) (a : By K)
+            → asks K.eq self.new q a
+            ≡ (asks K.eq self.old q a
+            && not (K.eq (arc_value key.now) q && is_by K.eq (Tasked (arc_value j)) a))) }
         ensures fewer { IfSome result (λ j. ask_count self.new < ask_count self.old) }
-        ensures none { IfNone result (((j : K) → asks K.eq self.old (arc_value key.now) (Tasked j) ≡ false) × KeepsAsks K.eq self.old self.new) }
+        ensures none { IfNone result (((j : K)
+            → asks K.eq self.old (arc_value key.now) (Tasked j) ≡ false)
+            × KeepsAsks K.eq self.old self.new) }
         ensures room { KeepsRoom K.eq self.old self.new }
     {
         let Some(at) = self.places.get_index_of(key) else {
@@ -279,8 +325,12 @@ impl<K: Eq + Hash + Drop, T: Drop> Table<K, T> {
     /// Notes that the task of the key has ended, and withdraws its own asks. It takes no memory.
     pub fn ended(&mut self, key: &Arc<K>)
         ensures tasks { (q : K) → task_at K.eq self.new q ≡ task_at K.eq self.old q }
-        ensures live { (q : K) → is_live K.eq self.new q ≡ (is_live K.eq self.old q && not (K.eq (arc_value key.now) q)) }
-        ensures asks { (q : K) (a : By K) → asks K.eq self.new q a ≡ (asks K.eq self.old q a && not (is_by K.eq (Tasked (arc_value key.now)) a)) }
+        ensures live { (q : K)
+            → is_live K.eq self.new q
+            ≡ (is_live K.eq self.old q && not (K.eq (arc_value key.now) q)) }
+        ensures asks { (q : K) (a : By K)
+            → asks K.eq self.new q a
+            ≡ (asks K.eq self.old q a && not (is_by K.eq (Tasked (arc_value key.now)) a)) }
         ensures room { KeepsOtherRoom K.eq (arc_value key.now) self.old self.new }
         ensures count { live_count self.new ≤ live_count self.old }
     {
@@ -291,18 +341,25 @@ impl<K: Eq + Hash + Drop, T: Drop> Table<K, T> {
         withdraw(&mut self.places, &mut self.candidates, at, waits);
     }
 
-    /// Takes one task out that has not ended and has no asker, and withdraws its own asks; `None` exactly if there is no such
-    /// task. Called until `None` it is the cascade (`drops_unheld`). It takes no memory.
+    /// Takes one task out that has not ended and has no asker, and withdraws its own asks; `None`
+    /// exactly if there is no such task. Called until `None` it is the cascade (`drops_unheld`). It
+    /// takes no memory.
     ///
-    /// Each call takes a candidate, and those are only what lost its last asker or was made without one. Each task that it gives
-    /// lowers the number of tasks that have not ended, so a loop over it ends.
+    /// Each call takes a candidate, and those are only what lost its last asker or was made without
+    /// one. Each task that it gives lowers the number of tasks that have not ended, so a loop over
+    /// it ends.
     pub fn next_unasked(&mut self) -> Option<(Arc<K>, T)>
-        ensures some { IfSome result (λ r. Takes K.eq (asked_of K.eq self.old) (arc_value r.0) (asked_of K.eq self.new)) }
+        ensures some { IfSome result
+            (λ r. Takes K.eq (asked_of K.eq self.old) (arc_value r.0) (asked_of K.eq self.new)) }
         ensures task { IfSome result (λ r. task_at K.eq self.old (arc_value r.0) ≡ Some r.1) }
-        ensures tasks { IfSome result (λ r. (q : K) → task_at K.eq self.new q ≡ (if K.eq (arc_value r.0) q then None else task_at K.eq self.old q)) }
+        ensures tasks { IfSome result (λ r. (q : K)
+            → task_at K.eq self.new q
+            ≡ (if K.eq (arc_value r.0) q then None else task_at K.eq self.old q)) }
         ensures room { IfSome result (λ r. KeepsOtherRoom K.eq (arc_value r.0) self.old self.new) }
         ensures fewer { IfSome result (λ r. live_count self.new < live_count self.old) }
-        ensures none { IfNone result (IsDone (asked_of K.eq self.old) × KeepsTasks K.eq self.old self.new × KeepsAsks K.eq self.old self.new × KeepsRoom K.eq self.old self.new) }
+        ensures none { IfNone result (IsDone (asked_of K.eq self.old)
+            × KeepsTasks K.eq self.old self.new × KeepsAsks K.eq self.old self.new
+            × KeepsRoom K.eq self.old self.new) }
     {
         let Some((key, task, waits)) = pop_idle(&mut self.places, &mut self.candidates, self.alloc)
         else {
@@ -325,7 +382,8 @@ impl<K: Eq + Hash + Drop, T: Drop> Table<K, T> {
 
     /// The task of the key, ended or not, to be changed. What is written changes this task alone.
     pub fn task_mut(&mut self, key: &Arc<K>) -> Option<&mut T>
-        ensures* writes_back { sem 𝓛 (LendsTask K.row T.row K.eq K.hash_input self.entry (arc_value key.now) result) }
+        ensures* writes_back { sem 𝓛
+            (LendsTask K.row T.row K.eq K.hash_input self.entry (arc_value key.now) result) }
         ensures value { option_copied_mut result ≡ task_at K.eq self.old (arc_value key.now) }
     {
         let place = self.places.get_mut(key)?;
@@ -347,9 +405,14 @@ impl<K: Eq + Hash + Drop, T: Drop> Table<K, T> {
 
     /// The askers of the key, which may be none. No promise and no task stands there twice.
     pub fn askers(&self, key: &Arc<K>) -> Askers<'_, K>
-        ensures promises { (n : ℕ) → list_any (nat_eq n) result.promises.now ≡ asks K.eq self.now (arc_value key.now) (Promised n) }
-        ensures tasks { (j : K) → list_any (K.eq j) (map arc_value result.tasks.now) ≡ asks K.eq self.now (arc_value key.now) (Tasked j) }
-        ensures numbers { map (key_at self.now) result.numbers.now ≡ map Some (map arc_value result.tasks.now) }
+        ensures promises { (n : ℕ)
+            → list_any (nat_eq n) result.promises.now
+            ≡ asks K.eq self.now (arc_value key.now) (Promised n) }
+        ensures tasks { (j : K)
+            → list_any (K.eq j) (map arc_value result.tasks.now)
+            ≡ asks K.eq self.now (arc_value key.now) (Tasked j) }
+        ensures numbers { map (key_at self.now) result.numbers.now
+            ≡ map Some (map arc_value result.tasks.now) }
         ensures distinct { AreDistinct (map arc_value result.tasks.now) }
         ensures distinct_promises { AreDistinct result.promises.now }
     {
@@ -367,7 +430,8 @@ impl<K: Eq + Hash + Drop, T: Drop> Table<K, T> {
         }
     }
 
-    /// The keys that the task of the key waits for, in no order. They are those that it asks for (`table_in_order`).
+    /// The keys that the task of the key waits for, in no order. They are those that it asks for
+    /// (`table_in_order`).
     pub fn waits(&self, key: &Arc<K>) -> &[Arc<K>]
         ensures { map arc_value result.now ≡ waits_at K.eq self.now (arc_value key.now) }
     {
@@ -423,14 +487,16 @@ impl<K: Eq + Hash + Drop, T: Drop> Waits for Table<K, T> {
     }
 }
 
-/// What every table keeps: keys that are equal are the same; a task waits for just the keys that it asks for; a key whose task has
-/// not ended has one; no key stands twice; and each key that is waited for has its number. It does no work, and hands these facts to its caller.
+/// What every table keeps: keys that are equal are the same; a task waits for just the keys that it
+/// asks for; a key whose task has not ended has one; no key stands twice; and each key that is
+/// waited for has its number. It does no work, and hands these facts to its caller.
 pub fn table_in_order<K: Eq + Hash + Drop, T: Drop>(table: &Table<K, T>)
     ensures equality { IsEquality K.eq }
     ensures waits { IsMirrored K.eq table.now }
     ensures there { (k : K) → is_live K.eq table.now k ≡ true → IsSome (task_at K.eq table.now k) }
     ensures distinct { AreDistinct (keys_of table.now) }
-    ensures numbered { (k d : K) → list_any (K.eq d) (waits_at K.eq table.now k) ≡ true → key_at table.now (number_of K.eq table.now d) ≡ Some d }
+    ensures numbered { (k d : K) → list_any (K.eq d) (waits_at K.eq table.now k) ≡ true
+        → key_at table.now (number_of K.eq table.now d) ≡ Some d }
 {
     let _ = &table.places;
 }

@@ -36,15 +36,19 @@ impl<S: Tale> Turnstile<S> {
         }
     }
 
-    /// Ends the turn. The state's list has to be the one that the turn found, and then events that tell no number, or that of this seat, which has to be a writer.
+    /// Ends the turn. The state's list has to be the one that the turn found, and then events that
+    /// tell no number, or that of this seat, which has to be a writer.
     pub fn leave(&self, turn: Turn<'_, S>)
         requires own { (seat_in turn).turnstile ≡ self.now }
-        requires grows { Grows S.by (seat_in turn).number (seat_in turn).writers (seat_in turn).seen (S.list turn.state) }
+        requires grows { Grows S.by (seat_in turn).number (seat_in turn).writers (seat_in turn).seen
+            (S.list turn.state) }
         ensures seen { turn.exit.0.now.seen ≡ S.list turn.entry.state }
-        ensures mine { turn.exit.0.now.mine ≡ events_by S.by turn.exit.0.now.number turn.exit.0.now.seen }
+        ensures mine { turn.exit.0.now.mine
+            ≡ events_by S.by turn.exit.0.now.number turn.exit.0.now.seen }
         ensures left { turn.exit.0.now.left ≡ S.counts turn.entry.state }
         ensures turns { turn.exit.0.now.turns ≡ (seat_in turn.entry).turns + 1 }
-        ensures floor { ((seat_in turn.entry).floor ≤ turn.exit.0.now.floor) × (S.version turn.exit.0.now.seen ≤ turn.exit.0.now.floor) }
+        ensures floor { ((seat_in turn.entry).floor ≤ turn.exit.0.now.floor)
+            × (S.version turn.exit.0.now.seen ≤ turn.exit.0.now.floor) }
         ensures below { AllBelow S.by turn.exit.0.now.writers turn.exit.0.now.seen }
         ensures noted { EachNote (NotedIn S.by turn.exit.0.now.seen) turn.exit.0.now.ended }
         ensures same { IsAfterTurn (seat_in turn.entry) turn.exit.0.now }
@@ -56,7 +60,8 @@ impl<S: Tale> Turnstile<S> {
         *place = Seat::settle(raw, numbers, left);
     }
 
-    /// The version that is shown now, by one look: it is no less than what the seat knows of, and the seat knows it from then on.
+    /// The version that is shown now, by one look: it is no less than what the seat knows of, and
+    /// the seat knows it from then on.
     pub fn newest(&self, seat: &mut Seat<S::Event>) -> u64
         requires own { seat.old.turnstile ≡ self.now }
         requires away { IsAway seat.old }
@@ -70,7 +75,8 @@ impl<S: Tale> Turnstile<S> {
         version
     }
 
-    /// A new seat with the least spare number, which has seen what this one has. It takes no memory, and is never refused.
+    /// A new seat with the least spare number, which has seen what this one has. It takes no
+    /// memory, and is never refused.
     pub fn split(&self, seat: &mut Seat<S::Event>) -> Result<Seat<S::Event>, NoMemory>
         requires own { seat.old.turnstile ≡ self.now }
         requires away { IsAway seat.old }
@@ -94,7 +100,8 @@ impl<S: Tale> Turnstile<S> {
         Ok(Seat::settle(new, given, (0, 0, 0)))
     }
 
-    /// Ends another seat, whose number it answers. This seat has seen from then on what either has, and notes the other's events and those of the seats that were joined to it.
+    /// Ends another seat, whose number it answers. This seat has seen from then on what either has,
+    /// and notes the other's events and those of the seats that were joined to it.
     pub fn join(&self, seat: &mut Seat<S::Event>, other: Seat<S::Event>) -> u64
         requires own { seat.old.turnstile ≡ self.now }
         requires own_other { other.turnstile ≡ self.now }
@@ -104,7 +111,9 @@ impl<S: Tale> Turnstile<S> {
         ensures seen { seat.new.seen ≡ longer seat.old.seen other.seen }
         ensures floor { seat.new.floor ≡ max seat.old.floor other.floor }
         ensures ended { seat.new.ended ≡ note_of seat.old other ∷ (seat.old.ended ++ other.ended) }
-        ensures same { seat.new ≡ record seat.old { seen = seat.new.seen; floor = seat.new.floor; ended = seat.new.ended } }
+        ensures same { seat.new
+            ≡ record seat.old
+            { seen = seat.new.seen; floor = seat.new.floor; ended = seat.new.ended } }
     {
         let mut other = other;
         let (mut raw, numbers, left) = seat.lift();

@@ -1,4 +1,6 @@
-//! Turns on one state. A seat takes a ticket and waits until it is served. Then it has the state alone, until it leaves. The state stands for a list of events that only grows, and what each seat has seen is a beginning of that one list.
+//! Turns on one state. A seat takes a ticket and waits until it is served. Then it has the state
+//! alone, until it leaves. The state stands for a list of events that only grows, and what each
+//! seat has seen is a beginning of that one list.
 #![tactic(auto)]
 
 mod calls;

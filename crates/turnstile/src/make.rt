@@ -31,7 +31,9 @@ fn only<S>(mut slots: Vec<Option<S>>) -> S
 }
 
 impl<S: Tale> Turnstile<S> {
-    /// A turnstile round a state whose list is empty, and its first seat, which has the number 0 and the spare numbers 1 to 2^32 - 1. Seats with a number below `writers` may make events that tell it. If there is no memory the state comes back as it was.
+    /// A turnstile round a state whose list is empty, and its first seat, which has the number 0
+    /// and the spare numbers 1 to 2^32 - 1. Seats with a number below `writers` may make events
+    /// that tell it. If there is no memory the state comes back as it was.
     pub fn new(
         alloc: Global,
         state: S,
@@ -60,7 +62,8 @@ impl<S: Tale> Turnstile<S> {
         }
     }
 
-    /// Waits for a turn of this seat, and hands the state out as `enter` would lend it. If the turn of another seat was never left, it waits for ever. It takes no memory.
+    /// Waits for a turn of this seat, and hands the state out as `enter` would lend it. If the turn
+    /// of another seat was never left, it waits for ever. It takes no memory.
     pub fn end<R: Wait>(self, rt: &R, seat: Seat<S::Event>) -> S
         requires own { seat.turnstile ≡ self }
         requires away { IsAway seat }

@@ -16,7 +16,9 @@ pub(crate) struct Numbers {
     pub(crate) spare_end: u64,
 }
 
-/// A place in the line of a turnstile whose events are `E`. It may travel to another thread, and names no state. Contracts see it as a `SeatView`. While it has a turn, a blank seat stands in its place, which is not away.
+/// A place in the line of a turnstile whose events are `E`. It may travel to another thread, and
+/// names no state. Contracts see it as a `SeatView`. While it has a turn, a blank seat stands in
+/// its place, which is not away.
 #[derive(Drop)]
 pub struct Seat<E> {
     badge: Badge<View<E>>,
@@ -32,7 +34,8 @@ impl<E> Model for Seat<E> {
 
     ghost view = { λ s. badge_view s.badge.table_id s.badge.views };
 
-    ghost invariant = { λ s. IsSeat (badge_view s.badge.table_id s.badge.views) s.badge.views s.numbers.own s.numbers.spare_start s.numbers.spare_end s.left };
+    ghost invariant = { λ s. IsSeat (badge_view s.badge.table_id s.badge.views) s.badge.views
+        s.numbers.own s.numbers.spare_start s.numbers.spare_end s.left };
 }
 
 impl<E> Seat<E> {
@@ -72,12 +75,14 @@ impl<E> Seat<E> {
         }
     }
 
-    // The seat as it steps at the table, with its numbers and its tally. A blank one stands in its place.
+    // The seat as it steps at the table, with its numbers and its tally. A blank one stands in its
+    // place.
     pub(crate) fn lift<S>(&mut self) -> (RawSeat<Option<S>, View<E>>, Numbers, (u64, u64, u64))
         requires { IsAway self.old }
         ensures free { IsFree result.0.me }
         ensures view { view_of result.0.table_id result.0.me.0 ≡ self.old }
-        ensures numbers { HasNumbers result.0.me.0 result.1.own result.1.spare_start result.1.spare_end }
+        ensures numbers { HasNumbers result.0.me.0 result.1.own result.1.spare_start
+            result.1.spare_end }
         ensures left { result.0.me.0.left ≡ result.2 }
     {
         let Seat {

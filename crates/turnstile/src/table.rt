@@ -16,7 +16,8 @@ impl<S: Tale> TableRule<Option<S>, View<S::Event>, u64> for InTurns {
     ghost first = { first_view };
 }
 
-/// Turns on a state `S`. It may be shared by threads, each with a seat of its own. Contracts see it as the identity of its table.
+/// Turns on a state `S`. It may be shared by threads, each with a seat of its own. Contracts see it
+/// as the identity of its table.
 #[derive(Drop)]
 pub struct Turnstile<S: Tale> {
     pub(crate) table: Table<Option<S>, View<S::Event>, u64, InTurns, Global>,
@@ -32,7 +33,8 @@ impl<S: Tale> Model for Turnstile<S> {
 
     ghost view = { λ t. t.table.shared.table_id };
 
-    ghost invariant = { λ t. (t.table.shared.table_id.words ≡ 3) × (t.table.shared.table_id.slots ≡ 1) };
+    ghost invariant = { λ t. (t.table.shared.table_id.words ≡ 3)
+        × (t.table.shared.table_id.slots ≡ 1) };
 }
 
 // A seat of the table, as it steps.

@@ -19,7 +19,8 @@ pub(crate) const VERSIONS: usize = 2;
 
 const STATE: usize = 0;
 
-/// How often a seat looks whether its ticket is served before it sleeps: for some tens of microseconds, the time of many turns.
+/// How often a seat looks whether its ticket is served before it sleeps: for some tens of
+/// microseconds, the time of many turns.
 const SPINS: u32 = 16;
 
 /// How long a seat in line sleeps at most between two looks, in milliseconds.
@@ -31,7 +32,8 @@ impl<S: Tale> Turnstile<S> {
         requires own { seat.old.table_id ≡ self.now }
         requires away { seat.old.me.0.stage ≡ Away }
         ensures seat { IsSameSeat seat.old seat.new }
-        ensures ticket { (t : ℕ) × Ticket t result × (seat.new.me ≡ (waiting seat.old.me.0 t, seat.old.me.1)) }
+        ensures ticket { (t : ℕ) × Ticket t result
+            × (seat.new.me ≡ (waiting seat.old.me.0 t, seat.old.me.1)) }
     {
         self.table.shared.fetch_add::<Draw>(seat, NEXT, 1)
     }
@@ -42,7 +44,8 @@ impl<S: Tale> Turnstile<S> {
         requires empty_handed { seat.old.me.1 ≡ [] }
         requires waits { Waiting ticket seat.old.me.0.stage }
         ensures seat { IsSameSeat seat.old seat.new }
-        ensures taken { MatchOption result (seat.new.me ≡ seat.old.me) (Taken S.list S.by S.version seat.old.me seat.new.me) }
+        ensures taken { MatchOption result (seat.new.me ≡ seat.old.me)
+            (Taken S.list S.by S.version seat.old.me seat.new.me) }
     {
         let served = self.table.shared.load::<Look>(seat, SERVING);
         if served != ticket {
@@ -51,7 +54,8 @@ impl<S: Tale> Turnstile<S> {
         self.table.shared.exchange(seat, STATE, None)
     }
 
-    // Waits until the ticket is served: it spins for a short while, and then sleeps from one end of a turn to the next.
+    // Waits until the ticket is served: it spins for a short while, and then sleeps from one end of
+    // a turn to the next.
     fn wait_turn<R: Wait>(&self, rt: &R, seat: &mut RawSeat<S>, ticket: u64) -> S
         requires own { seat.old.table_id ≡ self.now }
         requires empty_handed { seat.old.me.1 ≡ [] }
@@ -75,8 +79,8 @@ impl<S: Tale> Turnstile<S> {
         unreachable!()
     }
 
-    // Sleeps until a turn ends, if another ticket than this is served. Who ends a turn wakes those who sleep here. A wake that is
-    // missed costs no more than a nap.
+    // Sleeps until a turn ends, if another ticket than this is served. Who ends a turn wakes those
+    // who sleep here. A wake that is missed costs no more than a nap.
     fn sleep<R: Wait>(&self, rt: &R, ticket: u64) {
         let seen = self.table.shared.peek(SERVING);
         if seen == ticket {
@@ -87,16 +91,16 @@ impl<S: Tale> Turnstile<S> {
         self.table.shared.park_timeout(rt, SERVING, low, nap);
     }
 
-    // Wakes those who sleep in line, once the turn of this ticket has ended. If no ticket beyond the next one was drawn, none is
-    // in line, and no call of the system is made.
+    // Wakes those who sleep in line, once the turn of this ticket has ended. If no ticket beyond
+    // the next one was drawn, none is in line, and no call of the system is made.
     fn wake(&self, ticket: u64) {
         if self.table.shared.peek(NEXT) != ticket.wrapping_add(1) {
             self.table.shared.wake_all(SERVING);
         }
     }
 
-    /// Whether a seat has a turn or waits for one just now. It is a hint for those who may come later as well: nothing is promised
-    /// of it, and all may be otherwise when it returns.
+    /// Whether a seat has a turn or waits for one just now. It is a hint for those who may come
+    /// later as well: nothing is promised of it, and all may be otherwise when it returns.
     pub fn is_taken(&self) -> bool {
         self.table.shared.peek(NEXT) != self.table.shared.peek(SERVING)
     }
@@ -116,7 +120,8 @@ impl<S: Tale> Turnstile<S> {
     pub(crate) fn hand_back(&self, seat: &mut RawSeat<S>, state: S)
         requires own { seat.old.table_id ≡ self.now }
         requires turn { IsTurn seat.old.me }
-        requires grows { Grows S.by seat.old.me.0.number seat.old.me.0.writers seat.old.me.0.seen (S.list state) }
+        requires grows { Grows S.by seat.old.me.0.number seat.old.me.0.writers seat.old.me.0.seen
+            (S.list state) }
         ensures seat { IsSameSeat seat.old seat.new }
         ensures left { Left S.by S.version seat.old.me seat.new.me (S.list state) (S.counts state) }
         ensures agrees { Agrees S.by seat.old.me.0 (S.list state) }
@@ -131,7 +136,8 @@ impl<S: Tale> Turnstile<S> {
             .fetch_max::<Raise>(seat, VERSIONS, version);
     }
 
-    // Waits for a turn and takes the state for good: the slot goes back empty, and no later ticket is served.
+    // Waits for a turn and takes the state for good: the slot goes back empty, and no later ticket
+    // is served.
     pub(crate) fn take_out<R: Wait>(&self, rt: &R, seat: &mut RawSeat<S>) -> S
         requires own { seat.old.table_id ≡ self.now }
         requires free { IsFree seat.old.me }

@@ -1,7 +1,9 @@
-//! What is known of a seat. These are plain data for the rule and for contracts: no value of them is made.
+//! What is known of a seat. These are plain data for the rule and for contracts: no value of them
+//! is made.
 use std::collections::LinkedList;
 
-/// Where a seat is. A ticket is a number without end, and the word that is drawn is that number modulo 2^64.
+/// Where a seat is. A ticket is a number without end, and the word that is drawn is that number
+/// modulo 2^64.
 pub enum Stage {
     /// Outside a turn.
     Away,
@@ -17,7 +19,8 @@ pub enum Stage {
     Spent,
 }
 
-/// What is noted of a seat that was joined to another one: its number and its events, what the seat that took it in had seen, and what it had seen itself.
+/// What is noted of a seat that was joined to another one: its number and its events, what the seat
+/// that took it in had seen, and what it had seen itself.
 pub struct Note<E> {
     pub number: u64,
     pub mine: LinkedList<E>,
@@ -25,7 +28,8 @@ pub struct Note<E> {
     pub theirs: LinkedList<E>,
 }
 
-/// All that a seat knows: `writers` is the turnstile's, and the spare numbers go from `spare_start` up to `spare_end`, which is not one of them.
+/// All that a seat knows: `writers` is the turnstile's, and the spare numbers go from `spare_start`
+/// up to `spare_end`, which is not one of them.
 pub struct View<E> {
     pub stage: Stage,
     pub number: u64,
