@@ -15,6 +15,7 @@ pub mod Counting
 pub mod Held
 pub mod Numbers
 pub mod Meaning
+pub mod Marks
 pub mod Gathering
 pub mod Finding
 pub mod Saying

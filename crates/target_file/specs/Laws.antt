@@ -52,6 +52,9 @@ file_equiv = decided same_file file_decides
 pub same_targets : (x y : Target) → same_target x y ≡ true → x ≡ y
 same_targets x y h = (target_decides x y).0 h
 
+pub same_located_ones : (x y : Located) → same_located x y ≡ true → x ≡ y
+same_located_ones x y h = (located_decides x y).0 h
+
 pub same_files : (x y : List Located) → same_file x y ≡ true → x ≡ y
 same_files x y h = (file_decides x y).0 h
 

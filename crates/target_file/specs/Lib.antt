@@ -13,6 +13,7 @@ pub mod Meaning
 pub mod Names
 pub mod Seen
 pub mod Lent
+pub mod Marks
 pub mod Machine
 pub mod Code
 pub mod Contents

@@ -1,5 +1,5 @@
 -- Equality of sources is exact.
-use Rattle.std.specs.Prelude.{◌≡◌, Bool, true, List, refl}
+use Rattle.std.specs.Prelude.{◌≡◌, ℕ, Bool, true, List, refl}
 use Rattle.std.specs.Bool.{Decides}
 use Rattle.std.specs.Cmp.{IsEquivalence, decided}
 use Rattle.std.specs.Cmp.Lexicographic.{pointwise, bytes_decides, pointwise_decides}
@@ -7,9 +7,14 @@ use Rattle.std.proofs.Common.{ap, subst}
 use Rattle.target_file.specs.declared.source.Source.{Source}
 use Rattle.target_file.specs.declared.source.Source.TheVariants.{Path, Label}
 use Rattle.target_file.specs.contracts.source.SourcePartialEq.TheImpl as source_eq
+use Rattle.target_file.specs.contracts.source.SourceHash.TheImpl as source_hash
 
 abbrev pub same_source : Source → Source → Bool
 same_source = source_eq.ghosts.eq
+
+-- what a hasher is fed of a source
+abbrev pub source_fed : Source → List (List ℕ)
+source_fed = source_hash.ghosts.hash_input
 
 same_self : (x : Source) → same_source x x ≡ true
 same_self (Path p) = (bytes_decides p p).1 refl

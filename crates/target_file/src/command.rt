@@ -6,6 +6,7 @@ ghost use Rattle.target_file.specs.Strings.{IsCommand, locations};
 
 use crate::label_text::LabelText;
 use buck_label::Text;
+use std::hash::{Hash, Hasher};
 use std::marker::Model;
 
 /// A command with the labels that its `$(location LABEL)` name. A contract sees the text; its
@@ -65,4 +66,17 @@ impl PartialEq for Command {
 
 impl Eq for Command {
     ghost laws = { nat_list_eq_equiv };
+}
+
+impl Hash for Command {
+    ghost use Rattle.std.specs.Hash as fed;
+    ghost use Rattle.shared_text.specs.Texts.{hash_of, hash_of_equal};
+
+    ghost hash_input = { λ t. fed.u64 (hash_of t) };
+
+    ghost respects_eq = { hash_of_equal };
+
+    fn hash<H: Hasher>(&self, state: &mut H) {
+        self.text.hash(state);
+    }
 }

@@ -13,9 +13,11 @@ ghost use Rattle.target_file.specs.Laws.{file_equiv};
 use crate::call::Call;
 use crate::fault::NoMemory;
 use crate::locating::located_all;
+use crate::mark::mark_of;
 use crate::names::Names;
 use crate::target::Target;
 use std::alloc::Global;
+use std::hash::{Hash, Hasher};
 use std::marker::Model;
 use std::sync::Arc;
 
@@ -27,9 +29,12 @@ pub struct Located {
 }
 
 /// The targets of a file, in order. A contract sees the list; no two have the same name.
+///
+/// Files that are not equal are mostly told apart by their marks.
 pub struct File {
     targets: Vec<Located>,
     names: Names,
+    mark: u64,
 }
 
 // (One function for all places that drop one: a derived drop is written out at each.)
@@ -38,6 +43,7 @@ impl Drop for File {
         let File {
             targets: _targets,
             names: _names,
+            mark: _,
         } = self;
     }
 }
@@ -53,8 +59,9 @@ impl Model for File {
 
     ghost view = { λ f. all_of f.targets.items };
 
-    ghost invariant = { λ f. (q : List ℕ)
-        → number_of f.names q ≡ number_at 0 q (all_of f.targets.items) };
+    ghost use Rattle.target_file.specs.Marks.{mark_of};
+
+    ghost invariant = { λ f. ((q : List ℕ) → number_of f.names q ≡ number_at 0 q (all_of f.targets.items)) × (f.mark ≡ mark_of (all_of f.targets.items)) };
 }
 
 impl File {
@@ -91,7 +98,12 @@ impl File {
         ensures { IfOk result (λ f. f ≡ map located (map call_of calls.items)) }
     {
         let targets = located_all(alloc, calls)?;
-        Ok(File { targets, names })
+        let mark = mark_of(&targets);
+        Ok(File {
+            targets,
+            names,
+            mark,
+        })
     }
 }
 
@@ -101,7 +113,7 @@ impl PartialEq for File {
     ghost laws = { partial_equiv_from_equiv file_equiv };
 
     fn eq(&self, other: &File) -> bool {
-        self.targets == other.targets
+        self.mark == other.mark && self.targets == other.targets
     }
 }
 
@@ -130,4 +142,20 @@ impl Eq for Located {
     ghost use Rattle.target_file.specs.Laws.{located_equiv};
 
     ghost laws = { on_equiv located_of located_equiv };
+}
+
+impl Hash for Located {
+    ghost use Rattle.std.proofs.Common.{ap};
+    ghost use Rattle.target_file.specs.Lent.{located_of};
+    ghost use Rattle.target_file.specs.Laws.{same_located_ones};
+    ghost use Rattle.target_file.specs.Marks.{located_fed};
+
+    ghost hash_input = { λ x. located_fed (located_of x) };
+
+    ghost respects_eq = { λ x y e. ap located_fed (same_located_ones (located_of x) (located_of y) e) };
+
+    fn hash<H: Hasher>(&self, state: &mut H) {
+        self.line.hash(state);
+        self.target.hash(state);
+    }
 }

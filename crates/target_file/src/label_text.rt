@@ -5,6 +5,7 @@ ghost use Rattle.std.specs.Cmp.{partial_equiv_from_equiv};
 ghost use Rattle.buck_label.specs.Labels.{IsSomeLabel};
 
 use buck_label::Text;
+use std::hash::{Hash, Hasher};
 use std::marker::Model;
 
 /// A label as it stands in a target file: absolute, or `:NAME` of the file's own package. Which
@@ -64,4 +65,17 @@ impl PartialEq for LabelText {
 
 impl Eq for LabelText {
     ghost laws = { nat_list_eq_equiv };
+}
+
+impl Hash for LabelText {
+    ghost use Rattle.std.specs.Hash as fed;
+    ghost use Rattle.shared_text.specs.Texts.{hash_of, hash_of_equal};
+
+    ghost hash_input = { λ t. fed.u64 (hash_of t) };
+
+    ghost respects_eq = { hash_of_equal };
+
+    fn hash<H: Hasher>(&self, state: &mut H) {
+        self.text.hash(state);
+    }
 }

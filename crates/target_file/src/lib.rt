@@ -11,6 +11,7 @@ mod label_text;
 mod laws;
 mod locating;
 mod making;
+mod mark;
 mod mode;
 mod names;
 mod place;

@@ -4,10 +4,11 @@ ghost use Rattle.std.specs.Cmp.{partial_equiv_from_equiv};
 
 use crate::label_text::LabelText;
 use buck_label::Path;
+use std::hash::{Hash, Hasher};
 use std::marker::Model;
 
 /// One input, as written.
-#[derive(PartialEq, Eq, Drop)]
+#[derive(PartialEq, Eq, Hash, Drop)]
 pub enum Source {
     /// A file, by its path in the package.
     Path(Path),
@@ -62,4 +63,18 @@ impl Eq for Sources {
     ghost use Rattle.target_file.specs.SameSources.{sources_equiv};
 
     ghost laws = { sources_equiv };
+}
+
+impl Hash for Sources {
+    ghost use Rattle.std.proofs.Common.{ap};
+    ghost use Rattle.std.specs.Hash as fed;
+    ghost use Rattle.target_file.specs.SameSources.{source_fed, sources_decide};
+
+    ghost hash_input = { fed.slice source_fed };
+
+    ghost respects_eq = { λ x y e. ap (fed.slice source_fed) ((sources_decide x y).0 e) };
+
+    fn hash<H: Hasher>(&self, state: &mut H) {
+        self.items.hash(state);
+    }
 }

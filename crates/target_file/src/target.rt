@@ -14,6 +14,7 @@ use crate::making::{action_of, list_of, path_of, text_of, texts_of};
 use crate::table::Attribute;
 use buck_label::{Path, Text};
 use std::alloc::Global;
+use std::hash::{Hash, Hasher};
 use std::marker::Model;
 
 /// What a call means, apart from its line: a default that is left out equals the same value written
@@ -120,4 +121,21 @@ impl PartialEq for Target {
 
 impl Eq for Target {
     ghost laws = { target_equiv };
+}
+
+impl Hash for Target {
+    ghost use Rattle.std.proofs.Common.{ap};
+    ghost use Rattle.target_file.specs.Laws.{same_targets};
+    ghost use Rattle.target_file.specs.Marks.{target_fed};
+
+    ghost hash_input = { target_fed };
+
+    ghost respects_eq = { λ x y e. ap target_fed (same_targets x y e) };
+
+    fn hash<H: Hasher>(&self, state: &mut H) {
+        self.name.hash(state);
+        self.visibility.hash(state);
+        self.labels.hash(state);
+        self.action.hash(state);
+    }
 }

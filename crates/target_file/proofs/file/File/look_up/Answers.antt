@@ -9,7 +9,7 @@ pub index-requires : goal.index-requires
 index-requires c =
     let v = c.self.inside.targets in
     let q = c.args.name.now in
-    let h : number_at 0 q (all_of v.items) ≡ Some c.in-Some.number = sym (c.self.invariant q) ∙ sym c.find.ensures ∙ c.in-Some.is in
+    let h : number_at 0 q (all_of v.items) ≡ Some c.in-Some.number = sym (c.self.invariant.0 q) ∙ sym c.find.ensures ∙ c.in-Some.is in
     let b : c.in-Some.number < length v.items = found_below q v.items c.in-Some.number h in
     let l = v.ok.0 in
     omega arith
@@ -18,12 +18,12 @@ pub returns-in-Some : goal.returns-in-Some
 returns-in-Some c =
     let v = c.self.inside.targets in
     let q = c.args.name.now in
-    let h : number_at 0 q (all_of v.items) ≡ Some c.in-Some.number = sym (c.self.invariant q) ∙ sym c.find.ensures ∙ c.in-Some.is in
+    let h : number_at 0 q (all_of v.items) ≡ Some c.in-Some.number = sym (c.self.invariant.0 q) ∙ sym c.find.ensures ∙ c.in-Some.is in
     found_target q v.items c.in-Some.number c.index.result.now h c.index.ensures ∙ ap (target_named q) c.self.view_is
 
 pub returns-in-None : goal.returns-in-None
 returns-in-None c =
     let v = c.self.inside.targets in
     let q = c.args.name.now in
-    let h : number_at 0 q (all_of v.items) ≡ None = sym (c.self.invariant q) ∙ sym c.find.ensures ∙ c.in-None.is in
+    let h : number_at 0 q (all_of v.items) ≡ None = sym (c.self.invariant.0 q) ∙ sym c.find.ensures ∙ c.in-None.is in
     sym (missing_at 0 q (all_of v.items) h) ∙ ap (target_named q) c.self.view_is
