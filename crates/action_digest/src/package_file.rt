@@ -12,8 +12,9 @@ use target_file::File;
 /// The targets of a package, beside the text of the target file that they were read from. Contracts
 /// see the targets alone.
 ///
-/// Whether two are equal costs a comparison of the texts if these are the same. Otherwise files with other targets are mostly told apart
-/// by a hash, and files of the same targets cost a comparison of all of them.
+/// Whether two are equal costs a comparison of the texts if these are the same. Otherwise files
+/// with other targets are mostly told apart by a hash, and files of the same targets cost a
+/// comparison of all of them.
 #[derive(Drop)]
 pub struct PackageFile {
     source: Text,

@@ -4,8 +4,8 @@ use crate::command::Command;
 use crate::source::Sources;
 use buck_label::{Path, Text};
 
-/// What a target does: its rule, with the attributes of that rule. Every default is filled in. Paths and labels
-/// are as written, so those of a package are still to be joined with it.
+/// What a target does: its rule, with the attributes of that rule. Every default is filled in.
+/// Paths and labels are as written, so those of a package are still to be joined with it.
 #[derive(PartialEq, Eq, Hash, Drop)]
 pub enum Action {
     /// A file of the package as it is.

@@ -61,7 +61,9 @@ impl Model for File {
 
     ghost use Rattle.target_file.specs.Marks.{mark_of};
 
-    ghost invariant = { λ f. ((q : List ℕ) → number_of f.names q ≡ number_at 0 q (all_of f.targets.items)) × (f.mark ≡ mark_of (all_of f.targets.items)) };
+    ghost invariant = { λ f. ((q : List ℕ)
+        → number_of f.names q ≡ number_at 0 q (all_of f.targets.items))
+        × (f.mark ≡ mark_of (all_of f.targets.items)) };
 }
 
 impl File {
@@ -152,7 +154,8 @@ impl Hash for Located {
 
     ghost hash_input = { λ x. located_fed (located_of x) };
 
-    ghost respects_eq = { λ x y e. ap located_fed (same_located_ones (located_of x) (located_of y) e) };
+    ghost respects_eq = { λ x y e. ap located_fed
+        (same_located_ones (located_of x) (located_of y) e) };
 
     fn hash<H: Hasher>(&self, state: &mut H) {
         self.line.hash(state);
