@@ -161,8 +161,8 @@ module _ {K V : Type 0} (eq : K → K → Bool) (equality : IsEquality eq) (m : 
         let h : WorkStands eq m R v k (Checks x T b) a.answered = subst (λ z. WorkStands eq m R v k z a.answered) work t.standing.work in
         let l : Answered K V = record { keys = f.batch.keys; values = f.answers } in
         let e : a.answered ≡ f.before ++ l ∷ [] = changed_front f.before f.later a.answered f.batch f.answers (subst (λ B. Follows B a.answered) f.trace_is h.1) f.answered in
-        let was : Goes eq m C h.0.finished k [] (f.before ++ f.batch ∷ f.later) = subst (Goes eq m C h.0.finished k []) f.trace_is h.0.traced.goes in
-        let g = goes_changed eq m law C h.0.finished v k f.before f.later f.batch f.answers was (subst (AllTrue (HasValue eq m C v)) e h.2) in
+        let was : Goes eq m C b k [] (f.before ++ f.batch ∷ f.later) = subst (Goes eq m C b k []) f.trace_is h.0.traced.goes in
+        let g = goes_changed eq m law C b v k f.before f.later f.batch f.answers was (subst (AllTrue (HasValue eq m C v)) e h.2) in
         asks_these eq m C v k a.answered (subst (Goes eq m C v k []) (sym e) g)
 
   pub stands_at : (w : World K V) (owed : ℕ) (ps : List (K × Share K (Held K V))) (d : DeskSeen K V) (es : List (K × Stored K V)) (s : Seen K V) → AtHand eq m v w owed ps d es s → VersionStands eq m (reverse d.events) v [] (asked_of eq ps) (tasks_of eq ps)
