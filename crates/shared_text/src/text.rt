@@ -6,11 +6,15 @@ ghost use Rattle.std.specs.Cmp.Lexicographic.{pointwise, slice_cmp, nat_list_eq_
 ghost use Rattle.std.specs.Cmp.{partial_equiv_from_equiv};
 ghost use Rattle.shared_text.specs.Texts.{hash_of, hash_of_equal};
 
+use smallvec::SmallVec;
 use std::alloc::{AllocError, Global};
 use std::cmp::Ordering;
 use std::hash::{DefaultHasher, Hash, Hasher};
 use std::marker::Model;
 use std::sync::Arc;
+
+/// Up to so many bytes lie beside their hash; more have a place of their own.
+const SHORT: usize = 16;
 
 /// Bytes that are kept once, with their hash beside them. A contract sees them as a list.
 ///
@@ -31,7 +35,7 @@ pub struct Text {
 #[derive(Drop)]
 struct Hashed {
     hash: u64,
-    bytes: Vec<u8>,
+    bytes: SmallVec<u8, SHORT>,
 }
 
 impl Model for Text {
@@ -55,20 +59,27 @@ fn hash_of(bytes: &[u8]) -> u64
 }
 
 impl Text {
-    /// The text of these bytes; they are moved, not copied, and hashed once.
+    /// The text of these bytes, which are hashed once. They are moved, and copied only if they are
+    /// few.
     pub fn new(alloc: Global, bytes: Vec<u8>) -> Result<Text, AllocError>
         ensures { IfOk result (λ t. t ≡ bytes.items) }
     {
-        let hash = hash_of(&bytes);
-        let shared = Arc::new(alloc, Hashed { hash, bytes })?;
-        Ok(Text { shared })
+        Text::of(alloc, SmallVec::from_vec(bytes))
     }
 
-    /// The text of a copy of these bytes.
+    /// The text of a copy of these bytes. Up to 16 of them take one allocation, and more take two.
     pub fn from_slice(alloc: Global, bytes: &[u8]) -> Result<Text, AllocError>
         ensures { IfOk result (λ t. t ≡ bytes.now) }
     {
-        Text::new(alloc, Vec::from_slice(alloc, bytes)?)
+        Text::of(alloc, SmallVec::from_slice(alloc, bytes)?)
+    }
+
+    fn of(alloc: Global, bytes: SmallVec<u8, SHORT>) -> Result<Text, AllocError>
+        ensures { IfOk result (λ t. t ≡ bytes.items) }
+    {
+        let hash = hash_of(bytes.as_slice());
+        let shared = Arc::new(alloc, Hashed { hash, bytes })?;
+        Ok(Text { shared })
     }
 
     /// Its bytes.
@@ -93,7 +104,7 @@ impl PartialEq for Text {
     ghost laws = { partial_equiv_from_equiv nat_list_eq_equiv };
 
     fn eq(&self, other: &Text) -> bool {
-        self.shared.hash == other.shared.hash && self.shared.bytes == other.shared.bytes
+        self.shared.hash == other.shared.hash && self.as_bytes() == other.as_bytes()
     }
 }
 

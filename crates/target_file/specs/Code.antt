@@ -8,6 +8,8 @@ use Rattle.target_file.specs.Tokens as tokens
 use Rattle.target_file.specs.Seen.{arguments_of, call_of}
 use Rattle.target_file.specs.Machine.{State, Steps, Runs}
 use Rattle.target_file.specs.declared.reader.Reader.{Reader}
+use Rattle.target_file.specs.declared.quoted.Unquoted.{Unquoted}
+use Rattle.target_file.specs.declared.quoted.Unquoted.TheVariants as read
 
 abbrev pub state_of : Progress → State
 state_of p = record { calls = map call_of p.calls.items; line = p.line; rule = p.rule; given = arguments_of p.given.items; items = p.items.items; place = p.place }
@@ -103,6 +105,11 @@ IsBroken quote bs = (text : List ℕ) (line : ℕ) (m : State) → Fails (bare (
 
 abbrev pub HasNoEnd : ℕ → List ℕ → Type 0
 HasNoEnd quote bs = (line : ℕ) (m : State) → Fails (bare (tokens.InText quote []) line) bs m line
+
+-- the bytes that a string stands for
+abbrev pub unquoted : Unquoted → List ℕ
+unquoted (read.Plain bytes) = bytes.now
+unquoted (read.Escaped bytes) = bytes.items
 
 -- so many bytes stand before the quote that ends a string, and this is what they stand for
 pub record Quoted (quote : ℕ) (bs text : List ℕ) (count : ℕ) : Type 0 where

@@ -112,9 +112,9 @@ impl Progress {
     }
 
     /// A string.
-    pub fn text(&mut self, text: Vec<u8>) -> Result<bool, NoMemory>
+    pub fn text(&mut self, text: &[u8]) -> Result<bool, NoMemory>
         ensures { IfOk result
-            (λ ok. Stepped (state_of self.old) (token.Text text.items) ok (state_of self.new)) }
+            (λ ok. Stepped (state_of self.old) (token.Text text.now) ok (state_of self.new)) }
     {
         match self.place {
             Place::Value(attribute) => self.value(attribute, text),
@@ -124,12 +124,12 @@ impl Progress {
     }
 
     /// A string as an attribute's value.
-    fn value(&mut self, attribute: Attribute, text: Vec<u8>) -> Result<bool, NoMemory>
+    fn value(&mut self, attribute: Attribute, text: &[u8]) -> Result<bool, NoMemory>
         requires { self.old.place ≡ Place.Value attribute }
         ensures { IfOk result
-            (λ ok. Stepped (state_of self.old) (token.Text text.items) ok (state_of self.new)) }
+            (λ ok. Stepped (state_of self.old) (token.Text text.now) ok (state_of self.new)) }
     {
-        if !may_be(self.rule, attribute, &text) || !self.is_fresh(attribute, &text) {
+        if !may_be(self.rule, attribute, text) || !self.is_fresh(attribute, text) {
             return Ok(false);
         }
         self.give(attribute, text)?;
@@ -137,17 +137,18 @@ impl Progress {
     }
 
     /// Gives the attribute this string.
-    fn give(&mut self, attribute: Attribute, text: Vec<u8>) -> Result<(), NoMemory>
-        requires { IsFresh (map call_of self.old.calls.items) attribute (One text.items) }
+    fn give(&mut self, attribute: Attribute, text: &[u8]) -> Result<(), NoMemory>
+        requires { IsFresh (map call_of self.old.calls.items) attribute (One text.now) }
         ensures { OnOk result
-            (state_of self.new ≡ give (state_of self.old) attribute (One text.items)) }
+            (state_of self.new ≡ give (state_of self.old) attribute (One text.now)) }
     {
+        let kept = Vec::from_slice(self.alloc, text)?;
         self.given.reserve(1)?;
         self.names
-            .note(self.alloc, attribute, &text, self.calls.len())?;
+            .note(self.alloc, attribute, text, self.calls.len())?;
         self.given.push(Argument {
             attribute,
-            value: Value::One(text),
+            value: Value::One(kept),
         })?;
         self.items.clear();
         self.place = Place::Done;
@@ -172,15 +173,15 @@ impl Progress {
     }
 
     /// A string of a list.
-    fn item(&mut self, attribute: Attribute, text: Vec<u8>) -> Result<bool, NoMemory>
+    fn item(&mut self, attribute: Attribute, text: &[u8]) -> Result<bool, NoMemory>
         requires { self.old.place ≡ Place.List attribute }
         ensures { IfOk result
-            (λ ok. Stepped (state_of self.old) (token.Text text.items) ok (state_of self.new)) }
+            (λ ok. Stepped (state_of self.old) (token.Text text.now) ok (state_of self.new)) }
     {
-        if !may_hold(self.rule, attribute, &text) {
+        if !may_hold(self.rule, attribute, text) {
             return Ok(false);
         }
-        self.items.push(Text::new(self.alloc, text)?)?;
+        self.items.push(Text::from_slice(self.alloc, text)?)?;
         self.place = Place::Item(attribute);
         Ok(true)
     }

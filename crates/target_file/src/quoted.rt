@@ -2,10 +2,31 @@
 ghost use Rattle.std.specs.Prelude.{◌≡◌, ◌≤◌, ◌∷◌, ℕ, take, length, false, nat_eq, IfOk, IfSome, IfNone, MatchOption};
 ghost use Rattle.std.specs.List.{AllByRecursion};
 ghost use Rattle.target_file.specs.Tokens.{escaped};
-ghost use Rattle.target_file.specs.Code.{is_special, Means, IsBroken, HasNoEnd, Quoted};
+ghost use Rattle.target_file.specs.Code.{is_special, unquoted, Means, IsBroken, HasNoEnd, Quoted};
 
 use crate::fault::NoMemory;
 use std::alloc::Global;
+
+/// What a string stands for.
+#[derive(Drop)]
+pub enum Unquoted<'a> {
+    /// Each of its bytes stands for itself.
+    Plain(&'a [u8]),
+    /// What its bytes and escapes stand for.
+    Escaped(Vec<u8>),
+}
+
+impl<'a> Unquoted<'a> {
+    /// The bytes that it stands for.
+    pub fn as_bytes(&self) -> &[u8]
+        ensures { result.now ≡ unquoted self.now }
+    {
+        match self {
+            Unquoted::Plain(bytes) => bytes,
+            Unquoted::Escaped(bytes) => bytes.as_slice(),
+        }
+    }
+}
 
 /// Whether a byte of a string with this quote does not stand for itself.
 fn is_special(quote: u8, byte: u8) -> bool
@@ -86,14 +107,21 @@ fn unescaped(alloc: Global, quote: u8, rest: &[u8]) -> Result<Option<(Vec<u8>, u
 }
 
 /// What the string whose quote stands before `rest` stands for, and how many bytes stand before its
-/// closing quote; `None` if no file goes on so.
-pub fn quoted(alloc: Global, quote: u8, rest: &[u8]) -> Result<Option<(Vec<u8>, usize)>, NoMemory>
-    ensures { IfOk result
-        (λ o. MatchOption o (HasNoEnd quote rest.now) (λ r. Quoted quote rest.now r.0.items r.1)) }
+/// closing quote; `None` if no file goes on so. It takes memory for escapes alone.
+pub fn quoted(
+    alloc: Global,
+    quote: u8,
+    rest: &[u8],
+) -> Result<Option<(Unquoted<'_>, usize)>, NoMemory>
+    ensures { IfOk result (λ o. MatchOption o (HasNoEnd quote rest.now)
+        (λ r. Quoted quote rest.now (unquoted r.0) r.1)) }
 {
     let end = plain(quote, rest);
     if end < rest.len() && rest[end] == quote {
-        return Ok(Some((Vec::from_slice(alloc, &rest[..end])?, end)));
+        return Ok(Some((Unquoted::Plain(&rest[..end]), end)));
     }
-    unescaped(alloc, quote, rest)
+    match unescaped(alloc, quote, rest)? {
+        Some((text, end)) => Ok(Some((Unquoted::Escaped(text), end))),
+        None => Ok(None),
+    }
 }

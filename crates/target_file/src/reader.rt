@@ -216,7 +216,7 @@ impl Reader {
         let Some((text, end)) = quoted(self.alloc, quote, behind)? else {
             return Ok(None);
         };
-        if self.progress.text(text)? {
+        if self.progress.text(text.as_bytes())? {
             return Ok(Some(end + 2));
         }
         Ok(None)

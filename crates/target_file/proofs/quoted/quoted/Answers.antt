@@ -1,5 +1,3 @@
-use Rattle.std.proofs.Common.{sym, subst, ℕ, List}
-use Rattle.target_file.specs.Code.{Quoted}
 use Rattle.target_file.proofs.Going.{quote_behind}
 use Rattle.target_file.proofs.quoted.quoted.Goals as goal
 
@@ -7,4 +5,4 @@ pub returns-then-rest-end : goal.returns-then-rest-end
 returns-then-rest-end c =
     let bs = c.args.rest.now in
     let n = c.plain-end.result in
-    subst (λ (x : List ℕ). Quoted c.args.quote bs x n) (sym c.in_ok-from_slice.ensures.items) (quote_behind c.args.quote bs n c.if-end-rest.true c.if-rest-end.true c.plain-end.ensures.each)
+    (quote_behind c.args.quote bs n c.if-end-rest.true c.if-rest-end.true c.plain-end.ensures.each)
