@@ -180,7 +180,7 @@ impl Buck {
     fn ask(&self, key: Key) -> Result<Move<Key, Value>, NoMemory>
         ensures { IfOk result (λ p. IsStep p (Asks (key ∷ []))) }
     {
-        Ok(Move::Ask(Batch::one(self.alloc, Arc::new(self.alloc, key)?)?))
+        Ok(Move::Ask(Batch::one(self.alloc, Arc::new(self.alloc, key)?)))
     }
 
     /// The move that asks these keys.

@@ -144,6 +144,9 @@ pub fn copied_keys<K: Drop, V>(
     requires { 0 < length wanted.now }
     ensures { IfOk result (λ b. b ≡ keys_in wanted.now) }
 {
+    if let [(key, _)] = wanted {
+        return Ok(Batch::one(alloc, Arc::try_clone(key)?));
+    }
     let mut keys = Vec::with_capacity(alloc, wanted.len())?;
     for (key, _) in wanted {
         keys.push(Arc::try_clone(key)?)?;

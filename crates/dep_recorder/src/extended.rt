@@ -2,7 +2,7 @@
 ghost use Rattle.std.specs.Prelude.{◌≡◌, ◌++◌, ◌∷◌, [], length, IfOk};
 ghost use Rattle.dep_recorder.specs.Recordings.{keys_in, values_in};
 
-use crate::trace::{Trace, push_pair};
+use crate::trace::{Ends, Trace, push_pair};
 use dice_key::{Answers, Batch, NoMemory, Universe};
 use std::alloc::Global;
 use std::sync::Arc;
@@ -31,7 +31,7 @@ impl<U: Universe> Trace<U> {
         ensures { IfOk result (λ t. t ≡ self.now) }
     {
         let pairs = copied_pairs(&self.pairs, alloc, more)?;
-        let ends = copied_ends(&self.ends, alloc)?;
+        let ends = copied_ends(self.ends.as_slice(), alloc)?;
         Ok(Trace { pairs, ends })
     }
 }
@@ -52,10 +52,10 @@ fn copied_pairs<K: Drop, V: Drop>(
 }
 
 /// The same ends again, with room for one more.
-fn copied_ends(from: &[usize], alloc: Global) -> Result<Vec<usize>, NoMemory>
+fn copied_ends(from: &[usize], alloc: Global) -> Result<Ends, NoMemory>
     ensures { IfOk result (λ es. es.items ≡ from.now) }
 {
-    let mut ends = Vec::with_capacity(alloc, from.len().saturating_add(1))?;
+    let mut ends = Ends::with_capacity(alloc, from.len().saturating_add(1))?;
     ends.extend_from_slice(from)?;
     Ok(ends)
 }

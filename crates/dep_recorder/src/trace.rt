@@ -4,16 +4,20 @@ ghost use Rattle.std.specs.Arc.{arc_value};
 ghost use Rattle.dep_recorder.specs.Recordings.{keys_in, values_in, answered_in, begins, RiseTo};
 
 use dice_key::{Answers, Batch, NoMemory, Universe};
+use smallvec::SmallVec;
 use std::alloc::Global;
 use std::marker::Model;
 use std::sync::Arc;
+
+/// Where each batch ends among the pairs. Two ends take no memory.
+pub(crate) type Ends = SmallVec<usize, 2>;
 
 /// Batches of keys with an answer to each, in the order in which a run asked them.
 ///
 /// The pairs of all batches lie in one vector.
 pub struct Trace<U: Universe> {
     pub(crate) pairs: Vec<(Arc<U::Key>, Arc<U::Value>)>,
-    pub(crate) ends: Vec<usize>,
+    pub(crate) ends: Ends,
 }
 
 // (One function for all places that drop one: a derived drop is written out at each.)
@@ -45,7 +49,7 @@ impl<U: Universe> Trace<U> {
     {
         Trace {
             pairs: Vec::new(alloc),
-            ends: Vec::new(alloc),
+            ends: Ends::new(alloc),
         }
     }
 
@@ -63,7 +67,7 @@ impl<U: Universe> Trace<U> {
         ensures some { 0 < length result.now }
         ensures room { at + 1 < 2 ^ 64 }
     {
-        part(&self.pairs, &self.ends, at)
+        part(&self.pairs, self.ends.as_slice(), at)
     }
 
     /// Adds a batch with its answers. At an error the trace is as before.

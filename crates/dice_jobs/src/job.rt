@@ -183,11 +183,11 @@ fn copied_values<K, V: Drop>(
 ) -> Result<Answers<V>, NoMemory>
     ensures { IfOk result (λ a. a ≡ values_in pairs.now) }
 {
-    let mut values = Vec::with_capacity(alloc, pairs.len())?;
+    let mut values = Answers::with_room(alloc, pairs.len())?;
     for (_, value) in pairs {
         values.push(Arc::try_clone(value)?)?;
     }
-    Ok(Answers::from_values(values))
+    Ok(values)
 }
 
 /// The next move of a run.

@@ -2,6 +2,7 @@
 ghost use Rattle.std.specs.Prelude.{◌≡◌, ◌<◌, ℕ, List, ◌++◌, ◌∷◌, [], length, map, IfOk, OnErr, OnOk};
 ghost use Rattle.std.specs.Arc.{arc_value};
 
+use crate::shared::Shared;
 use crate::universe::NoMemory;
 use std::alloc::Global;
 use std::marker::Model;
@@ -10,30 +11,28 @@ use std::sync::Arc;
 /// One or more keys that are asked together, in order. A key may stand twice.
 #[derive(Drop)]
 pub struct Batch<K> {
-    keys: Vec<Arc<K>>,
+    keys: Shared<K>,
 }
 
 impl<K> Model for Batch<K> {
-    ghost use Rattle.std.specs.Prelude.{◌<◌, List, length, map};
-    ghost use Rattle.std.specs.Arc.{arc_value};
+    ghost use Rattle.std.specs.Prelude.{◌<◌, List, length};
+    ghost use Rattle.dice_key.specs.Shared.{values_of};
 
     ghost Value = { List K };
 
-    ghost view = { λ b. map arc_value b.keys.items };
+    ghost view = { λ b. values_of b.keys };
 
-    ghost invariant = { λ b. 0 < length b.keys.items };
+    ghost invariant = { λ b. 0 < length (values_of b.keys) };
 }
 
 impl<K> Batch<K> {
-    /// A batch of one key.
-    pub fn one(alloc: Global, key: Arc<K>) -> Result<Batch<K>, NoMemory>
-    where
-        K: Drop,
-        ensures { IfOk result (λ b. b ≡ arc_value key ∷ []) }
+    /// A batch of one key. It takes no memory.
+    pub fn one(alloc: Global, key: Arc<K>) -> Batch<K>
+        ensures { result ≡ arc_value key ∷ [] }
     {
-        let mut keys = Vec::new(alloc);
-        keys.push(key)?;
-        Ok(Batch { keys })
+        Batch {
+            keys: Shared::One(alloc, key),
+        }
     }
 
     /// A batch of these keys, one or more. It takes no memory.
@@ -41,7 +40,9 @@ impl<K> Batch<K> {
         requires { 0 < length keys.items }
         ensures { result ≡ map arc_value keys.items }
     {
-        Batch { keys }
+        Batch {
+            keys: Shared::Many(keys),
+        }
     }
 
     /// Asks one more key. At an error the batch is as before.
@@ -60,7 +61,7 @@ impl<K> Batch<K> {
         ensures len { result ≡ length self.now }
         ensures some { 0 < result }
     {
-        self.keys.len()
+        self.keys.as_slice().len()
     }
 
     /// The keys, in order.
@@ -74,33 +75,43 @@ impl<K> Batch<K> {
 /// A value for each key of a batch, in its order.
 #[derive(Drop)]
 pub struct Answers<V> {
-    values: Vec<Arc<V>>,
+    values: Shared<V>,
 }
 
 impl<V> Model for Answers<V> {
-    ghost use Rattle.std.specs.Prelude.{List, map};
-    ghost use Rattle.std.specs.Arc.{arc_value};
+    ghost use Rattle.std.specs.Prelude.{List};
+    ghost use Rattle.dice_key.specs.Shared.{values_of};
 
     ghost Value = { List V };
 
-    ghost view = { λ b. map arc_value b.values.items };
+    ghost view = { λ b. values_of b.values };
 }
 
 impl<V> Answers<V> {
-    /// No answer yet.
+    /// No answer yet. It takes no memory, and neither does the first one.
     pub fn new(alloc: Global) -> Answers<V>
         ensures { result ≡ [] }
     {
         Answers {
-            values: Vec::new(alloc),
+            values: Shared::None(alloc),
         }
+    }
+
+    /// No answer yet, and room for so many.
+    pub fn with_room(alloc: Global, count: usize) -> Result<Answers<V>, NoMemory>
+        ensures { IfOk result (λ a. a ≡ []) }
+    {
+        let values = Shared::with_room(alloc, count)?;
+        Ok(Answers { values })
     }
 
     /// These answers. It takes no memory.
     pub fn from_values(values: Vec<Arc<V>>) -> Answers<V>
         ensures { result ≡ map arc_value values.items }
     {
-        Answers { values }
+        Answers {
+            values: Shared::Many(values),
+        }
     }
 
     /// Adds an answer. At an error the answers are as before.
@@ -118,7 +129,7 @@ impl<V> Answers<V> {
     pub fn len(&self) -> usize
         ensures { result ≡ length self.now }
     {
-        self.values.len()
+        self.values.as_slice().len()
     }
 
     /// The same values again. They are shared, not copied.
@@ -127,8 +138,8 @@ impl<V> Answers<V> {
         V: Drop,
         ensures { IfOk result (λ r. r ≡ self.now) }
     {
-        let mut values = Vec::new(alloc);
-        for value in &self.values {
+        let mut values = Shared::None(alloc);
+        for value in self.values.as_slice() {
             values.push(Arc::try_clone(value)?)?;
         }
         Ok(Answers { values })

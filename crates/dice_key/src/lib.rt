@@ -7,6 +7,7 @@ mod fronts;
 mod laws;
 mod line;
 mod path;
+mod shared;
 mod universe;
 
 pub use batch::{Answers, Batch, Move};

@@ -26,7 +26,7 @@ fn are(found: &[Arc<u32>], numbers: &[u32]) -> bool {
 }
 
 fn batch(alloc: Global, first: u32, rest: &[u32]) -> Result<Batch<u32>, NoMemory> {
-    let mut batch = Batch::one(alloc, Arc::new(alloc, first)?)?;
+    let mut batch = Batch::one(alloc, Arc::new(alloc, first)?);
     for key in rest {
         batch.push(Arc::new(alloc, *key)?)?;
     }

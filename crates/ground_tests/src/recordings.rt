@@ -29,7 +29,7 @@ fn two_answers_of(alloc: Global, first: u64, second: u64) -> Result<Answers<Valu
 fn cell(alloc: Global, cell: u32) -> Result<Batch<Place>, NoMemory>
     ensures { IfOk result (λ b. length b ≡ 1) }
 {
-    Batch::one(alloc, Arc::new(alloc, Place::Cell(cell))?)
+    Ok(Batch::one(alloc, Arc::new(alloc, Place::Cell(cell))?))
 }
 
 fn two_cells(alloc: Global, first: u32, second: u32) -> Result<Batch<Place>, NoMemory>

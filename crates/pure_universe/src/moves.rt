@@ -18,14 +18,14 @@ pub fn done<K, V: Drop>(alloc: Global, value: V) -> Result<Move<K, V>, NoMemory>
 pub fn ask<K: Drop, V>(alloc: Global, key: K) -> Result<Move<K, V>, NoMemory>
     ensures { IfOk result (λ p. IsStep p (Asks (key ∷ []))) }
 {
-    Ok(Move::Ask(Batch::one(alloc, Arc::new(alloc, key)?)?))
+    Ok(Move::Ask(Batch::one(alloc, Arc::new(alloc, key)?)))
 }
 
 /// The move that asks two keys together. They may be the same key.
 pub fn ask_both<K: Drop, V>(alloc: Global, a: K, b: K) -> Result<Move<K, V>, NoMemory>
     ensures { IfOk result (λ p. IsStep p (Asks (a ∷ b ∷ []))) }
 {
-    let mut batch = Batch::one(alloc, Arc::new(alloc, a)?)?;
+    let mut batch = Batch::one(alloc, Arc::new(alloc, a)?);
     batch.push(Arc::new(alloc, b)?)?;
     Ok(Move::Ask(batch))
 }

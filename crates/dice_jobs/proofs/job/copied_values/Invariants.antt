@@ -5,4 +5,4 @@ use Rattle.dice_jobs.proofs.job.copied_values.Given as goal
 
 -- the values so far
 abbrev pub invariant-loop-value : goal.invariant-loop-value
-invariant-loop-value g l = map arc_value l.values.items ≡ values_in (take l.value-index l.pairs)
+invariant-loop-value g l = l.values ≡ values_in (take l.value-index l.pairs)
