@@ -1,5 +1,5 @@
-//! Tests of the crates that stand lowest: keys, the example universe, evaluation, versions, cells
-//! and recordings, through public calls.
+//! Tests of the crates that stand lowest: small sets, keys, the example universe, evaluation,
+//! versions, cells and recordings, through public calls.
 #![tactic(auto)]
 
 #[cfg(test)]
@@ -16,5 +16,7 @@ mod evaluation;
 mod ranges;
 #[cfg(test)]
 mod recordings;
+#[cfg(test)]
+mod sets;
 #[cfg(test)]
 mod tiny;

@@ -7,18 +7,17 @@ use Rattle.std.specs.Borrow.{Bor}
 use Rattle.std.specs.List.{list_any}
 use Rattle.versioned_graph.proofs.Sets.{any_map}
 use Rattle.std.specs.declared.sync.Arc.{Arc}
-use Rattle.std.specs.HashSet.{HashSet}
 use Rattle.dice_key.specs.Lawful.{IsEquality, AreSame}
 use Rattle.versioned_graph.specs.Users.{set_of, or_none, users_of}
 use Rattle.dice_key.proofs.KeySets.{any_has, has_any}
 use Rattle.lists.specs.Lists.{Has}
 
-abbrev pub keys_in : {K B S : Type 0} → HashSet (Arc K B) S → List K
-keys_in s = map arc_value s.keys
+abbrev pub keys_in : {K B : Type 0} → List (Arc K B) → List K
+keys_in s = map arc_value s
 
-module _ {K A B S : Type 0} (eq : K → K → Bool) where
+module _ {K A B : Type 0} (eq : K → K → Bool) where
   -- the list of a key is what the map has there
-  pub set-named : (k : K) (es : List (Arc K A × HashSet (Arc K B) S)) → users_of eq (map set_of es) k ≡ or_none (option_map keys_in (lookup (λ a. eq k (arc_value a)) es))
+  pub set-named : (k : K) (es : List (Arc K A × List (Arc K B))) → users_of eq (map set_of es) k ≡ or_none (option_map keys_in (lookup (λ a. eq k (arc_value a)) es))
   set-named k [] = refl
   set-named k (e ∷ es) = by_test (eq k (arc_value e.0)) (set-named k es)
     where
@@ -28,7 +27,7 @@ module _ {K A B S : Type 0} (eq : K → K → Bool) where
       by_test false h = h
 
   -- one list is written, or taken out
-  pub set-put : (k : K) (a : Arc K A) (es fs : List (Arc K A × HashSet (Arc K B) S)) (o : Option (HashSet (Arc K B) S))
+  pub set-put : (k : K) (a : Arc K A) (es fs : List (Arc K A × List (Arc K B))) (o : Option (List (Arc K B)))
       → ((q : Arc K A) → lookup (λ y. eq (arc_value q) (arc_value y)) fs ≡ cond (eq k (arc_value q)) o (lookup (λ y. eq (arc_value q) (arc_value y)) es))
       → (q : K) → users_of eq (map set_of fs) q ≡ cond (eq k q) (or_none (option_map keys_in o)) (users_of eq (map set_of es) q)
   set-put k a es fs o up q =
@@ -37,12 +36,12 @@ module _ {K A B S : Type 0} (eq : K → K → Bool) where
       ∙ (by_test (eq k q) (lookup (λ y. eq q (arc_value y)) es)
       ∙ ap (cond (eq k q) (or_none (option_map keys_in o))) (sym (set-named q es))))
     where
-      by_test : (b : Bool) (p : Option (HashSet (Arc K B) S)) → or_none (option_map keys_in (cond b o p)) ≡ cond b (or_none (option_map keys_in o)) (or_none (option_map keys_in p))
+      by_test : (b : Bool) (p : Option (List (Arc K B))) → or_none (option_map keys_in (cond b o p)) ≡ cond b (or_none (option_map keys_in o)) (or_none (option_map keys_in p))
       by_test true p = refl
       by_test false p = refl
 
   -- what stands in the lists still does, if it does in the one that is written
-  pub set-more : (same : AreSame eq) (k : K) (a : Arc K A) (es fs : List (Arc K A × HashSet (Arc K B) S)) (p o : Option (HashSet (Arc K B) S)) → lookup (λ y. eq k (arc_value y)) es ≡ p
+  pub set-more : (same : AreSame eq) (k : K) (a : Arc K A) (es fs : List (Arc K A × List (Arc K B))) (p o : Option (List (Arc K B))) → lookup (λ y. eq k (arc_value y)) es ≡ p
       → ((q : Arc K A) → lookup (λ y. eq (arc_value q) (arc_value y)) fs ≡ cond (eq k (arc_value q)) o (lookup (λ y. eq (arc_value q) (arc_value y)) es))
       → ((q : K) → Has (or_none (option_map keys_in p)) q → Has (or_none (option_map keys_in o)) q)
       → (j q : K) → Has (users_of eq (map set_of es) j) q → Has (users_of eq (map set_of fs) j) q
@@ -53,13 +52,13 @@ module _ {K A B S : Type 0} (eq : K → K → Bool) where
       by_test false e = h
 
   -- what stands in another list
-  pub set-other : (k : K) (a : Arc K A) (es fs : List (Arc K A × HashSet (Arc K B) S)) (o : Option (HashSet (Arc K B) S))
+  pub set-other : (k : K) (a : Arc K A) (es fs : List (Arc K A × List (Arc K B))) (o : Option (List (Arc K B)))
       → ((q : Arc K A) → lookup (λ y. eq (arc_value q) (arc_value y)) fs ≡ cond (eq k (arc_value q)) o (lookup (λ y. eq (arc_value q) (arc_value y)) es))
       → (j q : K) → eq k j ≡ false → Has (users_of eq (map set_of es) j) q → Has (users_of eq (map set_of fs) j) q
   set-other k a es fs o up j q n h = subst (λ l. Has l q) (sym (set-put k a es fs o up j ∙ ap (λ b. cond b (or_none (option_map keys_in o)) (users_of eq (map set_of es) j)) n)) h
 
   -- what stands in the list that is written
-  pub set-has : (law : IsEquality eq) (k : K) (a : Arc K A) (es fs : List (Arc K A × HashSet (Arc K B) S)) (o : Option (HashSet (Arc K B) S))
+  pub set-has : (law : IsEquality eq) (k : K) (a : Arc K A) (es fs : List (Arc K A × List (Arc K B))) (o : Option (List (Arc K B)))
       → ((q : Arc K A) → lookup (λ y. eq (arc_value q) (arc_value y)) fs ≡ cond (eq k (arc_value q)) o (lookup (λ y. eq (arc_value q) (arc_value y)) es))
       → (q : K) → Has (or_none (option_map keys_in o)) q → Has (users_of eq (map set_of fs) k) q
   set-has law k a es fs o up q h = subst (λ l. Has l q) (sym (set-put k a es fs o up k ∙ ap (λ b. cond b (or_none (option_map keys_in o)) (users_of eq (map set_of es) k)) (law.itself k))) h
@@ -88,6 +87,6 @@ module _ {K : Type 0} (eq : K → K → Bool) (same : AreSame eq) where
       by_test false e = others j q e h
 
 -- what was found, or that there is none
-pub of_found : {K B S : Type 0} (r : Option (Bor (HashSet (Arc K B) S))) (ks : List K) → or_none (option_map keys_in (option_copied r)) ≡ ks → MatchOption r (ks ≡ []) (λ s. map arc_value s.now.keys ≡ ks)
+pub of_found : {K B : Type 0} (r : Option (Bor (List (Arc K B)))) (ks : List K) → or_none (option_map keys_in (option_copied r)) ≡ ks → MatchOption r (ks ≡ []) (λ s. map arc_value s.now ≡ ks)
 of_found None ks e = sym e
 of_found (Some s) ks e = e

@@ -20,14 +20,6 @@ filter_kept f x xs e = sym (ap (λ b. xs ++ cond b (x ∷ []) []) e)
 pub filter_left : {X : Type 0} (f : X → Bool) (x : X) (xs : List X) → f x ≡ false → xs ≡ xs ++ filter f (x ∷ [])
 filter_left f x xs e = sym (ap (λ b. xs ++ cond b (x ∷ []) []) e ∙ append-nil xs)
 
--- what one more adds, and then the others
-pub filter_step : {X : Type 0} (f : X → Bool) (x : X) (xs ys : List X) → (ys ++ filter f (x ∷ [])) ++ filter f xs ≡ ys ++ filter f (x ∷ xs)
-filter_step f x xs ys = by_test (f x)
-  where
-    by_test : (b : Bool) → (ys ++ cond b (x ∷ []) []) ++ filter f xs ≡ ys ++ cond b (x ∷ filter f xs) (filter f xs)
-    by_test true = rw append_assoc
-    by_test false = rw append_assoc
-
 -- one key more is copied
 pub copied_more : {K A : Type 0} (cs ks : List (Arc K A)) (i : ℕ) (x k : Arc K A) → i < length ks → k ≡ get_or ks i k → arc_value x ≡ arc_value k → (all : List K)
     → map arc_value cs ++ map arc_value (drop i ks) ≡ all → map arc_value (cs ++ x ∷ []) ++ map arc_value (drop (i + 1) ks) ≡ all

@@ -2,15 +2,14 @@
 use Rattle.std.specs.Prelude.{◌≡◌, Bool, true, List, [], map, filter, Option, Some, None}
 use Rattle.std.specs.Arc.{arc_value}
 use Rattle.std.specs.declared.sync.Arc.{Arc}
-use Rattle.std.specs.HashSet.{HashSet}
 use Rattle.std.specs.Map.{lookup}
 use Rattle.versioned_graph.specs.Entries.{Stored}
 use Rattle.versioned_graph.specs.Edges.{is_edge}
 use Rattle.lists.specs.Lists.{Has}
 
 -- a set with its key, without pointers
-abbrev pub set_of : {K A B S : Type 0} → Arc K A × HashSet (Arc K B) S → K × List K
-set_of p = (arc_value p.0, map arc_value p.1.keys)
+abbrev pub set_of : {K A B : Type 0} → Arc K A × List (Arc K B) → K × List K
+set_of p = (arc_value p.0, map arc_value p.1)
 
 abbrev pub or_none : {K : Type 0} → Option (List K) → List K
 or_none None = []

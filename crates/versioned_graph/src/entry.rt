@@ -9,7 +9,7 @@ ghost use Rattle.versioned_graph.specs.Looks.{look_of, look};
 use crate::found::{Found, Why};
 use dep_recorder::Trace;
 use dice_key::{NoMemory, Universe, laws_of};
-use std::collections::HashSet;
+use small_set::SmallSet;
 use std::marker::Model;
 use std::mem::swap;
 use std::sync::Arc;
@@ -23,7 +23,7 @@ pub(crate) struct Entry<U: Universe> {
     pub(crate) trace: Arc<Trace<U>>,
     pub(crate) ranges: Ranges,
     pub(crate) version: u64,
-    pub(crate) deps: HashSet<Arc<U::Key>>,
+    pub(crate) deps: SmallSet<Arc<U::Key>>,
 }
 
 // (One function for all places that drop one: a derived drop is written out at each.)
@@ -51,7 +51,7 @@ impl<U: Universe> Model for Entry<U> {
       trace = arc_value e.trace;
       ranges = e.ranges;
       version = e.version;
-      deps = map arc_value e.deps.keys;
+      deps = map arc_value e.deps;
     } };
 }
 
@@ -160,16 +160,16 @@ impl<U: Universe> Entry<U> {
 
 /// Adds these keys to a set.
 fn add_all<U: Universe>(
-    keys: &mut HashSet<Arc<U::Key>>,
-    others: &HashSet<Arc<U::Key>>,
+    keys: &mut SmallSet<Arc<U::Key>>,
+    others: &SmallSet<Arc<U::Key>>,
 ) -> Result<(), NoMemory>
     ensures { OnOk result ((q : U.Key)
-        → list_any (λ a. U.Key.eq q (arc_value a)) keys.new.keys
-        ≡ (list_any (λ a. U.Key.eq q (arc_value a)) others.now.keys
-        || list_any (λ a. U.Key.eq q (arc_value a)) keys.old.keys)) }
+        → list_any (λ a. U.Key.eq q (arc_value a)) keys.new
+        ≡ (list_any (λ a. U.Key.eq q (arc_value a)) others.now
+        || list_any (λ a. U.Key.eq q (arc_value a)) keys.old)) }
 {
     laws_of::<U>();
-    for key in others.iter() {
+    for key in others.as_slice() {
         keys.insert(Arc::try_clone(key)?)?;
     }
     Ok(())

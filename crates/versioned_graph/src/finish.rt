@@ -10,8 +10,8 @@ ghost use Rattle.lists.specs.Lists.{Has};
 use crate::users::Users;
 use dep_recorder::Trace;
 use dice_key::{NoMemory, Universe, laws_of};
+use small_set::SmallSet;
 use std::alloc::Global;
-use std::collections::HashSet;
 use std::sync::Arc;
 use version_ranges::Ranges;
 
@@ -23,12 +23,12 @@ pub(crate) fn link_open<U: Universe>(
     users: &mut Users<U>,
     key: &Arc<U::Key>,
     trace: &Trace<U>,
-) -> Result<HashSet<Arc<U::Key>>, NoMemory>
+) -> Result<SmallSet<Arc<U::Key>>, NoMemory>
     ensures keys { IfOk result (λ s. (q : U.Key)
-        → list_any (λ a. U.Key.eq q (arc_value a)) s.keys
+        → list_any (λ a. U.Key.eq q (arc_value a)) s
         ≡ (is_open ranges.now && is_asked U.Key.eq trace.now q)) }
     ensures there { IfOk result (λ s. (j : U.Key)
-        → list_any (λ a. U.Key.eq j (arc_value a)) s.keys ≡ true
+        → list_any (λ a. U.Key.eq j (arc_value a)) s ≡ true
         → Has (users_of U.Key.eq users.new j) (arc_value key.now)) }
     ensures stay { (j : U.Key) (q : U.Key) → Has (users_of U.Key.eq users.old j) q
         → Has (users_of U.Key.eq users.new j) q }
@@ -37,7 +37,7 @@ pub(crate) fn link_open<U: Universe>(
     if opened {
         link(alloc, users, key, trace)
     } else {
-        Ok(HashSet::new(alloc))
+        Ok(SmallSet::new(alloc))
     }
 }
 
@@ -47,17 +47,17 @@ fn link<U: Universe>(
     users: &mut Users<U>,
     key: &Arc<U::Key>,
     trace: &Trace<U>,
-) -> Result<HashSet<Arc<U::Key>>, NoMemory>
+) -> Result<SmallSet<Arc<U::Key>>, NoMemory>
     ensures keys { IfOk result (λ s. (q : U.Key)
-        → list_any (λ a. U.Key.eq q (arc_value a)) s.keys ≡ is_asked U.Key.eq trace.now q) }
+        → list_any (λ a. U.Key.eq q (arc_value a)) s ≡ is_asked U.Key.eq trace.now q) }
     ensures there { IfOk result (λ s. (j : U.Key)
-        → list_any (λ a. U.Key.eq j (arc_value a)) s.keys ≡ true
+        → list_any (λ a. U.Key.eq j (arc_value a)) s ≡ true
         → Has (users_of U.Key.eq users.new j) (arc_value key.now)) }
     ensures stay { (j : U.Key) (q : U.Key) → Has (users_of U.Key.eq users.old j) q
         → Has (users_of U.Key.eq users.new j) q }
 {
     laws_of::<U>();
-    let mut deps = HashSet::new(alloc);
+    let mut deps = SmallSet::new(alloc);
     for i in 0..trace.len() {
         for (dep, _) in trace.batch(i) {
             deps.insert(Arc::try_clone(dep)?)?;

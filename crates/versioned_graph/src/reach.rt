@@ -88,7 +88,7 @@ fn push_users<U: Universe>(
     let Some(recorded) = users.of(key) else {
         return Ok(());
     };
-    for user in recorded.iter() {
+    for user in recorded.as_slice() {
         push_user(store, key, user, todo)?;
     }
     Ok(())

@@ -5,8 +5,9 @@ ghost use Rattle.versioned_graph.specs.Users.{users_of};
 ghost use Rattle.lists.specs.Lists.{Has};
 
 use dice_key::{NoMemory, Universe, laws_of};
+use small_set::SmallSet;
 use std::alloc::Global;
-use std::collections::{HashMap, HashSet};
+use std::collections::HashMap;
 use std::marker::Model;
 use std::sync::Arc;
 
@@ -15,7 +16,7 @@ use std::sync::Arc;
 #[derive(Drop)]
 pub(crate) struct Users<U: Universe> {
     alloc: Global,
-    sets: HashMap<Arc<U::Key>, HashSet<Arc<U::Key>>>,
+    sets: HashMap<Arc<U::Key>, SmallSet<Arc<U::Key>>>,
 }
 
 impl<U: Universe> Model for Users<U> {
@@ -39,9 +40,9 @@ impl<U: Universe> Users<U> {
     }
 
     /// The users of a key, if any were recorded.
-    pub(crate) fn of(&self, key: &Arc<U::Key>) -> Option<&HashSet<Arc<U::Key>>>
+    pub(crate) fn of(&self, key: &Arc<U::Key>) -> Option<&SmallSet<Arc<U::Key>>>
         ensures { MatchOption result (users_of U.Key.eq self.now (arc_value key.now) ≡ [])
-            (λ s. map arc_value s.now.keys ≡ users_of U.Key.eq self.now (arc_value key.now)) }
+            (λ s. map arc_value s.now ≡ users_of U.Key.eq self.now (arc_value key.now)) }
     {
         self.sets.get(key)
     }
@@ -71,7 +72,7 @@ impl<U: Universe> Users<U> {
     {
         laws_of::<U>();
         let key = Arc::try_clone(key)?;
-        let mut set = HashSet::new(self.alloc);
+        let mut set = SmallSet::new(self.alloc);
         set.insert(user)?;
         self.sets.insert(key, set)?;
         Ok(())

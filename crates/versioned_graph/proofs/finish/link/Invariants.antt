@@ -10,11 +10,11 @@ use Rattle.versioned_graph.proofs.finish.link.Given as goal
 abbrev pub invariant-loop-i : goal.invariant-loop-i
 invariant-loop-i g l =
     let eq = g.U.Key.PartialEq.eq in
-    IsLinked eq (arc_value l.key) (λ q. list_any (λ a. eq q (arc_value a)) l.deps.keys) l.fn.users l.users
-    × ((q : g.row.U-Key.Denot) → (is_asked eq (drop l.i l.trace) q || list_any (λ a. eq q (arc_value a)) l.deps.keys) ≡ is_asked eq l.trace q)
+    IsLinked eq (arc_value l.key) (λ q. list_any (λ a. eq q (arc_value a)) l.deps) l.fn.users l.users
+    × ((q : g.row.U-Key.Denot) → (is_asked eq (drop l.i l.trace) q || list_any (λ a. eq q (arc_value a)) l.deps) ≡ is_asked eq l.trace q)
 
 abbrev pub invariant-loop-dep : goal.invariant-loop-dep
 invariant-loop-dep g l =
     let eq = g.U.Key.PartialEq.eq in
-    IsLinked eq (arc_value l.key) (λ q. list_any (λ a. eq q (arc_value a)) l.deps.keys) l.fn.users l.users
-    × ((q : g.row.U-Key.Denot) → (list_any (eq q) (keys_in (drop l.dep-index l.dep-items)) || list_any (λ a. eq q (arc_value a)) l.deps.keys) ≡ (list_any (eq q) (keys_in l.dep-items) || list_any (λ a. eq q (arc_value a)) l.initial.deps.keys))
+    IsLinked eq (arc_value l.key) (λ q. list_any (λ a. eq q (arc_value a)) l.deps) l.fn.users l.users
+    × ((q : g.row.U-Key.Denot) → (list_any (eq q) (keys_in (drop l.dep-index l.dep-items)) || list_any (λ a. eq q (arc_value a)) l.deps) ≡ (list_any (eq q) (keys_in l.dep-items) || list_any (λ a. eq q (arc_value a)) l.initial.deps))

@@ -8,4 +8,4 @@ pub returns : goal.returns
 returns g c =
     let eq = g.U.Key.PartialEq.eq in
     let j = arc_value c.args.from.now in
-    c.contains.ensures ∙ (sym (any_map eq j c.self.inside.deps.keys) ∙ ap (λ s. list_any (eq j) s.deps) c.self.view_is)
+    c.contains.ensures ∙ (sym (any_map eq j c.self.inside.deps) ∙ ap (λ s. list_any (eq j) s.deps) c.self.view_is)

@@ -12,7 +12,7 @@ returns-then-self-next-clause-kept g c =
     let veq = g.U.Value.PartialEq.eq in
     let e = c.self.inside in
     let n = c.next.inside in
-    joined_made m veq (record { value = arc_value e.value; trace = arc_value e.trace; ranges = e.ranges; version = e.version; deps = map arc_value e.deps.keys }) (record { value = arc_value n.value; trace = arc_value n.trace; ranges = n.ranges; version = n.version; deps = map arc_value n.deps.keys }) (arc_value e.value) (arc_value e.trace) c.add.new.ranges e.version false (not_le _ _ c.if-self-next.true) refl refl c.in_ok-add.ensures.ok refl
+    joined_made m veq (record { value = arc_value e.value; trace = arc_value e.trace; ranges = e.ranges; version = e.version; deps = map arc_value e.deps }) (record { value = arc_value n.value; trace = arc_value n.trace; ranges = n.ranges; version = n.version; deps = map arc_value n.deps }) (arc_value e.value) (arc_value e.trace) c.add.new.ranges e.version false (not_le _ _ c.if-self-next.true) refl refl c.in_ok-add.ensures.ok refl
     ∙ ((λ i. joined m veq (kept_of (c.self.view_is i)) (kept_of (c.next.view_is i)))
     ∙ ap (joined m veq (kept_of c.args.self.now)) c.in_ok-next.ensures.kept)
 
@@ -22,6 +22,6 @@ returns-clause-kept g c =
     let veq = g.U.Value.PartialEq.eq in
     let e = c.self.inside in
     let n = c.next.inside in
-    joined_made m veq (record { value = arc_value e.value; trace = arc_value e.trace; ranges = e.ranges; version = e.version; deps = map arc_value e.deps.keys }) (record { value = arc_value n.value; trace = arc_value n.trace; ranges = n.ranges; version = n.version; deps = map arc_value n.deps.keys }) (arc_value e.value) (arc_value c.swap-2.new.x) c.add.new.ranges n.version true (le-leb _ _ c.if-self-next.false) refl (ap arc_value c.swap-2.ensures.x_after) c.in_ok-add.ensures.ok refl
+    joined_made m veq (record { value = arc_value e.value; trace = arc_value e.trace; ranges = e.ranges; version = e.version; deps = map arc_value e.deps }) (record { value = arc_value n.value; trace = arc_value n.trace; ranges = n.ranges; version = n.version; deps = map arc_value n.deps }) (arc_value e.value) (arc_value c.swap-2.new.x) c.add.new.ranges n.version true (le-leb _ _ c.if-self-next.false) refl (ap arc_value c.swap-2.ensures.x_after) c.in_ok-add.ensures.ok refl
     ∙ ((λ i. joined m veq (kept_of (c.self.view_is i)) (kept_of (c.next.view_is i)))
     ∙ ap (joined m veq (kept_of c.args.self.now)) c.in_ok-next.ensures.kept)

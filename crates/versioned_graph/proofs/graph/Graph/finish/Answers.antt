@@ -43,7 +43,7 @@ returns-clause-edges g c =
     (record {
       opened = is_open r;
       is_open = (λ o. (let t = tail.0 o in (t.0, λ w l. sym (ranges w) ∙ t.1 w l)), λ t. tail.1 (t.0, λ w l. ranges w ∙ t.1 w l));
-      edges = λ j q. c.in_ok-put.ensures.edges j q ∙ (λ i. is_edge eq es j q || (eq k q && (goes_in m veq (entry_at eq es k) (n i) && ((any_map eq j c.in_ok-deps.deps.keys ∙ (c.in_ok-deps.ensures.keys j ∙ (λ l. is_open r && is_asked eq (c.deref-3.ensures l) j))) i))));
+      edges = λ j q. c.in_ok-put.ensures.edges j q ∙ (λ i. is_edge eq es j q || (eq k q && (goes_in m veq (entry_at eq es k) (n i) && ((any_map eq j c.in_ok-deps.deps ∙ (c.in_ok-deps.ensures.keys j ∙ (λ l. is_open r && is_asked eq (c.deref-3.ensures l) j))) i))));
     })
 
 pub returns-clause-kept : goal.returns-clause-kept
@@ -83,6 +83,6 @@ invariant_of-self-2 g c = λ j q e.
       | inl h ↦ c.in_ok-deps.ensures.stay j q (c.self.invariant j q h)
       | inr h ↦ (
           let b = and_parts (eq k q) _ h in
-          let d = and_parts _ (list_any (eq j) (map arc_value c.in_ok-deps.deps.keys)) b.1 in
-          subst (Has (users_of eq c.link_open.new.users j)) (c.laws_of.ensures.keys.same k q b.0) (c.in_ok-deps.ensures.there j (sym (any_map eq j c.in_ok-deps.deps.keys) ∙ d.1)))
+          let d = and_parts _ (list_any (eq j) (map arc_value c.in_ok-deps.deps)) b.1 in
+          subst (Has (users_of eq c.link_open.new.users j)) (c.laws_of.ensures.keys.same k q b.0) (c.in_ok-deps.ensures.there j (sym (any_map eq j c.in_ok-deps.deps) ∙ d.1)))
     ]

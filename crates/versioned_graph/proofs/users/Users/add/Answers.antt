@@ -31,7 +31,7 @@ returns-in-Some-clause-ok g c =
     let known : lookup (λ y. eq k (arc_value y)) us ≡ Some l = sym c.get_mut.ensures.value ∙ ap option_copied_mut c.in-Some.is in
     let some : IsSome (lookup (λ y. eq k (arc_value y)) us) = subst IsSome (sym known) refl in
     set-has eq c.laws_of.ensures.keys k c.args.key.now us (c.get_mut.follows.lender f).entries (Some f) (((c.get_mut.follows.holds f).3 some).0) (arc_value c.args.user.now)
-    (now_in eq c.laws_of.ensures.keys l.keys f.keys (arc_value c.args.user.now) (noted eq c.args.user.now c.in_ok-user.user l.keys f.keys c.in_ok-user.ensures c.in_ok-insert.ensures.updates.0))
+    (now_in eq c.laws_of.ensures.keys l f (arc_value c.args.user.now) (noted eq c.args.user.now c.in_ok-user.user l f c.in_ok-user.ensures c.in_ok-insert.ensures.updates))
 
 pub returns-in-Some-clause-stay : goal.returns-in-Some-clause-stay
 returns-in-Some-clause-stay g c = λ j q h.
@@ -43,7 +43,7 @@ returns-in-Some-clause-stay g c = λ j q h.
     let known : lookup (λ y. eq k (arc_value y)) us ≡ Some l = sym c.get_mut.ensures.value ∙ ap option_copied_mut c.in-Some.is in
     let some : IsSome (lookup (λ y. eq k (arc_value y)) us) = subst IsSome (sym known) refl in
     set-more eq c.laws_of.ensures.keys.same k c.args.key.now us (c.get_mut.follows.lender f).entries (Some l) (Some f) known (((c.get_mut.follows.holds f).3 some).0)
-    (λ x i. still_in eq c.laws_of.ensures.keys l.keys f.keys (arc_value c.args.user.now) (noted eq c.args.user.now c.in_ok-user.user l.keys f.keys c.in_ok-user.ensures c.in_ok-insert.ensures.updates.0) x i) j q
+    (λ x i. still_in eq c.laws_of.ensures.keys l f (arc_value c.args.user.now) (noted eq c.args.user.now c.in_ok-user.user l f c.in_ok-user.ensures c.in_ok-insert.ensures.updates) x i) j q
     (subst (λ ls. Has (users_of eq ls j) q) (sym c.self.view_is) h)
 
 pub returns-clause-ok : goal.returns-clause-ok

@@ -13,7 +13,7 @@ returns-clause-ok g c =
     let f = c.insert.new.self in
     subst (λ n. Has (users_of eq (map set_of c.insert-2.new.self.entries) n) (arc_value c.args.user)) c.in_ok-key.ensures
     (set-has eq c.laws_of.ensures.keys (arc_value c.in_ok-key.key) c.in_ok-key.key c.self.inside.sets.entries c.insert-2.new.self.entries (Some f) c.in_ok-insert-2.ensures.updates.0 (arc_value c.args.user)
-    (now_in eq c.laws_of.ensures.keys c.new-set.result.keys f.keys (arc_value c.args.user) (noted eq c.args.user c.args.user c.new-set.result.keys f.keys refl c.in_ok-insert.ensures.updates.0)))
+    (now_in eq c.laws_of.ensures.keys c.new-set.result f (arc_value c.args.user) (noted eq c.args.user c.args.user c.new-set.result f refl c.in_ok-insert.ensures.updates)))
 
 pub returns-clause-stay : goal.returns-clause-stay
 returns-clause-stay g c = λ j q n h.

@@ -1,0 +1,6 @@
+//! Sets that mostly have few members.
+#![tactic(auto)]
+
+mod set;
+
+pub use set::SmallSet;

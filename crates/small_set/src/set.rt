@@ -1,0 +1,184 @@
+//! The set.
+ghost use Rattle.std.specs.Prelude.{◌≡◌, ◌+◌, ◌≤◌, ◌==◌, true, not, [], ◌∷◌, ◌++◌, length, if◌then◌else◌, IfOk, OnOk, OnErr};
+ghost use Rattle.std.specs.List.{list_any, IsDistinct};
+ghost use Rattle.indexmap.specs.IndexSet.{spare, insert_all, insert_key};
+
+use indexmap::IndexSet;
+use std::alloc::{AllocError, Global};
+use std::hash::Hash;
+use std::marker::Model;
+use std::mem::replace;
+
+/// How many members a list keeps at most.
+const FEW: usize = 8;
+
+/// A set that keeps up to eight members in a list, and more in a hash set. They stay in the order
+/// in which they came.
+pub struct SmallSet<T: Eq + Hash> {
+    alloc: Global,
+    members: Members<T>,
+}
+
+/// The members of a set, each once.
+#[derive(Drop)]
+enum Members<T: Eq + Hash> {
+    Few(Vec<T>),
+    Many(Box<IndexSet<T>>),
+}
+
+// (One function for all places that drop one: a derived drop is written out at each.)
+impl<T: Eq + Hash + Drop> Drop for SmallSet<T> {
+    fn drop(self) {
+        let SmallSet {
+            alloc: _,
+            members: _members,
+        } = self;
+    }
+}
+
+impl<T: Eq + Hash> Model for SmallSet<T> {
+    ghost use Rattle.std.specs.Prelude.{List};
+
+    ghost Value = { List T };
+
+    ghost use Rattle.small_set.specs.Members.{members_in, AreKept};
+
+    ghost view = { λ s. members_in s.members };
+
+    ghost invariant = { λ s. AreKept T.eq s.members };
+}
+
+impl<T: Eq + Hash> SmallSet<T> {
+    /// None yet. It takes no memory.
+    #[tactic(auto, using(crate::proofs::Distinct::distinct_none))]
+    pub fn new(alloc: Global) -> SmallSet<T>
+        ensures { result ≡ [] }
+    {
+        SmallSet {
+            alloc,
+            members: Members::Few(Vec::new(alloc)),
+        }
+    }
+
+    /// The members, in the order in which they came. No two are equal.
+    pub fn as_slice(&self) -> &[T]
+        ensures members { result.now ≡ self.now }
+        ensures distinct { IsDistinct T.eq self.now }
+    {
+        match &self.members {
+            Members::Few(list) => list.as_slice(),
+            Members::Many(set) => set.as_slice(),
+        }
+    }
+
+    /// How many members there are.
+    pub fn len(&self) -> usize
+        ensures { result ≡ length self.now }
+    {
+        match &self.members {
+            Members::Few(list) => list.len(),
+            Members::Many(set) => set.len(),
+        }
+    }
+
+    /// Whether there is no member.
+    pub fn is_empty(&self) -> bool
+        ensures { result ≡ (length self.now == 0) }
+    {
+        self.len() == 0
+    }
+
+    /// Whether a member is equal to a value.
+    pub fn contains(&self, value: &T) -> bool
+        ensures { result ≡ list_any (T.eq value.now) self.now }
+    {
+        match &self.members {
+            Members::Few(list) => is_among(list, value),
+            Members::Many(set) => set.contains(value),
+        }
+    }
+}
+
+impl<T: Eq + Hash + Drop> SmallSet<T> {
+    /// Adds a value as the last member, and tells `true`; if a member is equal to it, all stays,
+    /// and it tells `false`. At an error all is as before.
+    pub fn insert(&mut self, value: T) -> Result<bool, AllocError>
+        ensures added { IfOk result (λ added. added ≡ not (list_any (T.eq value) self.old)) }
+        ensures ok { OnOk result (self.new
+            ≡ (if list_any (T.eq value) self.old then self.old else self.old ++ value ∷ [])) }
+        ensures updates { OnOk result ((q : T) → list_any (T.eq q) self.new
+            ≡ (if T.eq value q then true else list_any (T.eq q) self.old)) }
+        ensures err { OnErr result (self.new ≡ self.old) }
+    {
+        match &mut self.members {
+            Members::Few(list) => {
+                if is_among(list, &value) {
+                    return Ok(false);
+                }
+                if list.len() < FEW {
+                    list.push(value)?;
+                    return Ok(true);
+                }
+                self.members = Members::Many(many(self.alloc, list, value)?);
+                Ok(true)
+            }
+            Members::Many(set) => Ok(set.insert(value)?),
+        }
+    }
+
+    /// Takes all members away. It takes no memory.
+    #[tactic(auto, using(crate::proofs::Distinct::distinct_none))]
+    pub fn clear(&mut self)
+        ensures { self.new ≡ [] }
+    {
+        match &mut self.members {
+            Members::Few(list) => list.clear(),
+            Members::Many(set) => set.clear(),
+        }
+    }
+}
+
+/// Whether one of a list is equal to a value.
+fn is_among<T: Eq>(list: &[T], value: &T) -> bool
+    ensures { result ≡ list_any (T.eq value.now) list.now }
+{
+    for member in list {
+        if *value == *member {
+            return true;
+        }
+    }
+    false
+}
+
+/// A hash set of the members of a list, which it takes, and then a value. At an error the list is
+/// as before.
+fn many<T: Eq + Hash + Drop>(
+    alloc: Global,
+    list: &mut Vec<T>,
+    value: T,
+) -> Result<Box<IndexSet<T>>, AllocError>
+    requires { length list.old.items ≤ 8 }
+    ensures ok { IfOk result (λ set. set.value.keys
+        ≡ insert_key T.eq (insert_all T.eq [] list.old.items) value) }
+    ensures err { OnErr result (list.new ≡ list.old) }
+{
+    let mut set = Box::new(alloc, IndexSet::with_capacity(alloc, 2 * FEW)?)?;
+    fill(&mut set, replace(list, Vec::new(alloc)));
+    if set.insert(value).is_err() {
+        unreachable!();
+    }
+    Ok(set)
+}
+
+/// Inserts all of a list into a hash set that has room for them.
+fn fill<T: Eq + Hash + Drop>(set: &mut IndexSet<T>, list: Vec<T>)
+    requires { length list.items ≤ spare set.old }
+    ensures keys { set.new.keys ≡ insert_all T.eq set.old.keys list.items }
+    ensures room { spare set.old ≤ spare set.new + length list.items }
+{
+    for member in list {
+        if set.insert(member).is_err() {
+            unreachable!();
+        }
+    }
+}
