@@ -45,8 +45,7 @@ fn copied_pairs<K: Drop, V: Drop>(
     ensures keys { IfOk result (λ ps. keys_in ps.items ≡ keys_in from.now) }
     ensures values { IfOk result (λ ps. values_in ps.items ≡ values_in from.now) }
 {
-    let mut pairs = Vec::new(alloc);
-    pairs.reserve(from.len().saturating_add(more))?;
+    let mut pairs = Vec::with_capacity(alloc, from.len().saturating_add(more))?;
     copy_pairs(&mut pairs, from)?;
     Ok(pairs)
 }

@@ -1,5 +1,5 @@
 //! Lists of ranges made in one walk over two.
-ghost use Rattle.std.specs.Prelude.{◌≡◌, ℕ, true, false, ◌&&◌, ◌||◌, ◌<◌, ◌≤◌, length, slice_index_or, max, IfOk, OnOk, OnErr};
+ghost use Rattle.std.specs.Prelude.{◌≡◌, ◌++◌, ◌∷◌, [], ℕ, true, false, ◌&&◌, ◌||◌, ◌<◌, ◌≤◌, length, slice_index_or, max, IfOk, OnOk, OnErr};
 ghost use Rattle.version_ranges.specs.declared.half_open.Range.{Range};
 ghost use Rattle.version_ranges.specs.Members.{is_before, is_in, contains};
 ghost use Rattle.version_ranges.specs.Order.{IsSeparate, LastBeginsBy};
@@ -29,6 +29,18 @@ pub(crate) fn append(ranges: &mut Vec<Range>, next: Range) -> Result<(), NoMemor
             };
             return Ok(());
         }
+    }
+    push(ranges, next)?;
+    Ok(())
+}
+
+/// Adds a range at the end. The first one gets memory for itself alone: most lists stay so.
+fn push(ranges: &mut Vec<Range>, next: Range) -> Result<(), NoMemory>
+    ensures ok { OnOk result (ranges.new.items ≡ ranges.old.items ++ next ∷ []) }
+    ensures err { OnErr result (ranges.new.items ≡ ranges.old.items) }
+{
+    if ranges.is_empty() {
+        ranges.reserve_exact(1)?;
     }
     ranges.push(next)?;
     Ok(())

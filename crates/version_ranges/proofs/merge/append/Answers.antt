@@ -31,7 +31,7 @@ pub returns-clause-separate : goal.returns-clause-separate
 returns-clause-separate c =
     let rs = c.args.ranges.now.items in
     let n = c.args.next in
-    rw c.in_ok-push.ensures.items
+    rw c.in_ok-push.ensures.ok
     (elim c.if-len-gt0.branch as (λ _. IsSeparate (rs ++ n ∷ [])) [
       | then-len-gt0+else-not-is_end_below w ↦
           (let l = w.index-last.result.now in
@@ -40,4 +40,4 @@ returns-clause-separate c =
     ])
 
 pub returns-clause-members : goal.returns-clause-members
-returns-clause-members c = rw c.in_ok-push.ensures.items (push_members c.args.ranges.now.items c.args.next)
+returns-clause-members c = rw c.in_ok-push.ensures.ok (push_members c.args.ranges.now.items c.args.next)
