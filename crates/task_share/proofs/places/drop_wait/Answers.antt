@@ -4,7 +4,6 @@ use Rattle.std.specs.Arc.{arc_value}
 use Rattle.std.specs.List.{list_any}
 use Rattle.std.specs.Map.{lookup, values_of}
 use Rattle.std.specs.Option.{option_to_list}
-use Rattle.std.specs.HashMap.{spare as map_spare}
 use Rattle.std.specs.Vec.{vec_capacity}
 use Rattle.std.proofs.lemmas.Option.{none-some, same_Some}
 use Rattle.indexmap.specs.IndexMap.{set_value_at}
@@ -40,7 +39,7 @@ returns-clause-changed g c = λ d named.
     let i = written_at eq law es (set_value_at es c.args.at w) c.args.at e.0 h w c.requires.linked.distinct e.1 refl in
     let names = names_of es in
     let before = c.requires.linked.waits (e.0, h) (has_at es c.args.at (e.0, h) e.1) in
-    let after = numbered_on names h.waits.entries c.swap_remove.new.self.entries c.args.asked None before c.swap_remove.ensures.unique (λ m. c.swap_remove.ensures.updates.0 m) (λ a z. absurd (none-some a z)) in
+    let after = numbered_on names h.waits.entries c.swap_remove.new.self.entries c.args.asked None before c.swap_remove.ensures.distinct (λ m. c.swap_remove.ensures.updates m) (λ a z. absurd (none-some a z)) in
     let same = same_number eq law es c.requires.linked.distinct in
     changed_at eq law es (set_value_at es c.args.at w) c.args.at e.0 h w _ c.requires.linked e.1 refl (λ n. n) (λ _. after)
-    (record { task = refl; live = refl; asks = λ a. refl; waits = left_wait eq (share_of h) (share_of w) d (any_on eq law names same h.waits.entries c.swap_remove.new.self.entries c.args.asked d None before after named (λ m. c.swap_remove.ensures.updates.0 m)) }, record { promises = omega arith; askers = omega arith; waits = omega (arith, c.swap_remove.ensures.room.0); count = omega arith; stays = λ t. t })
+    (record { task = refl; live = refl; asks = λ a. refl; waits = left_wait eq (share_of h) (share_of w) d (any_on eq law names same h.waits.entries c.swap_remove.new.self.entries c.args.asked d None before after named (λ m. c.swap_remove.ensures.updates m)) }, record { promises = omega arith; askers = omega arith; waits = omega (arith, c.swap_remove.ensures.room); count = omega arith; stays = λ t. t })

@@ -4,7 +4,6 @@ use Rattle.std.specs.Arc.{arc_value}
 use Rattle.std.specs.List.{list_any}
 use Rattle.std.specs.Map.{lookup, values_of}
 use Rattle.std.specs.Option.{option_to_list}
-use Rattle.std.specs.HashMap.{spare as map_spare}
 use Rattle.std.specs.Vec.{vec_capacity}
 use Rattle.std.proofs.lemmas.Option.{none-some, same_Some}
 use Rattle.indexmap.specs.IndexMap.{set_value_at}
@@ -60,6 +59,6 @@ returns-clause-changed g c =
     let w : Place g.row.K.Denot g.row.T.Denot = record { task = h.task; live = false; promises = h.promises; askers = h.askers; waits = c.replace.new.dest; name = h.name } in
     let e = entry_of_value es c.args.at h c.in-Some.ensures.value in
     let i = written_at eq law es (set_value_at es c.args.at w) c.args.at e.0 h w c.requires.linked.distinct e.1 refl in
-    let none : c.replace.new.dest.entries ≡ [] = ap (λ m. m.entries) c.replace.ensures.after ∙ c.new-none.ensures.empty in
+    let none : c.replace.new.dest.entries ≡ [] = ap (λ m. m.entries) c.replace.ensures.after ∙ c.new-none.ensures.entries in
     changed_at eq law es (set_value_at es c.args.at w) c.args.at e.0 h w _ c.requires.linked e.1 refl (λ n. n) (λ n x y. absurd (subst (λ xs. Has xs x) none y))
     (record { task = refl; live = refl; asks = λ a. refl; waits = λ d. ap (λ xs. list_any (eq d) (map arc_value (values_of xs))) none }, record { promises = omega arith; askers = omega arith; waits = omega arith; count = omega arith; stays = λ t. t })

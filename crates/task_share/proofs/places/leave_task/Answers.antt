@@ -4,7 +4,6 @@ use Rattle.std.specs.Arc.{arc_value}
 use Rattle.std.specs.List.{list_any}
 use Rattle.std.specs.Map.{lookup, values_of}
 use Rattle.std.specs.Option.{option_to_list}
-use Rattle.std.specs.HashMap.{spare as map_spare}
 use Rattle.std.specs.Vec.{vec_capacity}
 use Rattle.std.proofs.lemmas.Option.{none-some, same_Some}
 use Rattle.indexmap.specs.IndexMap.{set_value_at}
@@ -50,10 +49,10 @@ returns-clause-changed g c = λ j named.
     let mid : Place g.row.K.Denot g.row.T.Denot = record { task = h.task; live = h.live; promises = h.promises; askers = c.swap_remove.new.self; waits = h.waits; name = h.name } in
     let names = names_of es in
     let before = c.requires.linked.askers (e.0, h) (has_at es c.args.at (e.0, h) e.1) in
-    let after = numbered_on names h.askers.entries c.swap_remove.new.self.entries c.args.asker None before c.swap_remove.ensures.unique (λ m. c.swap_remove.ensures.updates.0 m) (λ a z. absurd (none-some a z)) in
+    let after = numbered_on names h.askers.entries c.swap_remove.new.self.entries c.args.asker None before c.swap_remove.ensures.distinct (λ m. c.swap_remove.ensures.updates m) (λ a z. absurd (none-some a z)) in
     let same = same_number eq law es c.requires.linked.distinct in
     changed_at eq law es (set_value_at es c.args.at w) c.args.at e.0 h w _ c.requires.linked e.1 refl (λ _. subst (λ m. AreNumbered names m.entries) (sym c.settle.ensures.askers) after) (λ n. subst (λ m. AreNumbered (names_of es) m.entries) (sym c.settle.ensures.waits) n)
-    (rw c.settle.ensures.place (record { task = refl; live = refl; asks = left_task eq (share_of h) (share_of mid) j refl (any_on eq law names same h.askers.entries c.swap_remove.new.self.entries c.args.asker j None before after named (λ m. c.swap_remove.ensures.updates.0 m)); waits = λ d. refl }, record { promises = omega arith; askers = omega (arith, c.swap_remove.ensures.room.0); waits = omega arith; count = fewer_count (is_some c.swap_remove.result) h.askers.entries c.swap_remove.new.self.entries c.swap_remove.ensures.len; stays = settled_takes (share_of mid) (runs_at eq law e.0 es (map arc_value c.args.candidates.now.items) (vec_capacity c.args.candidates.now) h c.requires.listed i.known) }))
+    (rw c.settle.ensures.place (record { task = refl; live = refl; asks = left_task eq (share_of h) (share_of mid) j refl (any_on eq law names same h.askers.entries c.swap_remove.new.self.entries c.args.asker j None before after named (λ m. c.swap_remove.ensures.updates m)); waits = λ d. refl }, record { promises = omega arith; askers = omega (arith, c.swap_remove.ensures.room); waits = omega arith; count = fewer_count (is_some c.swap_remove.result) h.askers.entries c.swap_remove.new.self.entries c.swap_remove.ensures.len; stays = settled_takes (share_of mid) (runs_at eq law e.0 es (map arc_value c.args.candidates.now.items) (vec_capacity c.args.candidates.now) h c.requires.listed i.known) }))
 
 pub returns-clause-linked : goal.returns-clause-linked
 returns-clause-linked g c =
@@ -67,7 +66,7 @@ returns-clause-linked g c =
     let mid : Place g.row.K.Denot g.row.T.Denot = record { task = h.task; live = h.live; promises = h.promises; askers = c.swap_remove.new.self; waits = h.waits; name = h.name } in
     let names = names_of es in
     let before = c.requires.linked.askers (e.0, h) (has_at es c.args.at (e.0, h) e.1) in
-    let after = numbered_on names h.askers.entries c.swap_remove.new.self.entries c.args.asker None before c.swap_remove.ensures.unique (λ m. c.swap_remove.ensures.updates.0 m) (λ a z. absurd (none-some a z)) in
+    let after = numbered_on names h.askers.entries c.swap_remove.new.self.entries c.args.asker None before c.swap_remove.ensures.distinct (λ m. c.swap_remove.ensures.updates m) (λ a z. absurd (none-some a z)) in
     let same = same_number eq law es c.requires.linked.distinct in
     linked_set eq (λ b. eq (arc_value e.0) (arc_value b)) es (set_value_at es c.args.at w) h w c.requires.linked i.set i.known (λ _. subst (λ m. AreNumbered names m.entries) (sym c.settle.ensures.askers) after) (λ n. subst (λ m. AreNumbered (names_of es) m.entries) (sym c.settle.ensures.waits) n)
 

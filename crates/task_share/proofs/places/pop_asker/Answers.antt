@@ -4,7 +4,6 @@ use Rattle.std.specs.Arc.{arc_value}
 use Rattle.std.specs.List.{list_any}
 use Rattle.std.specs.Map.{lookup, values_of}
 use Rattle.std.specs.Option.{option_to_list}
-use Rattle.std.specs.HashMap.{spare as map_spare}
 use Rattle.std.specs.Vec.{vec_capacity}
 use Rattle.std.proofs.lemmas.Option.{none-some, same_Some}
 use Rattle.indexmap.specs.IndexMap.{set_value_at}
@@ -79,9 +78,9 @@ returns-clause-some g c =
     let names = names_of es in
     let same = same_number eq law es c.requires.linked.distinct in
     if_some c.pop-asker.result (λ x z up.
-    let after = numbered_on names h.askers.entries c.pop-asker.new.self.entries x.0 None before c.pop-asker.ensures.unique (λ m. up.0 m) (λ a y. absurd (none-some a y)) in
+    let after = numbered_on names h.askers.entries c.pop-asker.new.self.entries x.0 None before c.pop-asker.ensures.distinct (λ m. up m) (λ a y. absurd (none-some a y)) in
     changed_at eq law es (set_value_at es c.args.at w) c.args.at e.0 h w _ c.requires.linked e.1 refl (λ _. subst (λ m. AreNumbered names m.entries) (sym c.settle.ensures.askers) after) (λ n. subst (λ m. AreNumbered (names_of es) m.entries) (sym c.settle.ensures.waits) n)
-    (rw c.settle.ensures.place (record { task = refl; live = refl; asks = left_task eq (share_of h) (share_of mid) (arc_value x.1) refl (any_on eq law names same h.askers.entries c.pop-asker.new.self.entries x.0 (arc_value x.1) None before after (before x (subst (λ xs. Has xs x) (sym (c.pop-asker.ensures.entries ∙ ap (λ r. c.pop-asker.new.self.entries ++ option_to_list r) z)) (has_end c.pop-asker.new.self.entries x))) (λ m. up.0 m)); waits = λ d. refl }, record { promises = omega arith; askers = omega (arith, c.pop-asker.ensures.room.0); waits = omega arith; count = fewer_count (is_some c.pop-asker.result) h.askers.entries c.pop-asker.new.self.entries c.pop-asker.ensures.len; stays = settled_takes (share_of mid) (runs_at eq law e.0 es (map arc_value c.args.candidates.now.items) (vec_capacity c.args.candidates.now) h c.requires.listed i.known) }))) c.pop-asker.ensures.updates
+    (rw c.settle.ensures.place (record { task = refl; live = refl; asks = left_task eq (share_of h) (share_of mid) (arc_value x.1) refl (any_on eq law names same h.askers.entries c.pop-asker.new.self.entries x.0 (arc_value x.1) None before after (before x (subst (λ xs. Has xs x) (sym (c.pop-asker.ensures.entries ∙ ap (λ r. c.pop-asker.new.self.entries ++ option_to_list r) z)) (has_end c.pop-asker.new.self.entries x))) (λ m. up m)); waits = λ d. refl }, record { promises = omega arith; askers = omega (arith, c.pop-asker.ensures.room); waits = omega arith; count = fewer_count (is_some c.pop-asker.result) h.askers.entries c.pop-asker.new.self.entries c.pop-asker.ensures.len; stays = settled_takes (share_of mid) (runs_at eq law e.0 es (map arc_value c.args.candidates.now.items) (vec_capacity c.args.candidates.now) h c.requires.listed i.known) }))) c.pop-asker.ensures.updates
 
 pub returns-clause-fewer : goal.returns-clause-fewer
 returns-clause-fewer g c =
@@ -122,4 +121,4 @@ returns-clause-none g c =
     if_none c.pop-asker.result (λ z.
     let kept : c.pop-asker.new.self.entries ≡ h.askers.entries = sym (append-nil c.pop-asker.new.self.entries) ∙ sym (c.pop-asker.ensures.entries ∙ ap (λ r. c.pop-asker.new.self.entries ++ option_to_list r) z) in
     changed_at eq law es (set_value_at es c.args.at w) c.args.at e.0 h w _ c.requires.linked e.1 refl (λ n. subst (λ m. AreNumbered (names_of es) m.entries) (sym c.settle.ensures.askers) (subst (AreNumbered (names_of es)) (sym kept) n)) (λ n. subst (λ m. AreNumbered (names_of es) m.entries) (sym c.settle.ensures.waits) n)
-    (rw c.settle.ensures.place (record { task = refl; live = refl; asks = same_asks eq (share_of h) (share_of mid) refl (ap (λ xs. map arc_value (values_of xs)) kept); waits = λ d. refl }, record { promises = omega arith; askers = omega (arith, c.pop-asker.ensures.room.0); waits = omega arith; count = fewer_count (is_some c.pop-asker.result) h.askers.entries c.pop-asker.new.self.entries c.pop-asker.ensures.len; stays = settled_takes (share_of mid) (runs_at eq law e.0 es (map arc_value c.args.candidates.now.items) (vec_capacity c.args.candidates.now) h c.requires.listed i.known) })))
+    (rw c.settle.ensures.place (record { task = refl; live = refl; asks = same_asks eq (share_of h) (share_of mid) refl (ap (λ xs. map arc_value (values_of xs)) kept); waits = λ d. refl }, record { promises = omega arith; askers = omega (arith, c.pop-asker.ensures.room); waits = omega arith; count = fewer_count (is_some c.pop-asker.result) h.askers.entries c.pop-asker.new.self.entries c.pop-asker.ensures.len; stays = settled_takes (share_of mid) (runs_at eq law e.0 es (map arc_value c.args.candidates.now.items) (vec_capacity c.args.candidates.now) h c.requires.listed i.known) })))

@@ -22,8 +22,8 @@ returns-in-Some-clause-promises g c = λ n.
 
 pub returns-in-Some-clause-tasks : goal.returns-in-Some-clause-tasks
 returns-in-Some-clause-tasks g c = λ j.
-    subst (λ (ps : List (g.row.K.Denot × Share g.row.K.Denot g.row.T.Denot)). list_any (g.K.PartialEq.eq j) (map arc_value c.as_slice-in-Some.result.now) ≡ asks g.K.PartialEq.eq ps (arc_value c.args.key.now) (Tasked j)) c.self.view_is
-    (ap (λ ks. list_any (g.K.PartialEq.eq j) (map arc_value ks)) (c.as_slice-in-Some.ensures ∙ c.values.ensures.rest) ∙ sym (ap (is_for (λ (p : Share g.row.K.Denot g.row.T.Denot). has_by g.K.PartialEq.eq p (Tasked j))) (lookup_shares (g.K.PartialEq.eq (arc_value c.args.key.now)) c.self.inside.places.entries ∙ ap (option_map share_of) (sym c.get.ensures.value ∙ ap option_copied c.in-Some.is))))
+    subst (λ (ps : List (g.row.K.Denot × Share g.row.K.Denot g.row.T.Denot)). list_any (g.K.PartialEq.eq j) (map arc_value c.values.result.now) ≡ asks g.K.PartialEq.eq ps (arc_value c.args.key.now) (Tasked j)) c.self.view_is
+    (ap (λ ks. list_any (g.K.PartialEq.eq j) (map arc_value ks)) c.values.ensures ∙ sym (ap (is_for (λ (p : Share g.row.K.Denot g.row.T.Denot). has_by g.K.PartialEq.eq p (Tasked j))) (lookup_shares (g.K.PartialEq.eq (arc_value c.args.key.now)) c.self.inside.places.entries ∙ ap (option_map share_of) (sym c.get.ensures.value ∙ ap option_copied c.in-Some.is))))
 
 pub returns-in-None-clause-promises : goal.returns-in-None-clause-promises
 returns-in-None-clause-promises g c = λ n.
@@ -40,14 +40,14 @@ returns-in-Some-clause-distinct_promises g c = subst AreDistinct (sym c.as_slice
 
 pub returns-in-Some-clause-numbers : goal.returns-in-Some-clause-numbers
 returns-in-Some-clause-numbers g c =
-    subst (λ (ps : List (g.row.K.Denot × Share g.row.K.Denot g.row.T.Denot)). map (key_at ps) c.as_slice-in-Some-2.result.now ≡ map Some (map arc_value c.as_slice-in-Some.result.now)) c.self.view_is
+    subst (λ (ps : List (g.row.K.Denot × Share g.row.K.Denot g.row.T.Denot)). map (key_at ps) c.numbers.result.now ≡ map Some (map arc_value c.values.result.now)) c.self.view_is
     ((let h = c.in-Some.place.now in
     let f = entry_found (λ a. g.K.PartialEq.eq (arc_value c.args.key.now) (arc_value a)) c.self.inside.places.entries h (sym c.get.ensures.value ∙ ap option_copied c.in-Some.is) in
-    ap (map (key_at (shares_of c.self.inside.places.entries))) (c.as_slice-in-Some-2.ensures ∙ c.keys.ensures.rest) ∙ (numbered_keys c.self.inside.places.entries h.askers.entries (c.self.invariant.2.askers (f.0, h) f.1) ∙ ap (λ vs. map Some (map arc_value vs)) (sym (c.as_slice-in-Some.ensures ∙ c.values.ensures.rest)))))
+    ap (map (key_at (shares_of c.self.inside.places.entries))) c.numbers.ensures.numbers ∙ (numbered_keys c.self.inside.places.entries h.askers.entries (c.self.invariant.2.askers (f.0, h) f.1) ∙ ap (λ vs. map Some (map arc_value vs)) (sym c.values.ensures))))
 
 pub returns-in-Some-clause-distinct : goal.returns-in-Some-clause-distinct
 returns-in-Some-clause-distinct g c =
     let eq = g.K.PartialEq.eq in
     let h = c.in-Some.place.now in
     let f = entry_found (λ a. eq (arc_value c.args.key.now) (arc_value a)) c.self.inside.places.entries h (sym c.get.ensures.value ∙ ap option_copied c.in-Some.is) in
-    subst (λ ks. AreDistinct (map arc_value ks)) (sym (c.as_slice-in-Some.ensures ∙ c.values.ensures.rest)) (numbers_apart eq c.self.invariant.0 (names_of c.self.inside.places.entries) (same_number eq c.self.invariant.0 c.self.inside.places.entries c.self.invariant.2.distinct) h.askers.entries (c.self.invariant.2.askers (f.0, h) f.1) c.keys.ensures.unique)
+    subst (λ ks. AreDistinct (map arc_value ks)) (sym c.values.ensures) (numbers_apart eq c.self.invariant.0 (names_of c.self.inside.places.entries) (same_number eq c.self.invariant.0 c.self.inside.places.entries c.self.invariant.2.distinct) h.askers.entries (c.self.invariant.2.askers (f.0, h) f.1) c.numbers.ensures.distinct)
