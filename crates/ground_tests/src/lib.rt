@@ -17,4 +17,6 @@ mod ranges;
 #[cfg(test)]
 mod recordings;
 #[cfg(test)]
+mod small_maps;
+#[cfg(test)]
 mod tiny;

@@ -1,4 +1,4 @@
-//! A map by number that takes no memory for one entry.
+//! A map by number that takes no memory for a single entry.
 #![tactic(auto)]
 
 mod map;

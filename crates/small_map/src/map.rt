@@ -14,7 +14,8 @@ use std::marker::Model;
 use std::sync::Arc;
 use std::{mem, slice};
 
-/// A map from numbers to shared values. One entry lies in the map itself, and takes no memory.
+/// A map from numbers to shared values. A single entry lies in the map itself and takes no memory;
+/// more lie in a hash map. A call takes constant time, but for growth.
 #[derive(Drop)]
 pub struct SmallMap<T: Drop> {
     kept: Kept<T>,
@@ -43,7 +44,7 @@ impl<T: Drop> Model for SmallMap<T> {
 
 impl<T: Drop> SmallMap<T> {
     /// A map without entries. It takes no memory.
-    #[tactic(auto, using(crate::proofs::KeptLemmas::none_apart))]
+    #[tactic(auto, using(crate::proofs::Apart::none_apart))]
     pub fn new(alloc: Global) -> SmallMap<T>
         ensures entries { result.entries ≡ [] }
         ensures room { result.room ≡ 1 }
@@ -55,7 +56,7 @@ impl<T: Drop> SmallMap<T> {
     }
 
     /// The numbers, in the order of the entries.
-    #[tactic(auto, using(crate::proofs::KeptLemmas::none_apart, crate::proofs::KeptLemmas::one_apart))]
+    #[tactic(auto, using(crate::proofs::Apart::none_apart, crate::proofs::Apart::one_apart))]
     pub fn numbers(&self) -> &[usize]
         ensures numbers { result.now ≡ keys_of self.now.entries }
         ensures distinct { IsDistinct nat_eq (keys_of self.now.entries) }
@@ -103,7 +104,7 @@ impl<T: Drop> SmallMap<T> {
     }
 
     /// Makes room for this many more numbers, so that as many inserts need no memory.
-    #[tactic(auto, using(crate::proofs::KeptLemmas::none_apart, crate::proofs::KeptLemmas::one_apart))]
+    #[tactic(auto, using(crate::proofs::Apart::none_apart, crate::proofs::Apart::one_apart))]
     pub fn reserve(&mut self, additional: usize) -> Result<(), AllocError>
         ensures entries { self.new.entries ≡ self.old.entries }
         ensures ok { OnOk result (additional ≤ self.new.room) }
@@ -123,7 +124,7 @@ impl<T: Drop> SmallMap<T> {
 
     /// Puts a value to a number, and gives the value that was there. With room it needs no memory;
     /// at an error nothing changes, and the value is dropped.
-    #[tactic(auto, using(crate::proofs::KeptLemmas::none_apart, crate::proofs::KeptLemmas::one_apart))]
+    #[tactic(auto, using(crate::proofs::Apart::none_apart, crate::proofs::Apart::one_apart))]
     pub fn insert(&mut self, number: usize, value: Arc<T>) -> Result<Option<Arc<T>>, AllocError>
         ensures old { IfOk result (λ old. old ≡ lookup (nat_eq number) self.old.entries) }
         ensures updates { OnOk result
@@ -155,8 +156,8 @@ impl<T: Drop> SmallMap<T> {
         }
     }
 
-    /// Takes a number out, and gives its value. The last entry takes its place.
-    #[tactic(auto, using(crate::proofs::KeptLemmas::none_apart, crate::proofs::KeptLemmas::one_apart))]
+    /// Takes a number out, and gives its value. The order of the others may change.
+    #[tactic(auto, using(crate::proofs::Apart::none_apart, crate::proofs::Apart::one_apart))]
     pub fn swap_remove(&mut self, number: usize) -> Option<Arc<T>>
         ensures value { result ≡ lookup (nat_eq number) self.old.entries }
         ensures updates { Updates self.old.entries self.new.entries number None }
@@ -180,7 +181,7 @@ impl<T: Drop> SmallMap<T> {
     }
 
     /// Takes the last entry out.
-    #[tactic(auto, using(crate::proofs::KeptLemmas::none_apart, crate::proofs::KeptLemmas::one_apart))]
+    #[tactic(auto, using(crate::proofs::Apart::none_apart, crate::proofs::Apart::one_apart))]
     pub fn pop(&mut self) -> Option<(usize, Arc<T>)>
         ensures entries { self.old.entries ≡ self.new.entries ++ option_to_list result }
         ensures found { IsSome result ↔ (0 < length self.old.entries) }
@@ -283,7 +284,7 @@ fn take_single<T: Drop>(kept: &mut Kept<T>) -> (usize, Arc<T>)
 {
     let taken = mem::replace(kept, Kept::Empty);
     match taken {
-        Kept::Single { number, value } => { (number, value) }
+        Kept::Single { number, value } => (number, value),
         Kept::Empty => unreachable!(),
         Kept::Many(_many) => unreachable!(),
     }

@@ -1,5 +1,5 @@
--- What holds however the entries are kept.
-use Rattle.std.proofs.Common.{◌≡◌, ℕ, nat_eq, List, [], ◌∷◌}
+-- None and one number are apart.
+use Rattle.std.proofs.Common.{ℕ, nat_eq, [], ◌∷◌}
 use Rattle.std.specs.List.{IsDistinct}
 
 pub none_apart : IsDistinct nat_eq []
