@@ -1,4 +1,4 @@
-use Rattle.std.proofs.Common.{cond, length, ◌≡◌, ◌<◌, is_some, true, false, map, Some, None, refl, sym, ap, ◌∙◌, subst, arith}
+use Rattle.std.proofs.Common.{cond, length, ◌≡◌, ◌<◌, true, false, map, Some, None, refl, sym, ap, ◌∙◌, subst, arith}
 use Rattle.std.specs.Prelude.{IsSome}
 use Rattle.std.specs.Arc.{arc_value}
 use Rattle.std.specs.Map.{lookup, values_of}
