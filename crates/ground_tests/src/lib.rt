@@ -1,5 +1,5 @@
-//! Tests of the crates that stand lowest: small sets, keys, the example universe, evaluation,
-//! versions, cells and recordings, through public calls.
+//! Tests of the crates that stand lowest: small sets and maps, keys, the example universe,
+//! evaluation, versions, cells and recordings, through public calls.
 #![tactic(auto)]
 
 #[cfg(test)]
@@ -17,6 +17,8 @@ mod ranges;
 #[cfg(test)]
 mod recordings;
 #[cfg(test)]
-mod sets;
+mod small_maps;
+#[cfg(test)]
+mod small_sets;
 #[cfg(test)]
 mod tiny;

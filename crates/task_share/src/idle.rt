@@ -10,6 +10,7 @@ ghost use Rattle.task_share.specs.Listed.{shares_of, names_of, AreNumbered, IsLi
 use crate::place::{Place, is_unasked, vacant};
 use crate::places::leave_task;
 use indexmap::IndexMap;
+use small_map::SmallMap;
 use std::alloc::Global;
 use std::hash::Hash;
 use std::mem;
@@ -53,7 +54,7 @@ fn take_idle<K: Eq + Hash + Drop, T: Drop>(
     places: &mut IndexMap<Arc<K>, Place<K, T>>,
     alloc: Global,
     key: Arc<K>,
-) -> Option<(Arc<K>, T, IndexMap<usize, Arc<K>>)>
+) -> Option<(Arc<K>, T, SmallMap<K>)>
     requires equality { IsEquality K.eq }
     requires linked { IsLinked K.eq places.old.entries }
     requires runs { AllRun K.eq (shares_of places.old.entries) }
@@ -89,7 +90,7 @@ pub fn pop_idle<K: Eq + Hash + Drop, T: Drop>(
     places: &mut IndexMap<Arc<K>, Place<K, T>>,
     candidates: &mut Vec<Arc<K>>,
     alloc: Global,
-) -> Option<(Arc<K>, T, IndexMap<usize, Arc<K>>)>
+) -> Option<(Arc<K>, T, SmallMap<K>)>
     requires equality { IsEquality K.eq }
     requires linked { IsLinked K.eq places.old.entries }
     requires listed { IsListed K.eq (shares_of places.old.entries)
@@ -117,7 +118,7 @@ pub fn withdraw<K: Eq + Hash + Drop, T: Drop>(
     places: &mut IndexMap<Arc<K>, Place<K, T>>,
     candidates: &mut Vec<Arc<K>>,
     asker: usize,
-    waits: IndexMap<usize, Arc<K>>,
+    waits: SmallMap<K>,
 )
     requires equality { IsEquality K.eq }
     requires linked { IsLinked K.eq places.old.entries }

@@ -5,7 +5,8 @@ ghost use Rattle.std.specs.Option.{option_to_list};
 ghost use Rattle.task_share.specs.Seen.{has_live};
 ghost use Rattle.task_share.specs.Listed.{share_of, settled, released, is_idle, IsVacant};
 
-use indexmap::{IndexMap, IndexSet};
+use indexmap::IndexSet;
+use small_map::SmallMap;
 use std::alloc::Global;
 use std::hash::Hash;
 use std::sync::Arc;
@@ -20,8 +21,8 @@ pub struct Place<K: Eq + Hash + Drop, T: Drop> {
     pub task: Option<T>,
     pub live: bool,
     pub promises: IndexSet<u64>,
-    pub askers: IndexMap<usize, Arc<K>>,
-    pub waits: IndexMap<usize, Arc<K>>,
+    pub askers: SmallMap<K>,
+    pub waits: SmallMap<K>,
     pub name: Option<Arc<K>>,
 }
 
@@ -41,7 +42,7 @@ impl<K: Eq + Hash + Drop, T: Drop> Drop for Place<K, T> {
 
 impl<K: Eq + Hash + Drop, T: Drop> Place<K, T> {
     /// The task with what it waits for, if there is one.
-    pub fn into_task(self) -> Option<(T, IndexMap<usize, Arc<K>>)>
+    pub fn into_task(self) -> Option<(T, SmallMap<K>)>
         ensures some { IfSome result
             (λ f. (self.task ≡ Some f.0) × (f.1.entries ≡ self.waits.entries)) }
         ensures none { IfNone result (self.task ≡ None) }
@@ -101,8 +102,8 @@ pub fn vacant<K: Eq + Hash + Drop, T: Drop>(alloc: Global, name: Option<Arc<K>>)
         task: None,
         live: false,
         promises: IndexSet::new(alloc),
-        askers: IndexMap::new(alloc),
-        waits: IndexMap::new(alloc),
+        askers: SmallMap::new(alloc),
+        waits: SmallMap::new(alloc),
         name,
     }
 }

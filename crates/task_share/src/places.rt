@@ -11,6 +11,7 @@ ghost use Rattle.task_share.specs.Listed.{shares_of, names_of, AreNumbered, IsLi
 use crate::place::{Place, settle};
 use dice_key::NoMemory;
 use indexmap::IndexMap;
+use small_map::SmallMap;
 use std::alloc::Global;
 use std::hash::Hash;
 use std::mem;
@@ -63,7 +64,7 @@ pub fn leave_task<K: Eq + Hash + Drop, T: Drop>(
     let Some(place) = places.get_index_mut(at) else {
         return;
     };
-    place.askers.swap_remove(&asker);
+    place.askers.swap_remove(asker);
     settle(place, candidates);
 }
 
@@ -135,7 +136,7 @@ pub fn end_task<K: Eq + Hash + Drop, T: Drop>(
     places: &mut IndexMap<Arc<K>, Place<K, T>>,
     alloc: Global,
     at: usize,
-) -> IndexMap<usize, Arc<K>>
+) -> SmallMap<K>
     requires equality { IsEquality K.eq }
     requires linked { IsLinked K.eq places.old.entries }
     ensures listed { KeepsListed K.eq (shares_of places.old.entries)
@@ -147,7 +148,7 @@ pub fn end_task<K: Eq + Hash + Drop, T: Drop>(
     ensures changed { IsChangedAt K.eq at (λ p r. Turns K.eq (λ t. t) (λ e. false) (λ x b. b)
         (λ d b. false) p r × UsesRoom 0 0 p.wait_room p r) places.old.entries places.new.entries }
 {
-    let none = IndexMap::new(alloc);
+    let none = SmallMap::new(alloc);
     let Some(place) = places.get_index_mut(at) else {
         return none;
     };
@@ -173,7 +174,7 @@ pub fn drop_wait<K: Eq + Hash + Drop, T: Drop>(
     let Some(place) = places.get_index_mut(at) else {
         return;
     };
-    place.waits.swap_remove(&asked);
+    place.waits.swap_remove(asked);
 }
 
 /// Adds a promise to a key, in room made ahead.

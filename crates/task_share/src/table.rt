@@ -419,8 +419,8 @@ impl<K: Eq + Hash + Drop, T: Drop> Table<K, T> {
         match self.places.get(key) {
             Some(place) => Askers {
                 promises: place.promises.as_slice(),
-                tasks: place.askers.values().as_slice(),
-                numbers: place.askers.keys().as_slice(),
+                tasks: place.askers.values(),
+                numbers: place.askers.numbers(),
             },
             None => Askers {
                 promises: &[],
@@ -436,7 +436,7 @@ impl<K: Eq + Hash + Drop, T: Drop> Table<K, T> {
         ensures { map arc_value result.now ≡ waits_at K.eq self.now (arc_value key.now) }
     {
         match self.places.get(key) {
-            Some(place) => place.waits.values().as_slice(),
+            Some(place) => place.waits.values(),
             None => &[],
         }
     }
@@ -454,7 +454,7 @@ impl<K: Eq + Hash + Drop, T: Drop> Table<K, T> {
         ensures { result.now ≡ askers_by K.eq self.now number }
     {
         match self.places.get_index(number) {
-            Some((_, place)) => place.askers.keys().as_slice(),
+            Some((_, place)) => place.askers.numbers(),
             None => &[],
         }
     }
@@ -481,7 +481,7 @@ impl<K: Eq + Hash + Drop, T: Drop> Waits for Table<K, T> {
     /// The numbers of the keys that the task of a number waits for, in no order.
     fn waits_of(&self, number: usize) -> &[usize] {
         match self.places.get_index(number) {
-            Some((_, place)) => place.waits.keys().as_slice(),
+            Some((_, place)) => place.waits.numbers(),
             None => &[],
         }
     }

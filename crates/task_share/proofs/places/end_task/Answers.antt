@@ -1,22 +1,14 @@
-use Rattle.std.proofs.Common.{◌≡◌, ◌<◌, ◌⊎◌, ◌++◌, ◌∷◌, [], true, false, cond, length, map, is_some, nat_eq, Option, Some, None, ℕ, refl, sym, ap, ◌∙◌, subst, arith, append-nil, slice_get}
-use Rattle.std.specs.Prelude.{IsSome, IfSome, IfNone}
+use Rattle.std.proofs.Common.{◌≡◌, [], false, map, refl, sym, ap, ◌∙◌, subst, arith}
 use Rattle.std.specs.Arc.{arc_value}
 use Rattle.std.specs.List.{list_any}
-use Rattle.std.specs.Map.{lookup, values_of}
-use Rattle.std.specs.Option.{option_to_list}
-use Rattle.std.specs.HashMap.{spare as map_spare}
-use Rattle.std.specs.Vec.{vec_capacity}
-use Rattle.std.proofs.lemmas.Option.{none-some, same_Some}
+use Rattle.std.specs.Map.{values_of}
 use Rattle.indexmap.specs.IndexMap.{set_value_at}
-use Rattle.task_share.specs.Asked.{By, Tasked}
-use Rattle.task_share.specs.Seen.{Share, takes_task, room_in, has_by, is_for, list_for, number_for}
-use Rattle.task_share.specs.Listed.{share_of, shares_of, names_of, AreNumbered, IsListed, IsChangedAt}
+use Rattle.task_share.specs.Seen.{Share, list_for}
+use Rattle.task_share.specs.Listed.{share_of, names_of, AreNumbered}
 use Rattle.task_share.specs.declared.place.Place.{Place}
-use Rattle.task_share.proofs.PlaceLemmas.{written_listed, has_room, left_task, left_wait, joined_task, joined_wait, same_asks, fewer_count, more_count, fewer_by_one, popped_fewer, settled_takes, runs_at, kept_listed, inserted_at, with_room, asked_busy, ended_busy, if_some, if_none, any_last}
-use Rattle.task_share.proofs.NumberLemmas.{entry_of_value, has_at, written_at, lookup_at, changed_at, numbered_on, same_number, any_numbered, any_on, share_at, key_named, names_at_set}
-use Rattle.task_share.proofs.IdleLemmas.{popped_value}
+use Rattle.task_share.proofs.PlaceLemmas.{kept_listed, ended_busy}
+use Rattle.task_share.proofs.NumberLemmas.{entry_of_value, has_at, written_at, changed_at, share_at, names_at_set}
 use Rattle.lists.specs.Lists.{Has}
-use Rattle.lists.proofs.Members.{none_left, has_end, has_left}
 use Rattle.task_share.proofs.places.end_task.Goals as goal
 
 pub returns-clause-listed : goal.returns-clause-listed
@@ -60,6 +52,6 @@ returns-clause-changed g c =
     let w : Place g.row.K.Denot g.row.T.Denot = record { task = h.task; live = false; promises = h.promises; askers = h.askers; waits = c.replace.new.dest; name = h.name } in
     let e = entry_of_value es c.args.at h c.in-Some.ensures.value in
     let i = written_at eq law es (set_value_at es c.args.at w) c.args.at e.0 h w c.requires.linked.distinct e.1 refl in
-    let none : c.replace.new.dest.entries ≡ [] = ap (λ m. m.entries) c.replace.ensures.after ∙ c.new-none.ensures.empty in
+    let none : c.replace.new.dest.entries ≡ [] = ap (λ m. m.entries) c.replace.ensures.after ∙ c.new-none.ensures.entries in
     changed_at eq law es (set_value_at es c.args.at w) c.args.at e.0 h w _ c.requires.linked e.1 refl (λ n. n) (λ n x y. absurd (subst (λ xs. Has xs x) none y))
     (record { task = refl; live = refl; asks = λ a. refl; waits = λ d. ap (λ xs. list_any (eq d) (map arc_value (values_of xs))) none }, record { promises = omega arith; askers = omega arith; waits = omega arith; count = omega arith; stays = λ t. t })

@@ -1,21 +1,12 @@
-use Rattle.std.proofs.Common.{◌≡◌, ◌<◌, ◌⊎◌, ◌++◌, ◌∷◌, [], true, false, cond, length, map, is_some, nat_eq, Option, Some, None, ℕ, refl, sym, ap, ◌∙◌, subst, arith, append-nil, slice_get}
-use Rattle.std.specs.Prelude.{IsSome, IfSome, IfNone}
+use Rattle.std.proofs.Common.{map, is_some, None, refl, sym, subst, arith}
 use Rattle.std.specs.Arc.{arc_value}
-use Rattle.std.specs.List.{list_any}
-use Rattle.std.specs.Map.{lookup, values_of}
-use Rattle.std.specs.Option.{option_to_list}
-use Rattle.std.specs.HashMap.{spare as map_spare}
 use Rattle.std.specs.Vec.{vec_capacity}
-use Rattle.std.proofs.lemmas.Option.{none-some, same_Some}
+use Rattle.std.proofs.lemmas.Option.{none-some}
 use Rattle.indexmap.specs.IndexMap.{set_value_at}
-use Rattle.task_share.specs.Asked.{By, Tasked}
-use Rattle.task_share.specs.Seen.{Share, takes_task, room_in, has_by, is_for, list_for, number_for}
-use Rattle.task_share.specs.Listed.{share_of, shares_of, names_of, AreNumbered, IsListed, IsChangedAt}
+use Rattle.task_share.specs.Listed.{share_of, shares_of, names_of, AreNumbered, IsListed}
 use Rattle.task_share.specs.declared.place.Place.{Place}
-use Rattle.task_share.proofs.PlaceLemmas.{written_listed, has_room, left_task, left_wait, joined_task, joined_wait, same_asks, fewer_count, more_count, fewer_by_one, popped_fewer, settled_takes, runs_at, kept_listed, inserted_at, with_room, asked_busy, ended_busy, if_some, if_none, any_last}
-use Rattle.task_share.proofs.NumberLemmas.{entry_of_value, has_at, written_at, lookup_at, changed_at, numbered_on, same_number, any_numbered, any_on, share_at, key_named, linked_set, names_at_set}
-use Rattle.task_share.proofs.IdleLemmas.{popped_value}
-use Rattle.lists.proofs.Members.{none_left, has_end, has_left}
+use Rattle.task_share.proofs.PlaceLemmas.{written_listed, has_room, left_task, fewer_count, settled_takes, runs_at}
+use Rattle.task_share.proofs.NumberLemmas.{entry_of_value, has_at, written_at, lookup_at, changed_at, numbered_on, same_number, any_on, linked_set, names_at_set}
 use Rattle.task_share.proofs.places.leave_task.Goals as goal
 
 pub settle-requires : goal.settle-requires
@@ -50,10 +41,10 @@ returns-clause-changed g c = λ j named.
     let mid : Place g.row.K.Denot g.row.T.Denot = record { task = h.task; live = h.live; promises = h.promises; askers = c.swap_remove.new.self; waits = h.waits; name = h.name } in
     let names = names_of es in
     let before = c.requires.linked.askers (e.0, h) (has_at es c.args.at (e.0, h) e.1) in
-    let after = numbered_on names h.askers.entries c.swap_remove.new.self.entries c.args.asker None before c.swap_remove.ensures.unique (λ m. c.swap_remove.ensures.updates.0 m) (λ a z. absurd (none-some a z)) in
+    let after = numbered_on names h.askers.entries c.swap_remove.new.self.entries c.args.asker None before c.swap_remove.ensures.distinct (λ m. c.swap_remove.ensures.updates m) (λ a z. absurd (none-some a z)) in
     let same = same_number eq law es c.requires.linked.distinct in
     changed_at eq law es (set_value_at es c.args.at w) c.args.at e.0 h w _ c.requires.linked e.1 refl (λ _. subst (λ m. AreNumbered names m.entries) (sym c.settle.ensures.askers) after) (λ n. subst (λ m. AreNumbered (names_of es) m.entries) (sym c.settle.ensures.waits) n)
-    (rw c.settle.ensures.place (record { task = refl; live = refl; asks = left_task eq (share_of h) (share_of mid) j refl (any_on eq law names same h.askers.entries c.swap_remove.new.self.entries c.args.asker j None before after named (λ m. c.swap_remove.ensures.updates.0 m)); waits = λ d. refl }, record { promises = omega arith; askers = omega (arith, c.swap_remove.ensures.room.0); waits = omega arith; count = fewer_count (is_some c.swap_remove.result) h.askers.entries c.swap_remove.new.self.entries c.swap_remove.ensures.len; stays = settled_takes (share_of mid) (runs_at eq law e.0 es (map arc_value c.args.candidates.now.items) (vec_capacity c.args.candidates.now) h c.requires.listed i.known) }))
+    (rw c.settle.ensures.place (record { task = refl; live = refl; asks = left_task eq (share_of h) (share_of mid) j refl (any_on eq law names same h.askers.entries c.swap_remove.new.self.entries c.args.asker j None before after named (λ m. c.swap_remove.ensures.updates m)); waits = λ d. refl }, record { promises = omega arith; askers = omega (arith, c.swap_remove.ensures.room); waits = omega arith; count = fewer_count (is_some c.swap_remove.result) h.askers.entries c.swap_remove.new.self.entries c.swap_remove.ensures.len; stays = settled_takes (share_of mid) (runs_at eq law e.0 es (map arc_value c.args.candidates.now.items) (vec_capacity c.args.candidates.now) h c.requires.listed i.known) }))
 
 pub returns-clause-linked : goal.returns-clause-linked
 returns-clause-linked g c =
@@ -67,7 +58,7 @@ returns-clause-linked g c =
     let mid : Place g.row.K.Denot g.row.T.Denot = record { task = h.task; live = h.live; promises = h.promises; askers = c.swap_remove.new.self; waits = h.waits; name = h.name } in
     let names = names_of es in
     let before = c.requires.linked.askers (e.0, h) (has_at es c.args.at (e.0, h) e.1) in
-    let after = numbered_on names h.askers.entries c.swap_remove.new.self.entries c.args.asker None before c.swap_remove.ensures.unique (λ m. c.swap_remove.ensures.updates.0 m) (λ a z. absurd (none-some a z)) in
+    let after = numbered_on names h.askers.entries c.swap_remove.new.self.entries c.args.asker None before c.swap_remove.ensures.distinct (λ m. c.swap_remove.ensures.updates m) (λ a z. absurd (none-some a z)) in
     let same = same_number eq law es c.requires.linked.distinct in
     linked_set eq (λ b. eq (arc_value e.0) (arc_value b)) es (set_value_at es c.args.at w) h w c.requires.linked i.set i.known (λ _. subst (λ m. AreNumbered names m.entries) (sym c.settle.ensures.askers) after) (λ n. subst (λ m. AreNumbered (names_of es) m.entries) (sym c.settle.ensures.waits) n)
 

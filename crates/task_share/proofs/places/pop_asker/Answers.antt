@@ -1,22 +1,21 @@
-use Rattle.std.proofs.Common.{◌≡◌, ◌<◌, ◌⊎◌, ◌++◌, ◌∷◌, [], true, false, cond, length, map, is_some, nat_eq, Option, Some, None, ℕ, refl, sym, ap, ◌∙◌, subst, arith, append-nil, slice_get}
-use Rattle.std.specs.Prelude.{IsSome, IfSome, IfNone}
+use Rattle.std.proofs.Common.{◌≡◌, ◌++◌, [], map, is_some, None, refl, sym, ap, ◌∙◌, subst, arith, append-nil}
+use Rattle.std.specs.Prelude.{IsSome}
 use Rattle.std.specs.Arc.{arc_value}
 use Rattle.std.specs.List.{list_any}
-use Rattle.std.specs.Map.{lookup, values_of}
+use Rattle.std.specs.Map.{values_of}
 use Rattle.std.specs.Option.{option_to_list}
-use Rattle.std.specs.HashMap.{spare as map_spare}
 use Rattle.std.specs.Vec.{vec_capacity}
-use Rattle.std.proofs.lemmas.Option.{none-some, same_Some}
+use Rattle.std.proofs.lemmas.Option.{none-some}
 use Rattle.indexmap.specs.IndexMap.{set_value_at}
-use Rattle.task_share.specs.Asked.{By, Tasked}
-use Rattle.task_share.specs.Seen.{Share, takes_task, room_in, has_by, is_for, list_for, number_for}
-use Rattle.task_share.specs.Listed.{share_of, shares_of, names_of, AreNumbered, IsListed, IsChangedAt}
+use Rattle.task_share.specs.Asked.{Tasked}
+use Rattle.task_share.specs.Seen.{Share, has_by, is_for}
+use Rattle.task_share.specs.Listed.{share_of, shares_of, names_of, AreNumbered, IsListed}
 use Rattle.task_share.specs.declared.place.Place.{Place}
-use Rattle.task_share.proofs.PlaceLemmas.{written_listed, has_room, left_task, left_wait, joined_task, joined_wait, same_asks, fewer_count, more_count, fewer_by_one, popped_fewer, settled_takes, runs_at, kept_listed, inserted_at, with_room, asked_busy, ended_busy, if_some, if_none, any_last}
-use Rattle.task_share.proofs.NumberLemmas.{entry_of_value, has_at, written_at, lookup_at, changed_at, numbered_on, same_number, any_numbered, any_on, share_at, key_named}
+use Rattle.task_share.proofs.PlaceLemmas.{written_listed, has_room, left_task, same_asks, fewer_count, fewer_by_one, popped_fewer, settled_takes, runs_at, if_some, if_none, any_last}
+use Rattle.task_share.proofs.NumberLemmas.{entry_of_value, has_at, written_at, lookup_at, changed_at, numbered_on, same_number, any_on, share_at}
 use Rattle.task_share.proofs.IdleLemmas.{popped_value}
 use Rattle.lists.specs.Lists.{Has}
-use Rattle.lists.proofs.Members.{none_left, has_end, has_left}
+use Rattle.lists.proofs.Members.{none_left, has_end}
 use Rattle.task_share.proofs.places.pop_asker.Goals as goal
 
 pub settle-requires : goal.settle-requires
@@ -79,9 +78,9 @@ returns-clause-some g c =
     let names = names_of es in
     let same = same_number eq law es c.requires.linked.distinct in
     if_some c.pop-asker.result (λ x z up.
-    let after = numbered_on names h.askers.entries c.pop-asker.new.self.entries x.0 None before c.pop-asker.ensures.unique (λ m. up.0 m) (λ a y. absurd (none-some a y)) in
+    let after = numbered_on names h.askers.entries c.pop-asker.new.self.entries x.0 None before c.pop-asker.ensures.distinct (λ m. up m) (λ a y. absurd (none-some a y)) in
     changed_at eq law es (set_value_at es c.args.at w) c.args.at e.0 h w _ c.requires.linked e.1 refl (λ _. subst (λ m. AreNumbered names m.entries) (sym c.settle.ensures.askers) after) (λ n. subst (λ m. AreNumbered (names_of es) m.entries) (sym c.settle.ensures.waits) n)
-    (rw c.settle.ensures.place (record { task = refl; live = refl; asks = left_task eq (share_of h) (share_of mid) (arc_value x.1) refl (any_on eq law names same h.askers.entries c.pop-asker.new.self.entries x.0 (arc_value x.1) None before after (before x (subst (λ xs. Has xs x) (sym (c.pop-asker.ensures.entries ∙ ap (λ r. c.pop-asker.new.self.entries ++ option_to_list r) z)) (has_end c.pop-asker.new.self.entries x))) (λ m. up.0 m)); waits = λ d. refl }, record { promises = omega arith; askers = omega (arith, c.pop-asker.ensures.room.0); waits = omega arith; count = fewer_count (is_some c.pop-asker.result) h.askers.entries c.pop-asker.new.self.entries c.pop-asker.ensures.len; stays = settled_takes (share_of mid) (runs_at eq law e.0 es (map arc_value c.args.candidates.now.items) (vec_capacity c.args.candidates.now) h c.requires.listed i.known) }))) c.pop-asker.ensures.updates
+    (rw c.settle.ensures.place (record { task = refl; live = refl; asks = left_task eq (share_of h) (share_of mid) (arc_value x.1) refl (any_on eq law names same h.askers.entries c.pop-asker.new.self.entries x.0 (arc_value x.1) None before after (before x (subst (λ xs. Has xs x) (sym (c.pop-asker.ensures.entries ∙ ap (λ r. c.pop-asker.new.self.entries ++ option_to_list r) z)) (has_end c.pop-asker.new.self.entries x))) (λ m. up m)); waits = λ d. refl }, record { promises = omega arith; askers = omega (arith, c.pop-asker.ensures.room); waits = omega arith; count = fewer_count (is_some c.pop-asker.result) h.askers.entries c.pop-asker.new.self.entries c.pop-asker.ensures.len; stays = settled_takes (share_of mid) (runs_at eq law e.0 es (map arc_value c.args.candidates.now.items) (vec_capacity c.args.candidates.now) h c.requires.listed i.known) }))) c.pop-asker.ensures.updates
 
 pub returns-clause-fewer : goal.returns-clause-fewer
 returns-clause-fewer g c =
@@ -122,4 +121,4 @@ returns-clause-none g c =
     if_none c.pop-asker.result (λ z.
     let kept : c.pop-asker.new.self.entries ≡ h.askers.entries = sym (append-nil c.pop-asker.new.self.entries) ∙ sym (c.pop-asker.ensures.entries ∙ ap (λ r. c.pop-asker.new.self.entries ++ option_to_list r) z) in
     changed_at eq law es (set_value_at es c.args.at w) c.args.at e.0 h w _ c.requires.linked e.1 refl (λ n. subst (λ m. AreNumbered (names_of es) m.entries) (sym c.settle.ensures.askers) (subst (AreNumbered (names_of es)) (sym kept) n)) (λ n. subst (λ m. AreNumbered (names_of es) m.entries) (sym c.settle.ensures.waits) n)
-    (rw c.settle.ensures.place (record { task = refl; live = refl; asks = same_asks eq (share_of h) (share_of mid) refl (ap (λ xs. map arc_value (values_of xs)) kept); waits = λ d. refl }, record { promises = omega arith; askers = omega (arith, c.pop-asker.ensures.room.0); waits = omega arith; count = fewer_count (is_some c.pop-asker.result) h.askers.entries c.pop-asker.new.self.entries c.pop-asker.ensures.len; stays = settled_takes (share_of mid) (runs_at eq law e.0 es (map arc_value c.args.candidates.now.items) (vec_capacity c.args.candidates.now) h c.requires.listed i.known) })))
+    (rw c.settle.ensures.place (record { task = refl; live = refl; asks = same_asks eq (share_of h) (share_of mid) refl (ap (λ xs. map arc_value (values_of xs)) kept); waits = λ d. refl }, record { promises = omega arith; askers = omega (arith, c.pop-asker.ensures.room); waits = omega arith; count = fewer_count (is_some c.pop-asker.result) h.askers.entries c.pop-asker.new.self.entries c.pop-asker.ensures.len; stays = settled_takes (share_of mid) (runs_at eq law e.0 es (map arc_value c.args.candidates.now.items) (vec_capacity c.args.candidates.now) h c.requires.listed i.known) })))

@@ -1,4 +1,4 @@
-use Rattle.std.proofs.Common.{cond, length, ◌≡◌, ◌<◌, is_some, true, false, map, Some, None, refl, sym, ap, ◌∙◌, subst, arith}
+use Rattle.std.proofs.Common.{cond, length, ◌≡◌, ◌<◌, true, false, map, Some, None, refl, sym, ap, ◌∙◌, subst, arith}
 use Rattle.std.specs.Prelude.{IsSome}
 use Rattle.std.specs.Arc.{arc_value}
 use Rattle.std.specs.Map.{lookup, values_of}
@@ -45,7 +45,7 @@ returns-in_err-reserve-clause-changed g c =
     let o = c.get_mut.follows.holds w in
     let u = o.3 (subst IsSome (sym known) refl) in
     let i : IsWritten eq key c.args.places.now.entries (c.get_mut.follows.lender w).entries h w = record { known = known; set = o.0; here = u.1; others = u.2 } in
-    changed_written eq c.requires.equality key c.args.places.now.entries (c.get_mut.follows.lender w).entries h w _ i (record { task = refl; live = refl; asks = same_asks eq (share_of h) (share_of w) refl (ap (λ xs. map arc_value (values_of xs)) c.reserve.ensures.entries); waits = λ d. refl }, record { promises = omega arith; askers = omega (arith, c.reserve.ensures.room.0); waits = omega arith; count = (let z : length (map arc_value (values_of c.reserve.new.self.entries)) ≡ length (map arc_value (values_of h.askers.entries)) = ap (λ xs. length (map arc_value (values_of xs))) c.reserve.ensures.entries in omega arith); stays = λ t. t })
+    changed_written eq c.requires.equality key c.args.places.now.entries (c.get_mut.follows.lender w).entries h w _ i (record { task = refl; live = refl; asks = same_asks eq (share_of h) (share_of w) refl (ap (λ xs. map arc_value (values_of xs)) c.reserve.ensures.entries); waits = λ d. refl }, record { promises = omega arith; askers = omega (arith, c.reserve.ensures.room); waits = omega arith; count = (let z : length (map arc_value (values_of c.reserve.new.self.entries)) ≡ length (map arc_value (values_of h.askers.entries)) = ap (λ xs. length (map arc_value (values_of xs))) c.reserve.ensures.entries in omega arith); stays = λ t. t })
 
 pub returns-clause-listed : goal.returns-clause-listed
 returns-clause-listed g c =
@@ -69,7 +69,7 @@ returns-clause-changed g c =
     let o = c.get_mut.follows.holds w in
     let u = o.3 (subst IsSome (sym known) refl) in
     let i : IsWritten eq key c.args.places.now.entries (c.get_mut.follows.lender w).entries h w = record { known = known; set = o.0; here = u.1; others = u.2 } in
-    changed_written eq c.requires.equality key c.args.places.now.entries (c.get_mut.follows.lender w).entries h w _ i (record { task = refl; live = refl; asks = same_asks eq (share_of h) (share_of w) refl (ap (λ xs. map arc_value (values_of xs)) c.reserve.ensures.entries); waits = λ d. refl }, record { promises = omega arith; askers = omega (arith, c.reserve.ensures.room.0); waits = omega arith; count = (let z : length (map arc_value (values_of c.reserve.new.self.entries)) ≡ length (map arc_value (values_of h.askers.entries)) = ap (λ xs. length (map arc_value (values_of xs))) c.reserve.ensures.entries in omega arith); stays = λ t. t })
+    changed_written eq c.requires.equality key c.args.places.now.entries (c.get_mut.follows.lender w).entries h w _ i (record { task = refl; live = refl; asks = same_asks eq (share_of h) (share_of w) refl (ap (λ xs. map arc_value (values_of xs)) c.reserve.ensures.entries); waits = λ d. refl }, record { promises = omega arith; askers = omega (arith, c.reserve.ensures.room); waits = omega arith; count = (let z : length (map arc_value (values_of c.reserve.new.self.entries)) ≡ length (map arc_value (values_of h.askers.entries)) = ap (λ xs. length (map arc_value (values_of xs))) c.reserve.ensures.entries in omega arith); stays = λ t. t })
 
 pub returns-clause-ok : goal.returns-clause-ok
 returns-clause-ok g c = λ e.

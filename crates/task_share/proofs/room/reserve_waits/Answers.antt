@@ -1,4 +1,4 @@
-use Rattle.std.proofs.Common.{cond, ◌≡◌, is_some, ◌≤◌, true, false, map, Some, None, refl, sym, ap, ◌∙◌, subst, arith}
+use Rattle.std.proofs.Common.{cond, ◌≡◌, ◌≤◌, true, false, map, Some, None, refl, sym, ap, ◌∙◌, subst, arith}
 use Rattle.std.specs.Prelude.{IsSome}
 use Rattle.std.specs.Arc.{arc_value}
 use Rattle.std.specs.Map.{lookup, values_of}
@@ -46,7 +46,7 @@ returns-in_err-reserve-clause-changed g c =
     let o = c.get_mut.follows.holds w in
     let u = o.3 (subst IsSome (sym known) refl) in
     let i : IsWritten eq key c.args.places.now.entries (c.get_mut.follows.lender w).entries h w = record { known = known; set = o.0; here = u.1; others = u.2 } in
-    changed_written eq c.requires.equality key c.args.places.now.entries (c.get_mut.follows.lender w).entries h w _ i (record { task = refl; live = refl; asks = λ a. refl; waits = λ d. ap (list_any (eq d)) (ap (λ xs. map arc_value (values_of xs)) c.reserve.ensures.entries) }, record { promises = omega arith; askers = omega arith; waits = omega (arith, c.reserve.ensures.room.0); count = omega arith; stays = λ t. t })
+    changed_written eq c.requires.equality key c.args.places.now.entries (c.get_mut.follows.lender w).entries h w _ i (record { task = refl; live = refl; asks = λ a. refl; waits = λ d. ap (list_any (eq d)) (ap (λ xs. map arc_value (values_of xs)) c.reserve.ensures.entries) }, record { promises = omega arith; askers = omega arith; waits = omega (arith, c.reserve.ensures.room); count = omega arith; stays = λ t. t })
 
 pub returns-clause-listed : goal.returns-clause-listed
 returns-clause-listed g c =
@@ -70,7 +70,7 @@ returns-clause-changed g c =
     let o = c.get_mut.follows.holds w in
     let u = o.3 (subst IsSome (sym known) refl) in
     let i : IsWritten eq key c.args.places.now.entries (c.get_mut.follows.lender w).entries h w = record { known = known; set = o.0; here = u.1; others = u.2 } in
-    changed_written eq c.requires.equality key c.args.places.now.entries (c.get_mut.follows.lender w).entries h w _ i (record { task = refl; live = refl; asks = λ a. refl; waits = λ d. ap (list_any (eq d)) (ap (λ xs. map arc_value (values_of xs)) c.reserve.ensures.entries) }, record { promises = omega arith; askers = omega arith; waits = omega (arith, c.reserve.ensures.room.0); count = omega arith; stays = λ t. t })
+    changed_written eq c.requires.equality key c.args.places.now.entries (c.get_mut.follows.lender w).entries h w _ i (record { task = refl; live = refl; asks = λ a. refl; waits = λ d. ap (list_any (eq d)) (ap (λ xs. map arc_value (values_of xs)) c.reserve.ensures.entries) }, record { promises = omega arith; askers = omega arith; waits = omega (arith, c.reserve.ensures.room); count = omega arith; stays = λ t. t })
 
 pub returns-clause-ok : goal.returns-clause-ok
 returns-clause-ok g c = λ e.

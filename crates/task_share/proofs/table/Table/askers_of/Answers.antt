@@ -6,8 +6,8 @@ use Rattle.task_share.proofs.table.Table.askers_of.Goals as goal
 
 pub returns-in-Some : goal.returns-in-Some
 returns-in-Some g c =
-    subst (λ (ps : List (g.row.K.Denot × Share g.row.K.Denot g.row.T.Denot)). c.as_slice.result.now ≡ askers_by g.K.PartialEq.eq ps c.args.number) c.self.view_is
-    ((c.as_slice.ensures ∙ c.keys.ensures.rest) ∙ sym (askers_numbered g.K.PartialEq.eq c.self.invariant.0 c.self.inside.places.entries c.self.invariant.2.distinct c.self.invariant.2 c.args.number c.in-Some.field-0-0.now c.in-Some.place.now (sym c.in-Some.ensures.entry)))
+    subst (λ (ps : List (g.row.K.Denot × Share g.row.K.Denot g.row.T.Denot)). c.numbers.result.now ≡ askers_by g.K.PartialEq.eq ps c.args.number) c.self.view_is
+    (c.numbers.ensures.numbers ∙ sym (askers_numbered g.K.PartialEq.eq c.self.invariant.0 c.self.inside.places.entries c.self.invariant.2.distinct c.self.invariant.2 c.args.number c.in-Some.field-0-0.now c.in-Some.place.now (sym c.in-Some.ensures.entry)))
 
 pub returns-in-None : goal.returns-in-None
 returns-in-None g c =

@@ -1,0 +1,6 @@
+//! A map by number that takes no memory for a single entry.
+#![tactic(auto)]
+
+mod map;
+
+pub use map::SmallMap;
