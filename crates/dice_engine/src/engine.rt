@@ -1,11 +1,12 @@
 //! The engine, and how it is made.
-ghost use Rattle.std.specs.Prelude.{◌≡◌, ◌<◌, ◌+◌, ◌∷◌, ◌++◌, max, IsOk, IfOk};
+ghost use Rattle.std.specs.Prelude.{◌≡◌, ◌<◌, ◌≤◌, ◌+◌, ◌∷◌, ◌++◌, max, IsOk, IfOk};
 ghost use Rattle.turnstile.specs.Events.{longer};
 ghost use Rattle.turnstile.specs.Seats.{first_seat, spare, split_off, note_of, IsSeatOf};
+ghost use Rattle.dice_engine.specs.Turns.{newest_in};
 
 use crate::state::State;
 use dice_core::Core;
-use dice_key::{NoMemory, Universe};
+use dice_key::{NoMemory, Universe, Version};
 use journal::Told;
 use std::alloc::Global;
 use std::marker::Model;
@@ -91,6 +92,29 @@ impl<U: Universe> Engine<U> {
             { seen = seat.new.seen; floor = seat.new.floor; ended = seat.new.ended } }
     {
         self.stile.join(seat, other)
+    }
+
+    /// The newest version that is shown now, by one look: it is no less than what the seat knows
+    /// of, and the seat knows it from then on. It waits for nobody.
+    pub fn newest(&self, seat: &mut Seat<U>) -> Version
+        requires seat { IsSeatOf self.now seat.old }
+        ensures floor { seat.old.floor ≤ result }
+        ensures seen { newest_in seat.old.seen ≤ result }
+        ensures seat { seat.new ≡ record seat.old { floor = result } }
+    {
+        self.stile.newest(seat)
+    }
+
+    /// Waits for a turn of this seat, and ends the engine in it. If the turn of another seat was
+    /// never left, it waits for ever. It takes no memory.
+    pub fn end<R: Wait>(self, rt: &R, seat: Seat<U>)
+        requires seat { IsSeatOf self seat }
+    {
+        let Engine {
+            stile,
+            universe: _universe,
+        } = self;
+        drop(stile.end(rt, seat));
     }
 
     /// Whether a seat has a turn or waits for one just now. It is a hint, by which a seat that can

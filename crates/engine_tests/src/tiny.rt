@@ -4,7 +4,7 @@ ghost use Rattle.turnstile.specs.Seats.{IsSeatOf, IsWriter};
 
 use crate::way::{Came, Course, course_of, start, waited};
 use dice_engine::{CommitRefusal, Engine, Open, Seat, Updater, Worked};
-use dice_key::{Line, NoMemory};
+use dice_key::{Line, NoMemory, Version};
 use std::alloc::Global;
 use std::sync::{Arc, Wait};
 use std::test::Fail;
@@ -196,5 +196,32 @@ fn the_log_has_a_line_for_each_event(rt: HostRuntime) -> Result<(), Fail> {
     let all = are_these(&course.way.lines, &LINES);
     drop(course);
     assert!(rt; before == 0 && made == Some(1) && all);
+    Ok(())
+}
+
+/// What the first of two seats tells as the newest version before the second one commits, what this
+/// commit came to, what the first one tells after it without a turn, and the version that it opens
+/// at last.
+fn newest_of_two<R: Wait>(
+    rt: &R,
+    alloc: Global,
+) -> Result<(Version, Made, Version, Version), NoMemory> {
+    let (engine, mut zero) = start(rt, alloc, Tiny::new(alloc)?, 2)?;
+    let mut one = engine.split(&mut zero)?;
+    let before = engine.newest(&mut zero);
+    let made = commit(rt, alloc, &engine, &mut one, &CELLS)?;
+    let after = engine.newest(&mut zero);
+    let transaction = engine.open(rt, &mut zero)?;
+    let opened = transaction.version;
+    engine.close(rt, &mut zero, transaction);
+    engine.end(rt, zero);
+    Ok((before, made, after, opened))
+}
+
+#[test]
+fn the_newest_version_is_told_without_a_turn(rt: HostRuntime) -> Result<(), Fail> {
+    let (before, made, after, opened) = newest_of_two(&rt, rt.alloc())?;
+    assert!(rt; before == 0 && made == Made::Version(1));
+    assert!(rt; after == 1 && opened == 1);
     Ok(())
 }
