@@ -1,5 +1,5 @@
 //! Workers beside a caller: each on a seat of its own, in a thread of its own.
-ghost use Rattle.std.specs.Prelude.{◌≡◌, ◌≤◌, All, IfOk};
+ghost use Rattle.std.specs.Prelude.{◌≡◌, ◌≤◌, All, IfOk, length};
 ghost use Rattle.turnstile.specs.Seats.{IsSeatOf, spare};
 ghost use Rattle.dice_engine.specs.Seating.{GivesSeats};
 
@@ -31,6 +31,7 @@ impl<U: Universe> Engine<U> {
         requires spare { count ≤ spare seat.old }
         ensures gives { GivesSeats seat.old seat.new }
         ensures seats { IfOk result (λ v. All (IsSeatOf self.now) v.items) }
+        ensures count { IfOk result (λ v. length v.items ≡ count) }
     {
         let mut seats = Vec::new(alloc);
         for _ in 0..count {
