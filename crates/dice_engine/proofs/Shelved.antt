@@ -1,6 +1,6 @@
 -- What a journal has for a shelf, and what may be put up next.
 use Rattle.std.proofs.Common.{◌≡◌, ◌≢◌, ◌≤◌, ◌<◌, ◌+◌, ℕ, zero, suc, Bool, true, cond, eqb, ◌&&◌, List, [], ◌∷◌, ◌++◌, length, map, take, drop, Option, Some, None, refl, sym, ap, ◌∙◌, subst, arith, append_assoc, append-nil, length-append}
-use Rattle.std.specs.Prelude.{reverse, slice_get, IfSome}
+use Rattle.std.specs.Prelude.{false, reverse, slice_get, IfSome, IsSome, MatchOption}
 use Rattle.std.specs.List.{AllByRecursion}
 use Rattle.std.proofs.lemmas.List.{reverse-append, take-append-drop, length-map}
 use Rattle.std.proofs.lemmas.Bool.{eq-eqb}
@@ -23,6 +23,7 @@ use Rattle.core_laws.proofs.Opens.{open_there, open_within}
 use Rattle.shelf.specs.declared.op.Plain.{Plain}
 use Rattle.shelf.specs.declared.op.Plain.TheVariants as bare
 use Rattle.shelf.specs.Ops.{commits_in, MayFollow}
+use Rattle.shelf.specs.Ends.{ReaderView, door_to}
 use Rattle.dice_core.specs.Cores.{CoreSeen, IsWorkAt}
 use Rattle.dice_engine.specs.Turns.{log_of, left_of, AreBy, WorksOn}
 use Rattle.dice_engine.proofs.Adding.{commit_by}
@@ -327,3 +328,16 @@ module _ {K V : Type 0} where
 pub map_some : {X : Type 0} (o : Option X) (P Q : X → Type 0) → IfSome o P → ((x : X) → P x → Q x) → IfSome o Q
 map_some (Some x) P Q p f = f x p
 map_some None P Q p f = tt
+
+-- what a reader has learnt
+module _ {K V : Type 0} where
+  pub told_so : (J : List (Told K V)) (Z : Type 0) → Z → (o : Option (Option (List (Plain K V)))) (r s : ReaderView K V) → MatchOption o (s ≡ r) (λ t. s ≡ door_to t r.refused)
+      → IfSome o (λ t. IfSome t (λ xs. Z → ShelfHas J xs)) → IsSome o → s.shut ≡ false → ShelfHas J s.seen
+  told_so J Z z None r s e f some free = absurd (cc)
+  told_so J Z z (Some None) r s e f some free = absurd (let shut : s.shut ≡ true = ap (λ (x : ReaderView K V). x.shut) e in cc)
+  told_so J Z z (Some (Some xs)) r s e f some free = subst (λ (x : ReaderView K V). ShelfHas J x.seen) (sym e) (f z)
+
+  pub same_refusals : (o : Option (Option (List (Plain K V)))) (r s : ReaderView K V) → MatchOption o (s ≡ r) (λ t. s ≡ door_to t r.refused) → s.refused ≡ r.refused
+  same_refusals None r s e = ap (λ (x : ReaderView K V). x.refused) e
+  same_refusals (Some None) r s e = ap (λ (x : ReaderView K V). x.refused) e
+  same_refusals (Some (Some xs)) r s e = ap (λ (x : ReaderView K V). x.refused) e

@@ -1,11 +1,11 @@
 //! The calls of an engine that serve readers.
-ghost use Rattle.std.specs.Prelude.{◌≡◌, ◌↔◌, ◌<◌, true, false, length, All, Err, IfOk};
+ghost use Rattle.std.specs.Prelude.{◌≡◌, ◌↔◌, ◌<◌, true, false, length, All, Err, IfOk, MatchOption};
 ghost use Rattle.std.specs.Arc.{arc_value};
 ghost use Rattle.std.specs.Option.{option_map};
 ghost use Rattle.turnstile.specs.Seats.{first_seat, IsSeatOf};
 ghost use Rattle.shelf.specs.Ops.{row_at};
-ghost use Rattle.shelf.specs.Ends.{IsNewReader, after_refusal, Looked};
-ghost use Rattle.shelf.specs.declared.reader.LookRefusal.TheVariants.{NoMemory, Shut};
+ghost use Rattle.shelf.specs.Ends.{IsNewReader, after_refusal, door_to, Looked};
+ghost use Rattle.shelf.specs.declared.reader.LookRefusal.TheVariants as refusal;
 ghost use Rattle.dice_engine.specs.Turns.{Turn};
 ghost use Rattle.dice_engine.specs.Calls.{AddsNothing};
 ghost use Rattle.dice_engine.specs.Rows.{ShelfHas};
@@ -16,7 +16,7 @@ use crate::promise::Transaction;
 use crate::state::State;
 use dice_core::Core;
 use dice_key::{NoMemory, Universe, ValueRef};
-use shelf::{LookRefusal, Reader};
+use shelf::{LookRefusal, Reader, Told as News};
 use std::alloc::Global;
 use std::sync::{Arc, Wait};
 use turnstile::Turnstile;
@@ -69,9 +69,7 @@ impl<U: Universe> Engine<U> {
         let mut turn = self.stile.enter(rt, seat);
         let told = turn.state().tell();
         self.stile.leave(turn);
-        if let Some(told) = told {
-            reader.learn(told);
-        }
+        learned(reader, told);
         seat.left().2 == 0
     }
 
@@ -87,11 +85,21 @@ impl<U: Universe> Engine<U> {
         ensures found { IfOk result (λ x. Looked U.Key.eq U.meaning reader.old reader.new
             × (option_map (λ y. arc_value y) x
             ≡ row_at (U.Key.eq key.now) transaction.now.version reader.new.seen)) }
-        ensures no_memory { result ≡ Err NoMemory
+        ensures no_memory { result ≡ Err refusal.NoMemory
             → Looked U.Key.eq U.meaning reader.old reader.new }
-        ensures shut { result ≡ Err Shut → reader.new ≡ after_refusal reader.old }
-        ensures no_place { reader.old.shut ≡ true → result ≡ Err Shut }
+        ensures shut { result ≡ Err refusal.Shut → reader.new ≡ after_refusal reader.old }
+        ensures no_place { reader.old.shut ≡ true → result ≡ Err refusal.Shut }
     {
         reader.look(transaction.version, key)
+    }
+}
+
+/// A reader learns what it is told, if it is told anything.
+fn learned<U: Universe>(reader: &mut Reader<U>, told: Option<News<U>>)
+    ensures { MatchOption told (reader.new ≡ reader.old)
+        (λ t. reader.new ≡ door_to t reader.old.refused) }
+{
+    if let Some(told) = told {
+        reader.learn(told);
     }
 }
