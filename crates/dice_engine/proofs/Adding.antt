@@ -27,7 +27,7 @@ module _ {K : Type 0} (V : Type 0) where
   are_lost v (l ∷ ls) ks = (refl, are_lost v ls ks)
 
 module _ {K V : Type 0} where
-  commit_by : (n : ℕ) (c : List (K × V)) → AreBy n (event_of n c)
+  pub commit_by : (n : ℕ) (c : List (K × V)) → AreBy n (event_of n c)
   commit_by n [] = tt
   commit_by n (p ∷ c) = (refl, tt)
 

@@ -60,7 +60,7 @@ module _ {K V : Type 0} (eq : K → K → Bool) (equality : IsEquality eq) (m : 
       by_name false e = h
 
   -- with one more event, if a transaction was open at the version
-  decided_more : (e : Told K V) (R : List (Told K V)) (v t : ℕ) (k : K) (d : Decision) → IsLawfulBack eq m (e ∷ R) → opened_at R v t ≡ true → decided eq R v k ≡ Some d → decided eq (e ∷ R) v k ≡ Some d
+  pub decided_more : (e : Told K V) (R : List (Told K V)) (v t : ℕ) (k : K) (d : Decision) → IsLawfulBack eq m (e ∷ R) → opened_at R v t ≡ true → decided eq R v k ≡ Some d → decided eq (e ∷ R) v k ≡ Some d
   decided_more (Open by w) R v t k d l o h = ap (λ b. cond b None (decided eq R v k)) (begins_none eq m R w v t l.1 o) ∙ h
   decided_more (Keep w q b) R v t k d l o h = not_twice R v w k q d ByValue l.0.1.0 h
   decided_more (End w q) R v t k d l o h = not_twice R v w k q d ByValue l.0.2 h

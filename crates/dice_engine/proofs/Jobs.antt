@@ -83,15 +83,15 @@ module _ {K V : Type 0} (eq : K → K → Bool) (m : Meaning K V) (veq : V → V
 
 module _ {K V : Type 0} (eq : K → K → Bool) (m : Meaning K V) (old mid new : SeatView (Told K V)) (c d : CoreSeen K V) where
   -- the turn in which the core c became the core d
-  pub turned_over : (R : CoreSeen K V → CoreSeen K V → Type 0) (w : ℕ) → Entered eq m old mid (events_of c) → Ended eq m mid new (events_of d)
-      → Adds eq m w (events_of c) (events_of d) (λ own work. own ≡ []) → new.left ≡ left_of d → RestsByJournal eq m d → R c d → TurnOver eq m old new R
-  turned_over R w e z a counts rests did = record {
+  pub turned_over : (R : CoreSeen K V → CoreSeen K V → Type 0) (w mark : ℕ) → Entered eq m old mid (events_of c) → Ended eq m mid new (events_of d)
+      → Adds eq m w (events_of c) (events_of d) (λ own work. own ≡ []) → new.left ≡ left_of mark d → RestsByJournal eq m d → R c d → TurnOver eq m old new R
+  turned_over R w mark e z a counts rests did = record {
     turn = turned_any eq m old mid (events_of c) (events_of d) new (λ found own work. own ≡ []) w e z a a.did;
     found = c;
     left = d;
     begins = sym (any_found eq m old mid (events_of c) (events_of d) new (λ found own work. own ≡ []) w e z a a.did);
     ends = sym z.seen;
-    counts = sym counts;
+    counts = ap (λ n. left_of n d) (ap (λ (l : ℕ × ℕ × ℕ). l.2) counts) ∙ sym counts;
     rests = rests;
     did = did;
   }

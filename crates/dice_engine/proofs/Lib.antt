@@ -9,3 +9,4 @@ pub mod Deciding
 pub mod Listing
 pub mod Jobs
 pub mod Quieted
+pub mod Shelved

@@ -45,7 +45,7 @@ module _ {K V : Type 0} where
   lost_told Absent r t e = absurd t
 
 module _ {U K V R : Type 0} (eq : K → K → Bool) (m : Meaning K V) (p : Promise U K V R) (r : Reply K V) (s u : SeatView (Told K V)) where
-  pub pending_exact : TellsOfCore eq m p r s u → IsLiveIn u.seen p.ask → (c : CoreSeen K V) × (events_of c ≡ u.seen) × (left_of c ≡ u.left) × (u.turns ≡ s.turns + 1) × ((r ≡ NotYet) ↔ (poll_of eq m c p.version (arc_value p.key) ≡ Pending)) × (poll_of eq m c p.version (arc_value p.key) ≡ ToNothing → r ≡ NoRoom)
+  pub pending_exact : TellsOfCore eq m p r s u → IsLiveIn u.seen p.ask → (c : CoreSeen K V) × (events_of c ≡ u.seen) × (left_of u.left.2 c ≡ u.left) × (u.turns ≡ s.turns + 1) × ((r ≡ NotYet) ↔ (poll_of eq m c p.version (arc_value p.key) ≡ Pending)) × (poll_of eq m c p.version (arc_value p.key) ≡ ToNothing → r ≡ NoRoom)
   pending_exact t live =
       let o = poll_of eq m t.left p.version (arc_value p.key) in
       let told : Tells o r = t.did.1 (subst (λ J. IsLiveIn J p.ask) (sym t.ends) live) in

@@ -39,7 +39,7 @@ module _ {K V : Type 0} (eq : K → K → Bool) (m : Meaning K V) (J : List (Tol
   pub some_open : (a : Asking K) → live_at (reverse J) ask ≡ Some a → ((o : Opened) → open_at (reverse J) a.opened ≡ Some o → o.version ≡ v) → 0 < open_count (reverse J) v
   some_open a e f = opened_counts eq m (reverse J) v a.opened lawful (opened_there a e f)
 
-module _ {K V A B : Type 0} (eq : K → K → Bool) (m : Meaning K V) (J : List (Told K V)) (v : ℕ) (k : K) (ask : ℕ) (ready : List A) (out : List B) (live : IsLiveIn J ask)
+module _ {K V A B : Type 0} (eq : K → K → Bool) (m : Meaning K V) (J : List (Told K V)) (v : ℕ) (k : K) (ask mark : ℕ) (ready : List A) (out : List B) (live : IsLiveIn J ask)
     (came : Came K V)
     (injected : m.kind k ≡ Injected → (x : V) × (came ≡ ToValue x))
     (value : (x : V) → came ≡ ToValue x → HasValue eq m (log_of J) v k x)
@@ -60,19 +60,19 @@ module _ {K V A B : Type 0} (eq : K → K → Bool) (m : Meaning K V) (J : List 
   may_refuse x (inr h) = inr (inl (ByValue, h))
 
   -- what is told of what the core has come to
-  pub told_so : (c : Came K V) → came ≡ c → (r : Reply K V) → Tells c r → IsReply eq m J v k ask (length ready, length out, 0) r
-  told_so (ToValue x) e r (inl t) = subst (IsReply eq m J v k ask (length ready, length out, 0)) (sym t) (live, valued x e, value x e)
-  told_so (ToValue x) e r (inr t) = subst (IsReply eq m J v k ask (length ready, length out, 0)) (sym t) (live, may_refuse x (valued x e))
+  pub told_so : (c : Came K V) → came ≡ c → (r : Reply K V) → Tells c r → IsReply eq m J v k ask (length ready, length out, mark) r
+  told_so (ToValue x) e r (inl t) = subst (IsReply eq m J v k ask (length ready, length out, mark)) (sym t) (live, valued x e, value x e)
+  told_so (ToValue x) e r (inr t) = subst (IsReply eq m J v k ask (length ready, length out, mark)) (sym t) (live, may_refuse x (valued x e))
   told_so (ToCycle p) e r t =
       let computed : m.kind k ≢ Injected = λ i. (let h = (injected i).1 in cc) in
       let d : decided eq (reverse J) v k ≡ Some ByCycle = decides computed ∙ ap decision_of e in
       by_told t computed d
     where
-      by_told : (r ≡ TheCycle p) ⊎ (r ≡ NoRoom) → m.kind k ≢ Injected → decided eq (reverse J) v k ≡ Some ByCycle → IsReply eq m J v k ask (length ready, length out, 0) r
-      by_told (inl t) computed d = subst (IsReply eq m J v k ask (length ready, length out, 0)) (sym t) (live, computed, d, cycle p e)
-      by_told (inr t) computed d = subst (IsReply eq m J v k ask (length ready, length out, 0)) (sym t) (live, inr (inl (ByCycle, d)))
-  told_so ToNothing e r t = subst (IsReply eq m J v k ask (length ready, length out, 0)) (sym t) (live, inr (inr (lost e)))
+      by_told : (r ≡ TheCycle p) ⊎ (r ≡ NoRoom) → m.kind k ≢ Injected → decided eq (reverse J) v k ≡ Some ByCycle → IsReply eq m J v k ask (length ready, length out, mark) r
+      by_told (inl t) computed d = subst (IsReply eq m J v k ask (length ready, length out, mark)) (sym t) (live, computed, d, cycle p e)
+      by_told (inr t) computed d = subst (IsReply eq m J v k ask (length ready, length out, mark)) (sym t) (live, inr (inl (ByCycle, d)))
+  told_so ToNothing e r t = subst (IsReply eq m J v k ask (length ready, length out, mark)) (sym t) (live, inr (inr (lost e)))
   told_so Pending e r t =
       let computed : m.kind k ≢ Injected = λ i. (let h = (injected i).1 in cc) in
-      subst (IsReply eq m J v k ask (length ready, length out, 0)) (sym t) (live, computed, decides computed ∙ ap decision_of e, λ a b. quiet (nil_from_length ready a) (nil_from_length out b) e)
+      subst (IsReply eq m J v k ask (length ready, length out, mark)) (sym t) (live, computed, decides computed ∙ ap decision_of e, λ a b. quiet (nil_from_length ready a) (nil_from_length out b) e)
   told_so Absent e r t = absurd t

@@ -32,7 +32,7 @@ module _ {K V : Type 0} (eq : K → K → Bool) (m : Meaning K V) where
     pub left : CoreSeen K V
     pub begins : events_of found ≡ turn.found
     pub ends : events_of left ≡ new.seen
-    pub counts : left_of left ≡ new.left
+    pub counts : left_of new.left.2 left ≡ new.left
     pub rests : RestsByJournal left
     pub did : R found left
 

@@ -7,4 +7,5 @@ pub mod Lines
 pub mod Jobs
 pub mod Doings
 pub mod Leaving
+pub mod Rows
 pub mod Seating

@@ -19,9 +19,9 @@ module _ {K V : Type 0} where
   abbrev pub newest_in : List (Told K V) → ℕ
   newest_in J = length (log_of J)
 
-  -- how many tasks are ready, and how many jobs are out
-  abbrev pub left_of : CoreSeen K V → ℕ × ℕ × ℕ
-  left_of c = (length c.desk.ready, length c.desk.out, 0)
+  -- how many tasks are ready, how many jobs are out, and the mark of the shelf, which is 0 if it has all rows
+  abbrev pub left_of : ℕ → CoreSeen K V → ℕ × ℕ × ℕ
+  left_of mark c = (length c.desk.ready, length c.desk.out, mark)
 
   -- each of the events tells the number n
   abbrev pub AreBy : ℕ → List (Told K V) → Type 0

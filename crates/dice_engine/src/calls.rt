@@ -53,7 +53,7 @@ impl<U: Universe> Engine<U> {
     {
         let number = seat.number();
         let mut turn = self.stile.enter(rt, seat);
-        let result = turn.state().commit(number, updater);
+        let result = turn.state().commit(rt, number, updater);
         self.stile.leave(turn);
         result
     }
@@ -72,7 +72,7 @@ impl<U: Universe> Engine<U> {
     {
         let number = seat.number();
         let mut turn = self.stile.enter(rt, seat);
-        let opened = turn.state().open(number);
+        let opened = turn.state().open(rt, number);
         self.stile.leave(turn);
         opened
     }
@@ -88,7 +88,7 @@ impl<U: Universe> Engine<U> {
         ensures same { (seat.new.number ≡ seat.old.number) × (seat.new.writers ≡ seat.old.writers) }
     {
         let mut turn = self.stile.enter(rt, seat);
-        turn.state().close(transaction);
+        turn.state().close(rt, transaction);
         self.stile.leave(turn);
     }
 
@@ -116,7 +116,7 @@ impl<U: Universe> Engine<U> {
     {
         let number = seat.number();
         let mut turn = self.stile.enter(rt, seat);
-        let promise = turn.state().ask(number, transaction, key);
+        let promise = turn.state().ask(rt, number, transaction, key);
         self.stile.leave(turn);
         promise
     }
@@ -133,7 +133,7 @@ impl<U: Universe> Engine<U> {
         ensures same { (seat.new.number ≡ seat.old.number) × (seat.new.writers ≡ seat.old.writers) }
     {
         let mut turn = self.stile.enter(rt, seat);
-        turn.state().leave(promise);
+        turn.state().leave(rt, promise);
         self.stile.leave(turn);
     }
 

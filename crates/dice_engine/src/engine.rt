@@ -105,8 +105,9 @@ impl<U: Universe> Engine<U> {
         self.stile.newest(seat)
     }
 
-    /// Waits for a turn of this seat, and ends the engine in it. If the turn of another seat was
-    /// never left, it waits for ever. It takes no memory.
+    /// Waits for a turn of this seat, and ends the engine and its shelf in it. If the turn of
+    /// another seat was never left, it waits for ever. It takes no memory. Later looks of readers
+    /// are refused.
     pub fn end<R: Wait>(self, rt: &R, seat: Seat<U>)
         requires seat { IsSeatOf self seat }
     {
@@ -114,7 +115,7 @@ impl<U: Universe> Engine<U> {
             stile,
             universe: _universe,
         } = self;
-        drop(stile.end(rt, seat));
+        stile.end(rt, seat).end(rt);
     }
 
     /// Whether a seat has a turn or waits for one just now. It is a hint, by which a seat that can

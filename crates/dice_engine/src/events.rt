@@ -1,6 +1,6 @@
 //! The events of a journal, copied out of it.
 ghost use Rattle.std.specs.Prelude.{◌≡◌, IfOk};
-ghost use Rattle.dice_model.specs.Log.{pair_of};
+ghost use Rattle.dice_model.specs.Log.{pair_of, pairs_of};
 ghost use Rattle.journal.specs.Tell.{told, reason_of};
 ghost use Rattle.dice_engine.specs.Lines.{AreEventsFrom};
 
@@ -67,12 +67,22 @@ fn shared_changes<K: Drop, V: Drop>(
 ) -> Result<Changes<K, V>, NoMemory>
     ensures { IfOk result (λ c. c ≡ changes.now) }
 {
+    Ok(Changes::from_pairs(shared_pairs(alloc, changes)?))
+}
+
+/// The pairs of changes once more, with their keys and values shared.
+pub(crate) fn shared_pairs<K: Drop, V: Drop>(
+    alloc: Global,
+    changes: &Changes<K, V>,
+) -> Result<Vec<(Arc<K>, Arc<V>)>, NoMemory>
+    ensures { IfOk result (λ v. pairs_of v.items ≡ changes.now) }
+{
     let all = changes.pairs();
     let mut pairs = Vec::with_capacity(alloc, all.len())?;
     for pair in all {
         pairs.push(shared_pair(pair)?)?;
     }
-    Ok(Changes::from_pairs(pairs))
+    Ok(pairs)
 }
 
 /// The pair once more, with its key and value shared.

@@ -6,8 +6,10 @@ mod engine;
 mod events;
 mod gate;
 mod laws;
+mod ledge;
 mod lines;
 mod promise;
+mod readers;
 mod settling;
 mod state;
 mod updater;
@@ -24,5 +26,6 @@ pub use laws::{
 };
 pub use promise::{Answer, Promise, Settled, Transaction, Worked};
 pub use settling::{leaving_decides_nothing, nothing_hangs, pending_is_exact};
+pub use shelf::{LookRefusal, Reader};
 pub use state::State;
 pub use updater::Updater;

@@ -29,7 +29,7 @@ pub fn nothing_hangs<U: Universe>()
 pub fn pending_is_exact<U: Universe>(promise: &Promise<U>)
     ensures { (r : Reply U.Key U.Value) (s u : SeatView (Told U.Key U.Value))
         → TellsOfCore U.Key.eq U.meaning promise.now r s u → IsLiveIn u.seen promise.now.ask
-        → (c : CoreSeen U.Key U.Value) × (events_of c ≡ u.seen) × (left_of c ≡ u.left)
+        → (c : CoreSeen U.Key U.Value) × (events_of c ≡ u.seen) × (left_of u.left.2 c ≡ u.left)
         × (u.turns ≡ s.turns + 1)
         × ((r ≡ NotYet)
         ↔ (poll_of U.Key.eq U.meaning c promise.now.version (arc_value promise.now.key) ≡ Pending))

@@ -1,6 +1,7 @@
 //! The state that lies in the slot of the turnstile, and the core's calls on it: one of them in
 //! each turn.
-ghost use Rattle.std.specs.Prelude.{◌≡◌, ◌≢◌, ℕ, List, [], ◌∷◌, ◌++◌, length, reverse, Some, IfOk, IfErr, IfSome, IfNone, OnOk, OnErr, MatchResult};
+ghost use Rattle.std.specs.Option.{ForSome, ForNone};
+ghost use Rattle.std.specs.Prelude.{◌≡◌, ◌≢◌, IsSome, is_some, ℕ, List, [], ◌∷◌, ◌++◌, length, reverse, Some, IfOk, IfErr, IfSome, IfNone, OnOk, OnErr, MatchResult};
 ghost use Rattle.std.specs.Arc.{arc_value};
 ghost use Rattle.std.specs.Map.{keys_of};
 ghost use Rattle.journal.specs.Events.{Opened, Asking, open_at, live_at};
@@ -17,8 +18,10 @@ ghost use Rattle.dice_engine.specs.Replies.{reply_of, Tells, IsLiveIn, IsReply};
 ghost use Rattle.dice_engine.specs.Lines.{AreLines, AreEventsFrom};
 ghost use Rattle.dice_engine.specs.Jobs.{GoesOut, GivesUpJob, TakesUpStep, ComesHome};
 ghost use Rattle.dice_engine.specs.Doings.{RestsByJournal};
+ghost use Rattle.dice_engine.specs.Rows.{Keeps, Follows, IsBare, ShelfHas};
 
 use crate::events::events_since;
+use crate::ledge::{Ledge, shelve};
 use crate::lines::lines_of;
 use crate::promise::{Answer, Promise, Transaction};
 use crate::updater::Updater;
@@ -26,19 +29,24 @@ use dice_core::{CommitRefusal, Core, Job, JobName, Polled, Step};
 use dice_key::{KeyRef, Line, NoMemory, Universe, Version};
 use injected::cells_are_the_inputs;
 use journal::{Event, Told};
+use shelf::Told as News;
 use std::alloc::Global;
-use std::sync::Arc;
+use std::sync::{Arc, Wait};
 use turnstile::Tale;
 
-/// The state that the seats of an engine have in turns: its core, and what it tells of itself
-/// between two turns.
+/// The state that the seats of an engine have in turns: its core, its shelf, if it has readers, and
+/// what it tells of itself between two turns. The last number that it tells is 0 exactly if all its
+/// rows are on a shelf, and readers can see them.
 #[derive(Drop)]
 pub struct State<U: Universe> {
     core: Box<Core<U>>,
+    shelf: Option<Box<Ledge<U>>>,
     left: (u64, u64, u64),
     newest: u64,
-    ghost counted: { left ≡ left_of core.value },
+    ghost counted: { left ≡ left_of left.2 core.value },
     ghost numbered: { newest ≡ newest_in (events_of core.value) },
+    ghost shelved: { ForSome shelf (λ b. Keeps (events_of core.value) left.2 b.value) },
+    ghost bare: { ForNone shelf (left.2 ≡ 1) },
 }
 
 impl<U: Universe> Tale for State<U> {
@@ -53,7 +61,7 @@ impl<U: Universe> Tale for State<U> {
 
     ghost by = { event_by };
 
-    ghost counts = { λ s. left_of s.core.value };
+    ghost counts = { λ s. left_of s.left.2 s.core.value };
 
     ghost version = { newest_in };
 
@@ -68,16 +76,35 @@ impl<U: Universe> Tale for State<U> {
     ghost rises = { newest_rises };
 }
 
-/// What a core tells of itself: how many tasks are ready and how many jobs are out, and the newest
-/// version.
-fn standing<U: Universe>(core: &Core<U>) -> ((u64, u64, u64), u64)
-    ensures left { result.0 ≡ left_of core.now }
+/// What a core tells of itself, with such a mark: how many tasks are ready and how many jobs are
+/// out, and the newest version.
+fn standing<U: Universe>(core: &Core<U>, mark: u64) -> ((u64, u64, u64), u64)
+    ensures left { result.0 ≡ left_of mark core.now }
     ensures newest { result.1 ≡ newest_in (events_of core.now) }
     ensures lawful { IsLawfulJournal U.Key.eq U.meaning (events_of core.now) }
     ensures rests { RestsByJournal U.Key.eq U.meaning core.now }
 {
     core.in_order();
-    ((core.ready(), core.out(), 0), core.newest())
+    ((core.ready(), core.out(), mark), core.newest())
+}
+
+/// The shelf takes up what the core's journal has gained, and the core tells of itself.
+fn settled<U: Universe, R: Wait>(
+    rt: &R,
+    shelf: &mut Option<Box<Ledge<U>>>,
+    mark: u64,
+    core: &Core<U>,
+) -> ((u64, u64, u64), u64)
+    requires { ForSome shelf.old (λ b. Follows (events_of core.now) mark b.value) }
+    ensures left { result.0 ≡ left_of result.0.2 core.now }
+    ensures newest { result.1 ≡ newest_in (events_of core.now) }
+    ensures lawful { IsLawfulJournal U.Key.eq U.meaning (events_of core.now) }
+    ensures rests { RestsByJournal U.Key.eq U.meaning core.now }
+    ensures shelved { ForSome shelf.new (λ b. Keeps (events_of core.now) result.0.2 b.value) }
+    ensures bare { ForNone shelf.old (result.0.2 ≡ mark) × (is_some shelf.new ≡ is_some shelf.old) }
+{
+    let mark = shelve(rt, shelf, mark, core);
+    standing(core, mark)
 }
 
 impl<U: Universe> State<U> {
@@ -86,14 +113,68 @@ impl<U: Universe> State<U> {
     pub(crate) fn new(alloc: Global, core: Core<U>) -> Result<State<U>, NoMemory>
         ensures { IfOk result (λ s. s.core.value ≡ core) }
     {
-        let (left, newest) = standing(&core);
+        let (left, newest) = standing(&core, 1);
         let core = Box::new(alloc, core)?;
-        Ok(State { core, left, newest })
+        Ok(State {
+            core,
+            shelf: None,
+            left,
+            newest,
+        })
+    }
+
+    /// The state with a shelf on which nothing is yet.
+    pub(crate) fn with_shelf(self, shelf: Box<Ledge<U>>) -> State<U>
+        requires bare { IsBare shelf.value }
+        requires new { events_of self.core.value ≡ [] }
+        ensures { result.core.value ≡ self.core.value }
+    {
+        let State {
+            core,
+            shelf: _none,
+            left: (ready, out, _),
+            newest,
+        } = self;
+        State {
+            core,
+            shelf: Some(shelf),
+            left: (ready, out, 0),
+            newest,
+        }
+    }
+
+    /// Ends the shelf, if there is one, and lets the rest go.
+    pub(crate) fn end<R: Wait>(self, rt: &R) {
+        let State {
+            core: _core,
+            shelf,
+            left: _,
+            newest: _,
+        } = self;
+        if let Some(shelf) = shelf {
+            Box::into_inner(shelf).end(rt);
+        }
+    }
+
+    /// What readers can see now, for a reader that learns it; `None` if there is no shelf.
+    pub(crate) fn tell(&mut self) -> Option<News<U>>
+        ensures core { self.new.core.value ≡ self.old.core.value }
+        ensures told { IfSome result (λ t. IfSome t (λ xs.
+            (self.new.left.2 ≡ 0 → ShelfHas (events_of self.new.core.value) xs))) }
+        ensures some { self.new.left.2 ≡ 0 → IsSome result }
+        ensures lawful { IsLawfulJournal U.Key.eq U.meaning (events_of self.new.core.value) }
+    {
+        self.core.in_order();
+        let Some(shelf) = &mut self.shelf else {
+            return None;
+        };
+        Some(shelf.told())
     }
 
     /// Commits changes for a seat.
-    pub(crate) fn commit<'a>(
+    pub(crate) fn commit<'a, R: Wait>(
         &mut self,
+        rt: &R,
         by: u64,
         updater: &'a Updater<U>,
     ) -> Result<Version, CommitRefusal<'a, U>>
@@ -113,14 +194,14 @@ impl<U: Universe> State<U> {
         let core = &mut *self.core;
         core.in_order();
         let result = core.commit(by, updater.pairs());
-        let (left, newest) = standing(core);
+        let (left, newest) = settled(rt, &mut self.shelf, self.left.2, core);
         self.left = left;
         self.newest = newest;
         result
     }
 
     /// Opens a transaction for a seat.
-    pub(crate) fn open(&mut self, by: u64) -> Result<Transaction, NoMemory>
+    pub(crate) fn open<R: Wait>(&mut self, rt: &R, by: u64) -> Result<Transaction, NoMemory>
         ensures named { IfOk result (λ t. (t.version ≡ newest_in (events_of self.old.core.value))
             × (t.opened ≡ length (events_of self.old.core.value))) }
         ensures ok { OnOk result (Adds U.Key.eq U.meaning by (events_of self.old.core.value)
@@ -131,7 +212,7 @@ impl<U: Universe> State<U> {
         let version = self.newest;
         let core = &mut *self.core;
         let opened = core.open(by);
-        let (left, newest) = standing(core);
+        let (left, newest) = settled(rt, &mut self.shelf, self.left.2, core);
         self.left = left;
         self.newest = newest;
         Ok(Transaction {
@@ -141,7 +222,7 @@ impl<U: Universe> State<U> {
     }
 
     /// Closes a transaction.
-    pub(crate) fn close(&mut self, transaction: Transaction)
+    pub(crate) fn close<R: Wait>(&mut self, rt: &R, transaction: Transaction)
         requires { IsLawfulJournal U.Key.eq U.meaning (events_of self.old.core.value)
             → (o : Opened)
             × (open_at (reverse (events_of self.old.core.value)) transaction.opened ≡ Some o) }
@@ -153,14 +234,15 @@ impl<U: Universe> State<U> {
         let core = &mut *self.core;
         core.in_order();
         core.close(transaction.opened);
-        let (left, newest) = standing(core);
+        let (left, newest) = settled(rt, &mut self.shelf, self.left.2, core);
         self.left = left;
         self.newest = newest;
     }
 
     /// Asks for a key in a transaction, for a seat.
-    pub(crate) fn ask(
+    pub(crate) fn ask<R: Wait>(
         &mut self,
+        rt: &R,
         by: u64,
         transaction: &Transaction,
         key: KeyRef<U>,
@@ -181,7 +263,7 @@ impl<U: Universe> State<U> {
         let core = &mut *self.core;
         core.in_order();
         let ask = ask_again(core, by, transaction.opened, &key);
-        let (left, newest) = standing(core);
+        let (left, newest) = settled(rt, &mut self.shelf, self.left.2, core);
         self.left = left;
         self.newest = newest;
         Ok(Promise {
@@ -193,7 +275,7 @@ impl<U: Universe> State<U> {
     }
 
     /// Leaves an ask, if its transaction is still open.
-    pub(crate) fn leave(&mut self, promise: Promise<U>)
+    pub(crate) fn leave<R: Wait>(&mut self, rt: &R, promise: Promise<U>)
         requires open { IsLawfulJournal U.Key.eq U.meaning (events_of self.old.core.value)
             → (o : Opened)
             → open_at (reverse (events_of self.old.core.value)) promise.opened ≡ Some o
@@ -219,7 +301,7 @@ impl<U: Universe> State<U> {
         if core.stands(promise.ask) {
             core.leave(promise.ask);
         }
-        let (left, newest) = standing(core);
+        let (left, newest) = settled(rt, &mut self.shelf, self.left.2, core);
         self.left = left;
         self.newest = newest;
     }
@@ -234,7 +316,7 @@ impl<U: Universe> State<U> {
             → o.version ≡ promise.now.version) }
         ensures reply { IsReply U.Key.eq U.meaning (events_of self.now.core.value)
             promise.now.version (arc_value promise.now.key) promise.now.ask
-            (left_of self.now.core.value) (reply_of result) }
+            (left_of self.now.left.2 self.now.core.value) (reply_of result) }
 
         // If the ask is live, what is answered is what the core has come to.
         ensures exact { IsLiveIn (events_of self.now.core.value) promise.now.ask
@@ -300,7 +382,7 @@ impl<U: Universe> State<U> {
     {
         let core = &mut *self.core;
         let job = core.take_job();
-        let (left, newest) = standing(core);
+        let (left, newest) = standing(core, self.left.2);
         self.left = left;
         self.newest = newest;
         job
@@ -308,7 +390,7 @@ impl<U: Universe> State<U> {
 
     /// Takes up what came of a job that was taken here: a step, or the name of the job, if there
     /// was no memory for it. The job is out no more then.
-    pub(crate) fn take_up(&mut self, came: Result<Step<U>, JobName<U>>)
+    pub(crate) fn take_up<R: Wait>(&mut self, rt: &R, came: Result<Step<U>, JobName<U>>)
         requires { IfOk came
             (λ s. AnsweredTruly U.Key.eq U.meaning (log_of (events_of self.old.core.value)) s.job) }
         ensures adds { Adds U.Key.eq U.meaning 0 (events_of self.old.core.value)
@@ -319,7 +401,7 @@ impl<U: Universe> State<U> {
     {
         let core = &mut *self.core;
         take_in(core, came);
-        let (left, newest) = standing(core);
+        let (left, newest) = settled(rt, &mut self.shelf, self.left.2, core);
         self.left = left;
         self.newest = newest;
     }

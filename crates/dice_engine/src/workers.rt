@@ -57,22 +57,15 @@ impl<U: Universe> Engine<U> {
     {
         let done = AtomicU64::new(0);
         let stop = &done;
-        let (_, result) = join(
+        beside(
             rt,
-            move || -> bool
+            seats,
+            &|seats: Vec<Seat<U>>| -> bool
                 requires { All (IsSeatOf self.now) seats.items }
             { self.work_all(rt, seats, gate, stop) },
-            move || -> T
-                requires { F.pre f }
-                ensures { F.post f result }
-            {
-                let result = f();
-                stop.store(1, Ordering::Release);
-                stop.wake_all();
-                result
-            },
-        );
-        result
+            f,
+            stop,
+        )
     }
 
     // Each worker in a thread of its own, if one can be made. It answers whether each was begun.
@@ -129,4 +122,36 @@ impl<U: Universe> Engine<U> {
 fn rest<R: Wait>(rt: &R, stop: &AtomicU64, tries: u32) {
     let time = Duration::from_micros(REST << tries.min(DOUBLED));
     stop.park_timeout(rt, 0, time);
+}
+
+/// Calls `f` in this thread, and `work` on what is given in another one, which is told to stop when
+/// `f` has returned. It names no engine: what is passed to a thread may not name the rule of its
+/// shelf.
+fn beside<R: Threads + Wait + Sync, S: Send + Drop, W: Fn(S) -> bool + Sync, T, F: FnOnce() -> T>(
+    rt: &R,
+    given: S,
+    work: &W,
+    f: F,
+    stop: &AtomicU64,
+) -> T
+    requires work { W.pre work.now given }
+    requires call { F.pre f }
+    ensures { F.post f result }
+{
+    let (_, result) = join(
+        rt,
+        move || -> bool
+            requires { W.pre work.now given }
+        { work(given) },
+        move || -> T
+            requires { F.pre f }
+            ensures { F.post f result }
+        {
+            let result = f();
+            stop.store(1, Ordering::Release);
+            stop.wake_all();
+            result
+        },
+    );
+    result
 }

@@ -77,7 +77,7 @@ impl<U: Universe> Engine<U> {
     {
         true_jobs_are_one::<U>();
         let mut turn = self.stile.enter(rt, seat);
-        turn.state().take_up(came);
+        turn.state().take_up(rt, came);
         self.stile.leave(turn);
     }
 

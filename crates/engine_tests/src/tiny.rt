@@ -3,7 +3,9 @@ ghost use Rattle.std.specs.Prelude.{◌≡◌};
 ghost use Rattle.turnstile.specs.Seats.{IsSeatOf, IsWriter};
 
 use crate::way::{Came, Course, course_of, start, waited};
-use dice_engine::{CommitRefusal, Engine, Open, Seat, Updater, Worked};
+use dice_engine::{
+    CommitRefusal, Engine, LookRefusal, Open, Reader, Seat, Settled, Transaction, Updater, Worked,
+};
 use dice_key::{Line, NoMemory, Version};
 use std::alloc::Global;
 use std::sync::{Arc, Wait};
@@ -223,5 +225,110 @@ fn the_newest_version_is_told_without_a_turn(rt: HostRuntime) -> Result<(), Fail
     let (before, made, after, opened) = newest_of_two(&rt, rt.alloc())?;
     assert!(rt; before == 0 && made == Made::Version(1));
     assert!(rt; after == 1 && opened == 1);
+    Ok(())
+}
+
+/// What a reader of an engine comes to.
+#[derive(Drop)]
+struct Looks {
+    /// What it is told, and what it sees then, before a sum is asked for.
+    told_before: bool,
+    before: Option<u64>,
+    /// What the asker waited for.
+    settled: Seen,
+    /// What the reader is told, and what it sees then of the sum and of another one.
+    told_after: bool,
+    after: Option<u64>,
+    other: Option<u64>,
+    /// How often it was refused.
+    refused: u64,
+}
+
+/// The number that a reader sees of a key in a transaction.
+fn number_of(
+    engine: &Engine<Tiny>,
+    reader: &mut Reader<Tiny>,
+    transaction: &Transaction,
+    key: &Place,
+) -> Result<Option<u64>, LookRefusal> {
+    let Some(value) = engine.quick(reader, transaction, key)? else {
+        return Ok(None);
+    };
+    match *value {
+        Value::Number(number) => Ok(Some(number)),
+        Value::Reading(_) => Ok(None),
+    }
+}
+
+/// A reader looks at a sum before it is asked for, and after the seat waited for it.
+fn looks_of<R: Wait>(
+    rt: &R,
+    alloc: Global,
+    engine: &Engine<Tiny>,
+    seat: &mut Seat<Tiny>,
+    reader: &mut Reader<Tiny>,
+) -> Result<(Looks, Transaction), Fail>
+    requires { IsSeatOf engine.now seat.old × IsWriter seat.old }
+    ensures { IsSeatOf engine.now seat.new }
+{
+    let sum = Place::Sum(1, 2);
+    commit(rt, alloc, engine, seat, &CELLS)?;
+    let transaction = engine.open(rt, seat)?;
+    let told_before = engine.tell(rt, seat, reader);
+    let before = number_of(engine, reader, &transaction, &sum).ok().flatten();
+    let key = Arc::new(alloc, sum)?;
+    let promise = engine.ask(rt, seat, &transaction, key)?;
+    let last = engine.wait(rt, seat, &promise, &Open, 0)?;
+    let settled = match last {
+        Settled::Value(value) => match *value {
+            Value::Number(number) => Seen::Number(number),
+            Value::Reading(version) => Seen::Reading(version),
+        },
+        Settled::Cycle(_) | Settled::Gone => Seen::Gone,
+    };
+    let told_after = engine.tell(rt, seat, reader);
+    let after = number_of(engine, reader, &transaction, &sum).ok().flatten();
+    let other = number_of(engine, reader, &transaction, &Place::Sum(2, 1)).ok().flatten();
+    let refused = reader.refused();
+    let looks = Looks {
+        told_before,
+        before,
+        settled,
+        told_after,
+        after,
+        other,
+        refused,
+    };
+    Ok((looks, transaction))
+}
+
+/// The same on an engine of its own, which ends then.
+fn looks_alone<R: Wait>(rt: &R, alloc: Global) -> Result<Looks, Fail> {
+    let universe = Arc::new(alloc, Tiny::new(alloc)?)?;
+    let (engine, mut seat, mut readers) = Engine::with_readers(rt, alloc, universe, 1, 1)?;
+    let Some(mut reader) = readers.pop() else {
+        engine.end(rt, seat);
+        return Err(Fail::from(NoMemory));
+    };
+    match looks_of(rt, alloc, &engine, &mut seat, &mut reader) {
+        Ok((looks, transaction)) => {
+            engine.end(rt, seat);
+            drop(transaction);
+            Ok(looks)
+        }
+        Err(fail) => {
+            engine.end(rt, seat);
+            Err(fail)
+        }
+    }
+}
+
+#[test]
+fn a_reader_looks_without_a_turn(rt: HostRuntime) -> Result<(), Fail> {
+    let looks = looks_alone(&rt, rt.alloc())?;
+    assert!(rt; looks.told_before && looks.before == None);
+    assert!(rt; looks.settled == Seen::Number(5));
+    assert!(rt; looks.told_after && looks.after == Some(5) && looks.other == None);
+    assert!(rt; looks.refused == 0);
     Ok(())
 }

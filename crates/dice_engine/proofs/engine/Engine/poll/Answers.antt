@@ -59,4 +59,4 @@ returns-clause-exact g c =
     let e = entered eq m old mid (events_of c.enter-turn.result.state.core.value) J (ap (λ s. events_of s.core.value) c.state.ensures.value) c.enter-turn.ensures.turn c.enter-turn.ensures.seen c.enter-turn.ensures.mine c.enter-turn.ensures.floor in
     let a = did_so eq m 0 J J AddsNothing (λ own work. own ≡ []) (nothing eq m J J c.poll-answer.ensures.lawful 0 refl) (λ own work d. d.0) in
     subst (TellsOfCore eq m p r old) (search rules)
-    (turned_over eq m old mid c.leave.new.turn.0 core core _ 0 e (record { seen = c.leave.ensures.seen; mine = c.leave.ensures.mine; turns = c.leave.ensures.turns; floor = c.leave.ensures.floor; below = c.leave.ensures.below; noted = c.leave.ensures.noted; same = c.leave.ensures.same }) a c.leave.ensures.left c.poll-answer.ensures.rests (refl, c.poll-answer.ensures.exact))
+    (turned_over eq m old mid c.leave.new.turn.0 core core _ 0 _ e (record { seen = c.leave.ensures.seen; mine = c.leave.ensures.mine; turns = c.leave.ensures.turns; floor = c.leave.ensures.floor; below = c.leave.ensures.below; noted = c.leave.ensures.noted; same = c.leave.ensures.same }) a c.leave.ensures.left c.poll-answer.ensures.rests (refl, c.poll-answer.ensures.exact))

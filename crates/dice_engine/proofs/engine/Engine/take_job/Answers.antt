@@ -34,7 +34,7 @@ returns-clause-goes g c =
     let e = entered eq m old mid (events_of c.enter-turn.result.state.core.value) (events_of found) (ap (λ s. events_of s.core.value) c.state.ensures.value) c.enter-turn.ensures.turn c.enter-turn.ensures.seen c.enter-turn.ensures.mine c.enter-turn.ensures.floor in
     let a = did_so eq m 0 (events_of found) (events_of left) AddsNothing (λ own work. own ≡ []) c.take_job-job.ensures.adds (λ own work d. d.0) in
     subst (λ s. TurnOver eq m old s (GoesOut eq c.take_job-job.result)) (search rules)
-    (turned_over eq m old mid c.leave.new.turn.0 found left (GoesOut eq c.take_job-job.result) 0 e (record { seen = c.leave.ensures.seen; mine = c.leave.ensures.mine; turns = c.leave.ensures.turns; floor = c.leave.ensures.floor; below = c.leave.ensures.below; noted = c.leave.ensures.noted; same = c.leave.ensures.same }) a c.leave.ensures.left c.take_job-job.ensures.rests c.take_job-job.ensures.goes)
+    (turned_over eq m old mid c.leave.new.turn.0 found left (GoesOut eq c.take_job-job.result) 0 _ e (record { seen = c.leave.ensures.seen; mine = c.leave.ensures.mine; turns = c.leave.ensures.turns; floor = c.leave.ensures.floor; below = c.leave.ensures.below; noted = c.leave.ensures.noted; same = c.leave.ensures.same }) a c.leave.ensures.left c.take_job-job.ensures.rests c.take_job-job.ensures.goes)
 
 pub returns-clause-answered : goal.returns-clause-answered
 returns-clause-answered g c =

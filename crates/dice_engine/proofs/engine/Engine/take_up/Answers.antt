@@ -54,4 +54,4 @@ returns-clause-home g c =
     let left = c.take_up.new.self.core.value in
     let e = entered eq m old mid (events_of c.enter-turn.result.state.core.value) (events_of found) (ap (λ s. events_of s.core.value) c.state.ensures.value) c.enter-turn.ensures.turn c.enter-turn.ensures.seen c.enter-turn.ensures.mine c.enter-turn.ensures.floor in
     subst (TakesIn eq m veq c.args.came old) (search rules)
-    (turned_over eq m old mid c.leave.new.turn.0 found left (ComesHome eq m veq c.args.came) 0 e (record { seen = c.leave.ensures.seen; mine = c.leave.ensures.mine; turns = c.leave.ensures.turns; floor = c.leave.ensures.floor; below = c.leave.ensures.below; noted = c.leave.ensures.noted; same = c.leave.ensures.same }) c.take_up.ensures.adds c.leave.ensures.left c.take_up.ensures.rests c.take_up.ensures.home)
+    (turned_over eq m old mid c.leave.new.turn.0 found left (ComesHome eq m veq c.args.came) 0 _ e (record { seen = c.leave.ensures.seen; mine = c.leave.ensures.mine; turns = c.leave.ensures.turns; floor = c.leave.ensures.floor; below = c.leave.ensures.below; noted = c.leave.ensures.noted; same = c.leave.ensures.same }) c.take_up.ensures.adds c.leave.ensures.left c.take_up.ensures.rests c.take_up.ensures.home)

@@ -7,6 +7,9 @@ use Rattle.journal.specs.Events.{commits_of, event_of}
 use Rattle.dice_engine.specs.Turns.{Adds, log_of}
 use Rattle.dice_engine.specs.Calls.{AddsNothing, Commits}
 use Rattle.dice_engine.proofs.Adding.{nothing, commits, map_ok, map_err}
+use Rattle.dice_engine.specs.Rows.{Keeps}
+use Rattle.dice_engine.proofs.Adding.{on_either}
+use Rattle.dice_engine.proofs.Shelved.{follows, grew_commit, grew_nothing}
 use Rattle.dice_engine.proofs.state.State.commit.Goals as goal
 
 pub returns-clause-first : goal.returns-clause-first
@@ -22,7 +25,7 @@ returns-clause-ok g c =
     (λ (s : CoreSeen g.row.U-Key.Denot g.row.U-Value.Denot). OnOk c.commit-result.result (Adds eq m c.args.by (events_of s) (events_of c.commit-result.new.self) (Commits eq veq m c.args.by (log_of (events_of s)) c.args.updater.now)))
     c.deref_mut-core.ensures.value
     (map_ok c.commit-result.result _ _ c.commit-result.ensures.events
-    (λ e. commits eq m (events_of core) (events_of c.commit-result.new.self) c.standing-newest.ensures.lawful veq c.args.by core.cells c.args.updater.now
+    (λ e. commits eq m (events_of core) (events_of c.commit-result.new.self) c.settled-newest.ensures.lawful veq c.args.by core.cells c.args.updater.now
     (c.cells_are_the_inputs.ensures.newest (commits_of (past_of core)) core.cells c.in_order.ensures.cells.are)
     (e ∙ ap (λ ps. events_of core ++ event_of c.args.by (differing_of eq veq m core.cells ps)) c.pairs.ensures)))
 
@@ -33,4 +36,10 @@ returns-clause-err g c =
     subst
     (λ (s : CoreSeen g.row.U-Key.Denot g.row.U-Value.Denot). OnErr c.commit-result.result (Adds eq m c.args.by (events_of s) (events_of c.commit-result.new.self) AddsNothing))
     c.deref_mut-core.ensures.value
-    (map_err c.commit-result.result _ _ c.commit-result.ensures.err (λ b. nothing eq m _ _ c.standing-newest.ensures.lawful c.args.by b.hands.events))
+    (map_err c.commit-result.result _ _ c.commit-result.ensures.err (λ b. nothing eq m _ _ c.settled-newest.ensures.lawful c.args.by b.hands.events))
+
+pub settled-newest-requires-after_bounds : goal.settled-newest-requires-after_bounds
+settled-newest-requires-after_bounds g c κs within = λ b e.
+    let J = events_of c.deref_mut-core.result.now in
+    follows J _ _ b.value (subst (λ (s : CoreSeen g.row.U-Key.Denot g.row.U-Value.Denot). Keeps (events_of s) c.args.self.now.left.2 b.value) (sym c.deref_mut-core.ensures.value) (c.args.self.now.shelved b e))
+    (on_either c.commit-result.result _ _ _ c.commit-result.ensures.events c.commit-result.ensures.err (λ e. grew_commit J _ c.args.by _ e) (λ h. grew_nothing J _ h.hands.events))

@@ -6,6 +6,10 @@ use Rattle.dice_core.specs.Cores.{CoreSeen, events_of}
 use Rattle.dice_engine.specs.Turns.{Adds}
 use Rattle.dice_engine.specs.Calls.{Leaves}
 use Rattle.dice_engine.proofs.Adding.{leaves_live, leaves_gone}
+use Rattle.std.proofs.Common.{refl}
+use Rattle.dice_engine.specs.Rows.{Keeps}
+use Rattle.dice_engine.proofs.Adding.{are_dropped}
+use Rattle.dice_engine.proofs.Shelved.{follows, grew_one, grew_nothing}
 use Rattle.dice_engine.proofs.state.State.leave.Goals as goal
 use Rattle.dice_engine.proofs.state.State.leave.Goals.{then-stands, else-stands}
 
@@ -28,8 +32,17 @@ returns g c =
           (let l = w.leave.ensures.log in
           let r = closed c.in_order.ensures.lawful l.0 l.3 in
           let o = subst (λ x. open_at (reverse J) x ≡ Some l.1) r.0 l.4 in
-          leaves_live eq m J (events_of c.if-stands.core) c.standing-newest.ensures.lawful n p.ask p.opened p.version l.0 l.1 l.2 r.0 (own c.in_order.ensures.lawful l.0 l.3) (given c.in_order.ensures.lawful l.1 o).3 l.4 (ap events_of w.core-is ∙ l.5))
+          leaves_live eq m J (events_of c.if-stands.core) c.settled-newest.ensures.lawful n p.ask p.opened p.version l.0 l.1 l.2 r.0 (own c.in_order.ensures.lawful l.0 l.3) (given c.in_order.ensures.lawful l.1 o).3 l.4 (ap events_of w.core-is ∙ l.5))
       | else-stands w ↦
-          leaves_gone eq m J (events_of c.if-stands.core) c.standing-newest.ensures.lawful n p.ask p.opened p.version (given c.in_order.ensures.lawful) (sym c.stands.ensures ∙ w.if-stands.false) (ap events_of w.core-is)
+          leaves_gone eq m J (events_of c.if-stands.core) c.settled-newest.ensures.lawful n p.ask p.opened p.version (given c.in_order.ensures.lawful) (sym c.stands.ensures ∙ w.if-stands.false) (ap events_of w.core-is)
     ])
     c.requires.open c.requires.closed
+
+pub settled-newest-requires-after_bounds : goal.settled-newest-requires-after_bounds
+settled-newest-requires-after_bounds g c κs within = λ b e.
+    let J = events_of c.deref_mut-core.result.now in
+    follows J _ _ b.value (subst (λ (s : CoreSeen g.row.U-Key.Denot g.row.U-Value.Denot). Keeps (events_of s) c.args.self.now.left.2 b.value) (sym c.deref_mut-core.ensures.value) (c.args.self.now.shelved b e))
+    (elim c.if-stands.branch [
+      | then-stands w ↦ (let l = w.leave.ensures.log in grew_one J _ l.0.by l.1.version _ _ refl (are_dropped g.row.U-Value.Denot l.1.version l.2) (ap events_of w.core-is ∙ l.5))
+      | else-stands w ↦ grew_nothing J _ (ap events_of w.core-is)
+    ])

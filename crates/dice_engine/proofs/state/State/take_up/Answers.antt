@@ -4,6 +4,8 @@ use Rattle.dice_jobs.specs.Alike.{AnsweredTruly}
 use Rattle.dice_core.specs.Cores.{CoreSeen, events_of}
 use Rattle.dice_engine.specs.Turns.{log_of}
 use Rattle.dice_engine.specs.Jobs.{ComesHome}
+use Rattle.dice_engine.specs.Rows.{Keeps}
+use Rattle.dice_engine.proofs.Shelved.{follows, grew_work}
 use Rattle.dice_engine.proofs.state.State.take_up.Goals as goal
 
 pub take_in-requires-after_bounds : goal.take_in-requires-after_bounds
@@ -13,3 +15,9 @@ take_in-requires-after_bounds g c κs within =
 pub returns-clause-home : goal.returns-clause-home
 returns-clause-home g c = subst (λ (s : CoreSeen g.row.U-Key.Denot g.row.U-Value.Denot). ComesHome g.U.Key.PartialEq.eq g.U.Universe.meaning g.U.Value.PartialEq.eq c.args.came s c.take_in.new.core) c.deref_mut-core.ensures.value
     c.take_in.ensures.home
+
+pub settled-newest-requires-after_bounds : goal.settled-newest-requires-after_bounds
+settled-newest-requires-after_bounds g c κs within = λ b e.
+    let J = events_of c.deref_mut-core.result.now in
+    follows J _ _ b.value (subst (λ (s : CoreSeen g.row.U-Key.Denot g.row.U-Value.Denot). Keeps (events_of s) c.args.self.now.left.2 b.value) (sym c.deref_mut-core.ensures.value) (c.args.self.now.shelved b e))
+    (grew_work J _ c.take_in.ensures.works)

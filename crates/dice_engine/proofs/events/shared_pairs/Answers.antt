@@ -1,7 +1,7 @@
 use Rattle.std.proofs.Common.{◌≡◌, ◌+◌, take, sym, subst}
 use Rattle.dice_model.specs.Log.{pair_of, pairs_of}
 use Rattle.dice_engine.proofs.Listing.{copied_more}
-use Rattle.dice_engine.proofs.events.shared_changes.Goals as goal
+use Rattle.dice_engine.proofs.events.shared_pairs.Goals as goal
 
 pub loop-pair-preserved : goal.loop-pair-preserved
 loop-pair-preserved g c =
