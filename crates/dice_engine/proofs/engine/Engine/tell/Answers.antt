@@ -1,6 +1,8 @@
 use Rattle.std.proofs.Common.{◌≡◌, ℕ, rules, ap, sym, ◌∙◌, subst}
 use Rattle.dice_core.specs.Cores.{events_of}
+use Rattle.journal.specs.declared.event.Told.{Told}
 use Rattle.turnstile.specs.InTurn.{seat_in}
+use Rattle.turnstile.specs.Seats.{SeatView}
 use Rattle.dice_engine.specs.Turns.{Turn}
 use Rattle.dice_engine.specs.Calls.{AddsNothing}
 use Rattle.dice_engine.proofs.Turned.{entered, may_leave_tasks, turned_any}
@@ -39,8 +41,9 @@ returns-clause-told g c = λ yes free.
     let I = events_of c.tell-told.new.self.core.value in
     let zero : c.leave.new.turn.0.left.2 ≡ 0 = search rules in
     let mark : c.tell-told.new.self.left.2 ≡ 0 = sym (mark_is c.leave.new.turn.0.left c.tell-told.new.self.left.2 c.tell-told.new.self.core.value c.leave.ensures.left) ∙ zero in
-    subst (λ J. ShelfHas J c.learned.new.reader.seen) (search rules)
-    (told_so I (c.tell-told.new.self.left.2 ≡ 0) mark c.tell-told.result c.args.reader.now c.learned.new.reader c.learned.ensures c.tell-told.ensures.told (c.tell-told.ensures.some mark) free)
+    let p = told_so I (c.tell-told.new.self.left.2 ≡ 0) mark c.tell-told.result c.args.reader.now c.learned.new.reader c.learned.ensures c.tell-told.ensures.told (c.tell-told.ensures.some mark) free in
+    let seen : ShelfHas c.leave.new.turn.0.seen c.learned.new.reader.seen = subst (λ J. ShelfHas J c.learned.new.reader.seen) (sym c.leave.ensures.seen) p in
+    subst (λ (s : SeatView (Told g.row.U-Key.Denot g.row.U-Value.Denot)). ShelfHas s.seen c.learned.new.reader.seen) {x = c.leave.new.turn.0} {y = c.seat-1.given.0} (search rules) seen
 
 pub returns-clause-refused : goal.returns-clause-refused
 returns-clause-refused g c = same_refusals c.tell-told.result c.args.reader.now c.learned.new.reader c.learned.ensures
