@@ -250,7 +250,7 @@ module _ {K V : Type 0} (eq : K → K → Bool) (equality : IsEquality eq) (m : 
       let R = e ∷ reverse (take i J) in
       let D = drop (suc i) J in
       let back : reverse J ≡ reverse D ++ R =
-          ap reverse (sym (split_at J i e h)) ∙ (reverse-append (take i J ++ e ∷ []) D ∙ ap (λ l. reverse D ++ l) (reverse-append (take i J) (e ∷ []))) in
+      ap reverse (sym (split_at J i e h)) ∙ (reverse-append (take i J ++ e ∷ []) D ∙ ap (λ l. reverse D ++ l) (reverse-append (take i J) (e ∷ []))) in
       let t = wanted.asking.opened in
       let whole : IsLawfulBack eq m (reverse D ++ R) = subst (IsLawfulBack eq m) back l in
       let s = stays D R v t k w whole (o t wanted.at) d in
@@ -262,11 +262,14 @@ module _ {K V : Type 0} (eq : K → K → Bool) (equality : IsEquality eq) (m : 
     where
       lawful_at : (e : Told K V) → slice_get I i ≡ Some e → IsAllowed eq m (reverse (take i I)) e
       lawful_at e h = (allowed_at eq m I i e l h).0
+
       behind : (e : Told K V) → slice_get I i ≡ Some e → IsOfTask e → AreTasks (drop (suc i) I)
       behind e h t = subst (λ L. AreTasks (drop (suc i) L)) (sym g.journal)
           (later_ones g.seat J g.own g.work i e g.by (are_tasks g.of_tasks.0 g.work g.of_tasks.1) (subst (λ n. n ≤ i) s from) (subst (λ L. slice_get L i ≡ Some e) g.journal h) t)
+
       here : (v : ℕ) (k : K) → cond (names_by eq v k v k) (Some ByValue) (decided eq (reverse (take i I)) v k) ≡ Some ByValue
       here v k = ap (λ b. cond b (Some ByValue) (decided eq (reverse (take i I)) v k)) (named v k)
+
       by_event : (e : Told K V) → slice_get I i ≡ Some e → IsAllowed eq m (reverse (take i I)) e → IsFinished eq m (reverse I) e
       by_event (Keep v k b) h a = come I i v k (Keep v k b) l h (behind (Keep v k b) h refl) a.3 a.0 (λ t o. o) (here v k)
       by_event (End v k) h a = come I i v k (End v k) l h (behind (End v k) h refl) a.4 a.0 (λ t o. o) (here v k)

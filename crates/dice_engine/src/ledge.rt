@@ -124,11 +124,7 @@ impl<U: Universe> Ledge<U> {
     }
 
     /// Puts up what an event has for the shelf, if anything, and answers whether it did.
-    fn put(
-        &mut self,
-        core: &Core<U>,
-        event: &Event<U::Key, U::Value>,
-    ) -> Result<bool, NoMemory>
+    fn put(&mut self, core: &Core<U>, event: &Event<U::Key, U::Value>) -> Result<bool, NoMemory>
         requires finished { IsFinished U.Key.eq U.meaning (reverse (events_of core.now))
             (told event.now) }
         requires may { (x : Plain U.Key U.Value)
@@ -193,11 +189,7 @@ fn row<U: Universe>(
     let Polled::Value(value) = core.poll(version, key) else {
         unreachable!()
     };
-    Ok(ShelfOp::Row(
-        version,
-        Arc::try_clone(key)?,
-        Arc::try_clone(value)?,
-    ))
+    Ok(ShelfOp::Row(version, Arc::try_clone(key)?, Arc::try_clone(value)?))
 }
 
 /// The shelf, if there is one, takes up what the core's journal has gained. The answer is the mark

@@ -89,6 +89,7 @@ fn standing<U: Universe>(core: &Core<U>, mark: u64) -> ((u64, u64, u64), u64)
 }
 
 /// The shelf takes up what the core's journal has gained, and the core tells of itself.
+#[inline]
 fn settled<U: Universe, R: Wait>(
     rt: &R,
     shelf: &mut Option<Box<Ledge<U>>>,

@@ -288,7 +288,9 @@ fn looks_of<R: Wait>(
     };
     let told_after = engine.tell(rt, seat, reader);
     let after = number_of(engine, reader, &transaction, &sum).ok().flatten();
-    let other = number_of(engine, reader, &transaction, &Place::Sum(2, 1)).ok().flatten();
+    let other = number_of(engine, reader, &transaction, &Place::Sum(2, 1))
+        .ok()
+        .flatten();
     let refused = reader.refused();
     let looks = Looks {
         told_before,

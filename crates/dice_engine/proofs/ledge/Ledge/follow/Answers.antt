@@ -19,13 +19,13 @@ pub loop-index-preserved : goal.loop-index-preserved
 loop-index-preserved g c =
     let e = c.in_ok-put.ensures in
     let more = put_more (events_of c.args.core.now) c.loop-index.index _ (told c.event.result.now) c.loop-index.self.list c.put.new.self.list (omega arith)
-        (subst (λ J. slice_get J c.loop-index.index ≡ Some (told c.event.result.now)) c.journal-journal.ensures c.event.ensures) c.loop-index.invariant.0 e.ok in
+    (subst (λ J. slice_get J c.loop-index.index ≡ Some (told c.event.result.now)) c.journal-journal.ensures c.event.ensures) c.loop-index.invariant.0 e.ok in
     let shown = elim c.if-branch.branch as (λ _. c.if-branch.gained ≡ false → c.put.new.self.published ≡ c.put.new.self.list) [
-      then-branch w ↦ λ h. (let q = w.gained-is in absurd (cc))
-    | else-branch w ↦ λ h.
-        let p : c.put.new.self.published ≡ c.loop-index.self.published = ap (λ (s : LedgeView g.row.U-Key.Denot g.row.U-Value.Denot). s.published) e.same in
-        let q = w.gained-is in
-        let i : c.loop-index.self.published ≡ c.loop-index.self.list = c.loop-index.invariant.1 (cc) in
-        p ∙ (i ∙ sym (e.none w.if-branch.false))
+      | then-branch w ↦ λ h. (let q = w.gained-is in absurd (cc))
+      | else-branch w ↦ λ h.
+          let p : c.put.new.self.published ≡ c.loop-index.self.published = ap (λ (s : LedgeView g.row.U-Key.Denot g.row.U-Value.Denot). s.published) e.same in
+          let q = w.gained-is in
+          let i : c.loop-index.self.published ≡ c.loop-index.self.list = c.loop-index.invariant.1 (cc) in
+          p ∙ (i ∙ sym (e.none w.if-branch.false))
     ] in
     (more, shown, ap (λ (s : LedgeView g.row.U-Key.Denot g.row.U-Value.Denot). s.taken) e.same ∙ c.loop-index.invariant.2)
