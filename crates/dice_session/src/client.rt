@@ -1,5 +1,5 @@
 //! What a session has its engine do, on the seat of the one writer.
-ghost use Rattle.std.specs.Prelude.{◌≡◌, ℕ, map, IfOk, IfErr, IfSome, OnOk, OnErr};
+ghost use Rattle.std.specs.Prelude.{◌≡◌, ℕ, map, if◌then◌else◌, Some, None, IfOk, IfErr, IfSome, OnOk, OnErr};
 ghost use Rattle.std.specs.Arc.{arc_value};
 ghost use Rattle.std.specs.List.{AllZip};
 ghost use Rattle.std.specs.Map.{keys_of};
@@ -188,6 +188,7 @@ fn keep_answered<U: Universe, R: Wait>(
     requires open { IsOpen seat.old transaction.opened transaction.version }
     ensures goes { Goes engine.now seat.old seat.new }
     ensures ready { IsReady engine.now seat.new result }
+    ensures kept { result ≡ (if answered then Some transaction else None) }
 {
     if answered {
         return Some(transaction);
@@ -233,6 +234,7 @@ pub(crate) fn compute<U: Universe, R: Wait>(
     ensures goes { Goes engine.now seat.old seat.new }
     ensures found { IfOk result
         (IsFound U.Key.eq U.meaning (log_of seat.old.seen) (arc_value key)) }
+    ensures lost { IfErr result (λ _. kept.new ≡ None) }
 {
     let transaction = reopen(rt, engine, seat, kept.take())?;
     let found = compute_in(rt, engine, seat, &transaction, key);
