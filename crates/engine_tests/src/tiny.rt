@@ -273,8 +273,8 @@ fn looks_of<R: Wait>(
 {
     let sum = Place::Sum(1, 2);
     commit(rt, alloc, engine, seat, &CELLS)?;
-    let transaction = engine.open(rt, seat)?;
     let told_before = engine.tell(rt, seat, reader);
+    let transaction = engine.open(rt, seat)?;
     let before = number_of(engine, reader, &transaction, &sum).ok().flatten();
     let key = Arc::new(alloc, sum)?;
     let promise = engine.ask(rt, seat, &transaction, key)?;
