@@ -12,6 +12,7 @@ mod universe;
 
 pub use batch::{Answers, Batch, Move};
 pub use fronts::{ProjectionKey, TypedKey};
+pub use hash_seed::Seed;
 pub use laws::laws_of;
 pub use line::Line;
 pub use path::Path;

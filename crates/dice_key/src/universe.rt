@@ -7,6 +7,7 @@ ghost use Rattle.dice_key.specs.declared.universe.Kind.TheVariants.{Injected, Pr
 
 use crate::batch::{Answers, Batch, Move};
 use crate::line::Line;
+use hash_seed::Seed;
 use std::alloc::{AllocError, AllocFailed};
 use std::hash::Hash;
 use std::sync::Arc;
@@ -120,6 +121,13 @@ pub trait Universe: Send + Sync + Drop {
     /// A bound on the number of batches that a run of the key asks. It takes no memory.
     fn most_batches(&self, key: &Self::Key) -> u32
         ensures { result ≡ meaning.most key.now };
+
+    /// What tables of keys hash by. It changes no answer. A universe whose keys are picked by others
+    /// makes one of all that they gave, so that they cannot pick keys that meet in one bucket. It
+    /// takes no memory.
+    fn seed(&self) -> Seed {
+        Seed::fixed()
+    }
 
     /// The key's text; if short its path or label alone.
     fn print(&self, key: &Self::Key, short: bool) -> Result<Line, NoMemory>

@@ -10,7 +10,7 @@ ghost use Rattle.injected.specs.Numbers.{tests, names, AreBegun};
 ghost use Rattle.version_ranges.specs.Rounds.{all_between};
 ghost use Rattle.injected.specs.Rounds.{stays};
 
-use dice_key::NoMemory;
+use dice_key::{NoMemory, Seed};
 use indexmap::IndexSet;
 use std::alloc::Global;
 use std::hash::Hash;
@@ -27,7 +27,7 @@ pub(crate) struct History<V: Eq + Hash> {
     /// Each set: its version and the number of its value.
     sets: Vec<(u64, usize)>,
     /// The values that were set, each at its number.
-    values: IndexSet<Arc<V>>,
+    values: IndexSet<Arc<V>, Seed>,
     room: usize,
 }
 
@@ -47,12 +47,12 @@ impl<V: Eq + Hash> Model for History<V> {
 
 impl<V: Eq + Hash + Drop> History<V> {
     /// No sets, with room for one.
-    pub(crate) fn with_room(alloc: Global) -> Result<History<V>, NoMemory>
+    pub(crate) fn with_room(alloc: Global, seed: Seed) -> Result<History<V>, NoMemory>
         ensures sets { IfOk result (λ h. h.sets ≡ []) }
         ensures room { IfOk result (λ h. 0 < h.room) }
     {
         let sets = Vec::with_capacity(alloc, 1)?;
-        let values = IndexSet::with_capacity(alloc, 1)?;
+        let values = IndexSet::with_capacity_and_hasher(alloc, 1, seed)?;
         let room = 1;
         Ok(History { sets, values, room })
     }
@@ -165,7 +165,7 @@ fn begun_by(sets: &[(u64, usize)], version: u64) -> usize
 /// The number of the value that stands after so many sets, if it has one.
 fn number_after<V: Eq + Hash>(
     sets: &[(u64, usize)],
-    values: &IndexSet<Arc<V>>,
+    values: &IndexSet<Arc<V>, Seed>,
     absent: &Arc<V>,
     begun: usize,
 ) -> Option<usize>

@@ -10,7 +10,7 @@ ghost use Rattle.injected.specs.Rounds.{stays};
 ghost use Rattle.injected.specs.Seen.{named, sets_in, room_in, sets_at, room_at, cell_at, newest_at, Writes};
 
 use crate::history::{History, always};
-use dice_key::{NoMemory, Universe, laws_of};
+use dice_key::{NoMemory, Seed, Universe, laws_of};
 use std::alloc::Global;
 use std::collections::HashMap;
 use std::hash::Hash;
@@ -25,7 +25,7 @@ use version_ranges::Ranges;
 pub struct Cells<U: Universe> {
     alloc: Global,
     universe: Arc<U>,
-    histories: HashMap<Arc<U::Key>, History<U::Value>>,
+    histories: HashMap<Arc<U::Key>, History<U::Value>, Seed>,
     pub(crate) last: u64,
 }
 
@@ -59,10 +59,11 @@ impl<U: Universe> Cells<U> {
         ensures sets { (k : U.Key) → sets_at U.Key.eq result k ≡ [] }
         ensures last { result.last ≡ 0 }
     {
+        let histories = HashMap::with_hasher(alloc, universe.seed());
         Cells {
             alloc,
             universe,
-            histories: HashMap::new(alloc),
+            histories,
             last: 0,
         }
     }
@@ -221,7 +222,7 @@ impl<U: Universe> Cells<U> {
 /// Makes room for one more set of a key.
 fn make_room<K: Eq + Hash + Drop, V: Eq + Hash + Drop>(
     alloc: Global,
-    histories: &mut HashMap<Arc<K>, History<V>>,
+    histories: &mut HashMap<Arc<K>, History<V>, Seed>,
     key: Arc<K>,
 ) -> Result<(), NoMemory>
     ensures ok { OnOk result ((room : ℕ) × (0 < room)
@@ -235,14 +236,14 @@ fn make_room<K: Eq + Hash + Drop, V: Eq + Hash + Drop>(
     if histories.contains_key(&key) {
         return reserve_more(histories, &key);
     }
-    let history = History::with_room(alloc)?;
+    let history = History::with_room(alloc, *histories.hasher())?;
     histories.insert(key, history)?;
     Ok(())
 }
 
 /// Makes room for one more set of a key that is there.
 fn reserve_more<K: Eq + Hash + Drop, V: Eq + Hash + Drop>(
-    histories: &mut HashMap<Arc<K>, History<V>>,
+    histories: &mut HashMap<Arc<K>, History<V>, Seed>,
     key: &Arc<K>,
 ) -> Result<(), NoMemory>
     requires { IsSome (lookup (K.eq (arc_value key.now)) (map named histories.old.entries)) }
@@ -262,7 +263,7 @@ fn reserve_more<K: Eq + Hash + Drop, V: Eq + Hash + Drop>(
 
 /// Adds a set of a key that has room for it.
 fn push_set<K: Eq + Hash + Drop, V: Eq + Hash + Drop>(
-    histories: &mut HashMap<Arc<K>, History<V>>,
+    histories: &mut HashMap<Arc<K>, History<V>, Seed>,
     version: u64,
     key: &Arc<K>,
     value: Arc<V>,

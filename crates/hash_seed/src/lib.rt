@@ -1,0 +1,6 @@
+//! Seeds of hash tables.
+#![tactic(auto)]
+
+mod seed;
+
+pub use seed::Seed;
