@@ -16,7 +16,7 @@ use crate::rule::Rule;
 use crate::run::Run;
 use crate::value::{ActionText, Value};
 use buck_label::{Label, Package, Text};
-use dice_key::{Answers, Batch, Kind, Line, Move, NoMemory, Universe};
+use dice_key::{Answers, Batch, Kind, Line, Move, NoMemory, Seed, Universe};
 use std::alloc::Global;
 use std::sync::Arc;
 use target_file::FileFault;
@@ -26,6 +26,7 @@ use target_file::FileFault;
 /// the SHA-256 of the text.
 pub struct Buck {
     alloc: Global,
+    seed: Seed,
     no_source: Arc<Value>,
     no_package: Arc<Value>,
     no_rule: Arc<Value>,
@@ -43,6 +44,7 @@ impl Drop for Buck {
     fn drop(self) {
         let Buck {
             alloc: _,
+            seed: _,
             no_source: _no_source,
             no_package: _no_package,
             no_rule: _no_rule,
@@ -55,6 +57,12 @@ impl Drop for Buck {
 impl Buck {
     /// The universe.
     pub fn new(alloc: Global) -> Result<Buck, NoMemory> {
+        Buck::seeded(alloc, Seed::fixed())
+    }
+
+    /// The universe, in whose tables keys are hashed by this seed. Its values are the same with
+    /// each.
+    pub fn seeded(alloc: Global, seed: Seed) -> Result<Buck, NoMemory> {
         let no_source = Arc::new(alloc, Value::Source(None))?;
         let no_package = Arc::new(alloc, Value::Package(Err(Fault::nothing(alloc)?)))?;
         let no_rule = Arc::new(alloc, Value::Rule(Err(Fault::nothing(alloc)?)))?;
@@ -62,6 +70,7 @@ impl Buck {
         let no_digest = Arc::new(alloc, Value::Digest(Err(Fault::nothing(alloc)?)))?;
         Ok(Buck {
             alloc,
+            seed,
             no_source,
             no_package,
             no_rule,
@@ -345,6 +354,10 @@ impl Universe for Buck {
             Key::Action(_) => 2,
             _ => 1,
         }
+    }
+
+    fn seed(&self) -> Seed {
+        self.seed
     }
 
     fn print(&self, key: &Key, short: bool) -> Result<Line, NoMemory> {

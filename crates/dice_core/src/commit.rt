@@ -72,7 +72,7 @@ pub(crate) fn check_changes<'a, U: Universe>(
         → MatchResult result (λ _. ⊥) (λ e. IfSome (fault_of e) (λ g. g ≡ f)) }
 {
     laws_of::<U>();
-    let mut seen = HashSet::new(alloc);
+    let mut seen = HashSet::with_hasher(alloc, universe.seed());
     for (key, _) in changes {
         match universe.kind(key) {
             Kind::Injected => {}

@@ -110,7 +110,7 @@ impl<U: Universe> Core<U> {
         laws_of::<U>();
         let graph = Graph::new(alloc, Arc::try_clone(&universe)?);
         let cells = Cells::new(alloc, Arc::try_clone(&universe)?);
-        let desk = Desk::new(alloc);
+        let desk = Desk::new(alloc, universe.seed());
         let versions = HashMap::new(alloc);
         let sessions = Sessions::new(alloc);
         Ok(Core {

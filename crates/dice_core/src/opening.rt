@@ -14,7 +14,7 @@ use crate::ask::ask_key;
 use crate::asking::leave_promise;
 use crate::close::close_asks;
 use crate::sessions::Sessions;
-use dice_key::{KeyRef, NoMemory, Universe, Version, laws_of};
+use dice_key::{KeyRef, NoMemory, Seed, Universe, Version, laws_of};
 use dice_tasks::{Desk, Tasks};
 use journal::Event;
 use std::alloc::Global;
@@ -25,6 +25,7 @@ use versioned_graph::Graph;
 /// Makes a table for the tasks of a version, if there is none.
 fn place_table<U: Universe>(
     alloc: Global,
+    seed: Seed,
     versions: &mut HashMap<u64, Tasks<U>>,
     version: Version,
 ) -> Result<(), NoMemory>
@@ -37,7 +38,7 @@ fn place_table<U: Universe>(
     if versions.contains_key(&version) {
         return Ok(());
     }
-    let _ = versions.insert(version, Table::new(alloc))?;
+    let _ = versions.insert(version, Table::new(alloc, seed))?;
     Ok(())
 }
 
@@ -70,7 +71,7 @@ pub(crate) fn open_at_newest<U: Universe>(
     laws_of::<U>();
     let index = desk.next_index()?;
     desk.reserve(sessions.owed(), 2, 0)?;
-    place_table::<U>(alloc, versions, newest)?;
+    place_table::<U>(alloc, desk.seed(), versions, newest)?;
     sessions.open(index, by, newest)?;
     desk.push(Event::Open(by, newest));
     Ok(index)

@@ -12,7 +12,7 @@ ghost use Rattle.dice_engine.specs.Rows.{Finished, item_of, items_of, event_item
 
 use crate::events::shared_pairs;
 use dice_core::{Core, Polled};
-use dice_key::{KeyRef, NoMemory, Universe, Version, laws_of};
+use dice_key::{KeyRef, NoMemory, Seed, Universe, Version, laws_of};
 use journal::Event;
 use shelf::{Reader, ShelfOp, Shelver, Told as News};
 use std::alloc::{AllocFailed, Global};
@@ -54,6 +54,7 @@ impl<U: Universe> Ledge<U> {
     pub(crate) fn boxed<R: Wait>(
         rt: &R,
         alloc: Global,
+        seed: Seed,
         readers: u32,
     ) -> Result<(Box<Ledge<U>>, Vec<Reader<U>>), NoMemory>
         requires { 0 < readers }
@@ -61,7 +62,7 @@ impl<U: Universe> Ledge<U> {
         ensures readers { IfOk result
             (λ t. (length t.1.items ≡ readers) × All IsNewReader t.1.items) }
     {
-        let (pen, ends) = Shelver::<U>::new(alloc, readers)?;
+        let (pen, ends) = Shelver::<U>::new(alloc, seed, readers)?;
         let ledge = Ledge {
             pen,
             taken: 0,

@@ -40,7 +40,7 @@ impl<U: Universe> Engine<U> {
     {
         let core = Core::new(alloc, Arc::try_clone(&universe)?)?;
         let state = State::new(alloc, core)?;
-        let (shelf, ends) = Ledge::boxed(rt, alloc, readers)?;
+        let (shelf, ends) = Ledge::boxed(rt, alloc, universe.seed(), readers)?;
         match Turnstile::new(alloc, state.with_shelf(shelf), writers) {
             Ok((stile, seat)) => Ok((Engine { stile, universe }, seat, ends)),
             Err((_, state)) => {

@@ -85,7 +85,7 @@ pub(crate) fn carry_out<R: Threads + Wait + Sync, G: Gate>(
     ensures answers { IfOk result (λ a. (input : List ℕ) → IsScript input script.now
         → Answers trace input a.out.items a.kept) }
 {
-    let universe = Arc::new(alloc, Buck::new(alloc)?)?;
+    let universe = Arc::new(alloc, Buck::seeded(alloc, script.seed())?)?;
     let (engine, seat) = Engine::new(rt, alloc, universe, 1)?;
     let (seat, output) = drive(rt, alloc, &engine, seat, script, trace, workers, gate);
     let out = output?;

@@ -37,14 +37,15 @@ pub(crate) fn drive_alone<R: Wait, G: Gate>(
     ensures journal { OnOk result.1 (IsJournalOf script.now result.0.seen) }
 {
     let requests = requests_in(script);
+    let seed = script.seed();
     let mut driver = Driver {
         alloc,
         seat,
         gathered: Updater::new(alloc),
         newest: Vec::new(alloc),
-        transactions: HashMap::new(alloc),
-        promises: with_room(alloc, requests),
-        answers: with_room(alloc, requests),
+        transactions: HashMap::with_hasher(alloc, seed),
+        promises: with_room(alloc, seed, requests),
+        answers: with_room(alloc, seed, requests),
     };
     let output = driver.script(rt, engine, gate, script, trace);
     (driver.into_seat(), output)

@@ -19,7 +19,7 @@ use crate::request::came_lines;
 use action_digest::{Buck, Key, Value};
 use buck_label::{Path, Text};
 use dice_engine::{Engine, Gate, Promise, Seat, Transaction, Updater};
-use dice_key::NoMemory;
+use dice_key::{NoMemory, Seed};
 use script::{Line, Name, Request};
 use std::alloc::Global;
 use std::collections::HashMap;
@@ -35,9 +35,9 @@ pub(crate) struct Driver {
     pub(crate) seat: Seat<Buck>,
     pub(crate) gathered: Updater<Buck>,
     pub(crate) newest: Vec<u64>,
-    pub(crate) transactions: HashMap<Text, Transaction>,
-    pub(crate) promises: HashMap<Text, Promise<Buck>>,
-    pub(crate) answers: HashMap<Text, Vec<u8>>,
+    pub(crate) transactions: HashMap<Text, Transaction, Seed>,
+    pub(crate) promises: HashMap<Text, Promise<Buck>, Seed>,
+    pub(crate) answers: HashMap<Text, Vec<u8>, Seed>,
 }
 
 impl Driver {

@@ -4,25 +4,29 @@ ghost use Rattle.std.specs.HashMap.{get};
 ghost use Rattle.std.specs.Cmp.Lexicographic.{pointwise};
 
 use buck_label::Text;
-use dice_key::NoMemory;
+use dice_key::{NoMemory, Seed};
 use script::Name;
 use std::alloc::Global;
 use std::collections::HashMap;
 
-/// Nothing has a name yet. There is room for so many names, if there is memory for it; otherwise it
+/// Nothing has a name yet; names are hashed by this seed. There is room for so many names, if there is memory for it; otherwise it
 /// is made as they come.
-pub(crate) fn with_room<V: Drop>(alloc: Global, count: usize) -> HashMap<Text, V>
+pub(crate) fn with_room<V: Drop>(
+    alloc: Global,
+    seed: Seed,
+    count: usize,
+) -> HashMap<Text, V, Seed>
     ensures { (q : List ℕ) → get (pointwise nat_eq) result q ≡ None }
 {
-    match HashMap::with_capacity(alloc, count) {
+    match HashMap::with_capacity_and_hasher(alloc, count, seed) {
         Ok(named) => named,
-        Err(_) => HashMap::new(alloc),
+        Err(_) => HashMap::with_hasher(alloc, seed),
     }
 }
 
 /// Notes what has a name, in place of what had it.
 pub(crate) fn note<V: Drop>(
-    named: &mut HashMap<Text, V>,
+    named: &mut HashMap<Text, V, Seed>,
     name: &Name,
     value: V,
 ) -> Result<(), NoMemory>
@@ -37,7 +41,7 @@ pub(crate) fn note<V: Drop>(
 }
 
 /// Takes out what has a name.
-pub(crate) fn take<V: Drop>(named: &mut HashMap<Text, V>, name: &Name) -> Option<V>
+pub(crate) fn take<V: Drop>(named: &mut HashMap<Text, V, Seed>, name: &Name) -> Option<V>
     ensures value { result ≡ get (pointwise nat_eq) named.old name.now }
     ensures rest { (q : List ℕ)
         → get (pointwise nat_eq) named.new q

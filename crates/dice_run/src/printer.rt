@@ -6,7 +6,7 @@ ghost use Rattle.dice_run.specs.Printing.{IsDone, IsNext, Prints, Told, Opened, 
 use crate::append;
 use crate::driver::Driver;
 use buck_label::Text;
-use dice_key::NoMemory;
+use dice_key::{NoMemory, Seed};
 use script::{Line, Name, Request, Script};
 use std::alloc::Global;
 use std::collections::HashMap;
@@ -18,7 +18,7 @@ pub(crate) struct Printer {
     out: Vec<u8>,
     told: usize,
     newest: u64,
-    versions: HashMap<Text, u64>,
+    versions: HashMap<Text, u64, Seed>,
 }
 
 /// The output of a script that was carried out: what each line prints, in the order of the lines.
@@ -30,7 +30,7 @@ pub(crate) fn print(alloc: Global, script: &Script, driver: &Driver) -> Result<V
         out: Vec::new(alloc),
         told: 0,
         newest: 0,
-        versions: HashMap::new(alloc),
+        versions: HashMap::with_hasher(alloc, script.seed()),
     };
     for line in script.lines() {
         printer.line(script, driver, line)?;

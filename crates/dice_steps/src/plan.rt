@@ -20,7 +20,7 @@ ghost use Rattle.lists.specs.Lists.{Has};
 use crate::noted::note;
 use cycle_guard::{count_above, would_close};
 use dice_jobs::Assignment;
-use dice_key::{Answers, Batch, KeyRef, Kind, NoMemory, Path, Universe, ValueRef, laws_of};
+use dice_key::{Answers, Batch, KeyRef, Kind, NoMemory, Path, Seed, Universe, ValueRef, laws_of};
 use dice_tasks::{Desk, Making, Next, Owners, Tasks, looked, prepare};
 use injected::Cells;
 use std::alloc::Global;
@@ -254,7 +254,7 @@ fn look_over_all<U: Universe>(
         (arc_value own.now) (map arc_value keys.now)) }
 {
     laws_of::<U>();
-    let mut seen = HashSet::new(alloc);
+    let mut seen = HashSet::with_hasher(alloc, universe.seed());
     let mut parts = Vec::new(alloc);
     for key in keys {
         if !is_new::<U>(universe, &mut seen, key)? {
@@ -273,7 +273,7 @@ fn look_over_all<U: Universe>(
 /// Whether a key is not injected and was not seen before. It is noted then.
 fn is_new<U: Universe>(
     universe: &U,
-    seen: &mut HashSet<KeyRef<U>>,
+    seen: &mut HashSet<KeyRef<U>, Seed>,
     key: &KeyRef<U>,
 ) -> Result<bool, NoMemory>
     ensures new { IfOk result (λ b. MatchBool b ((U.meaning.kind (arc_value key.now) ≢ Injected)

@@ -9,7 +9,7 @@ ghost use Rattle.lists.specs.Lists.{Has};
 
 use crate::line::Line;
 use crate::shelf::{ReadyTask, Shelf, index_of, put_back, put_in, take_away, take_out};
-use dice_key::{KeyRef, NoMemory, Universe};
+use dice_key::{KeyRef, NoMemory, Seed, Universe};
 use indexmap::IndexSet;
 use journal::{Event, Journal};
 use std::alloc::Global;
@@ -72,8 +72,8 @@ impl<U: Universe> Model for Desk<U> {
 }
 
 impl<U: Universe> Desk<U> {
-    /// No events, no tasks and no room. It takes no memory.
-    pub fn new(alloc: Global) -> Desk<U>
+    /// No events, no tasks and no room. Ready tasks are hashed by this seed. It takes no memory.
+    pub fn new(alloc: Global, seed: Seed) -> Desk<U>
         ensures { result
             ≡ record {
               events = [];
@@ -88,7 +88,7 @@ impl<U: Universe> Desk<U> {
     {
         Desk {
             journal: Journal::new(alloc),
-            at_hand: IndexSet::new(alloc),
+            at_hand: IndexSet::with_hasher(alloc, seed),
             ready: 0,
             line: Line::new(),
             ready_room: 0,
@@ -96,6 +96,11 @@ impl<U: Universe> Desk<U> {
             live_room: 0,
             ended: Vec::new(alloc),
         }
+    }
+
+    /// What its tables hash keys by.
+    pub fn seed(&self) -> Seed {
+        *self.at_hand.hasher()
     }
 
     /// The journal.

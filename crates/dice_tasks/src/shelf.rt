@@ -10,7 +10,7 @@ ghost use Rattle.dice_tasks.specs.Shelves.{place_of, ready_of, out_of};
 ghost use Rattle.dice_tasks.specs.declared.shelf.ReadyTask.{ReadyTask as Ready};
 ghost use Rattle.lists.specs.Lists.{AreDistinct, Has};
 
-use dice_key::{KeyRef, Universe, laws_of};
+use dice_key::{KeyRef, Seed, Universe, laws_of};
 use indexmap::{Equivalent, IndexSet};
 use std::hash::Hash;
 use std::sync::Arc;
@@ -43,7 +43,7 @@ impl<K: Eq + Hash> Equivalent<ReadyTask<K>> for (u64, &Arc<K>) {
 
 /// The tasks that are ready or out. The first of them, as many as a number beside it says, are
 /// ready.
-pub(crate) type Shelf<U> = IndexSet<ReadyTask<<U as Universe>::Key>>;
+pub(crate) type Shelf<U> = IndexSet<ReadyTask<<U as Universe>::Key>, Seed>;
 
 /// The index of a task.
 pub(crate) fn index_of<U: Universe>(

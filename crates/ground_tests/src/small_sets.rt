@@ -1,5 +1,6 @@
 //! Small sets, below and above the number of members that stand in a list.
 use crate::common::crosses;
+use hash_seed::Seed;
 use small_set::SmallSet;
 use std::alloc::{AllocError, Global};
 use std::test::Fail;
@@ -54,7 +55,7 @@ fn has(set: &SmallSet<u8>, want: &[u8]) -> bool {
 fn first_other_set(alloc: Global, rows: &[SetRow]) -> Result<Option<usize>, AllocError> {
     for i in 0..rows.len() {
         let (put, want) = rows[i];
-        let mut set = SmallSet::new(alloc);
+        let mut set = SmallSet::new(alloc, Seed::fixed());
         let filled = puts_in(&mut set, put)? && has(&set, want);
         set.clear();
         let emptied = has(&set, &[]);
@@ -68,7 +69,7 @@ fn first_other_set(alloc: Global, rows: &[SetRow]) -> Result<Option<usize>, Allo
 #[test]
 fn a_set_has_each_value_once(rt: HostRuntime) -> Result<(), Fail> {
     let alloc = rt.alloc();
-    crosses(&SmallSet::<u8>::new(alloc));
+    crosses(&SmallSet::<u8>::new(alloc, Seed::fixed()));
     assert!(rt; first_other_set(alloc, &SETS)? == None);
     Ok(())
 }

@@ -5,7 +5,7 @@ ghost use Rattle.dice_model.specs.Log.{pairs_of};
 ghost use Rattle.tiny_universe.specs.declared.place.Place.TheVariants.{Cell};
 ghost use Rattle.tiny_universe.specs.declared.place.Value.TheVariants.{Number};
 
-use dice_key::NoMemory;
+use dice_key::{NoMemory, Seed};
 use shelf::{LookRefusal, Reader, ShelfOp, Shelver};
 use std::alloc::Global;
 use std::sync::{Arc, Wait};
@@ -79,7 +79,7 @@ fn are_as_wanted(found: &[Looked; 4]) -> bool {
 
 #[test]
 fn a_reader_sees_what_is_published(rt: HostRuntime) -> Result<(), Fail> {
-    let (mut shelver, mut readers) = Shelver::<Tiny>::new(rt.alloc(), 2)?;
+    let (mut shelver, mut readers) = Shelver::<Tiny>::new(rt.alloc(), Seed::fixed(), 2)?;
     let found = match readers.first_mut() {
         Some(reader) => looks(&rt, rt.alloc(), &mut shelver, reader),
         None => Err(NoMemory),

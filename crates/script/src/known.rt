@@ -17,6 +17,7 @@ use crate::operand::{is_enough, is_skipped, past_byte, read_label, read_name, re
 use crate::requests::Requests;
 use crate::transactions::Transactions;
 use buck_label::{Path, Text};
+use hash_seed::Seed;
 use std::alloc::Global;
 
 /// The paths put or dropped since the last commit, the transactions opened, and the requests made.
@@ -31,13 +32,13 @@ pub(crate) struct Known {
 }
 
 impl Known {
-    pub(crate) fn new(alloc: Global) -> Known
+    pub(crate) fn new(alloc: Global, seed: Seed) -> Known
         ensures { past_of result ≡ nothing }
     {
         Known {
-            touched: Names::new(alloc),
-            transactions: Transactions::new(alloc),
-            requests: Requests::new(alloc),
+            touched: Names::new(alloc, seed),
+            transactions: Transactions::new(alloc, seed),
+            requests: Requests::new(alloc, seed),
         }
     }
 
@@ -175,7 +176,7 @@ impl Known {
         ensures taken { IsTaken (past_of self.old) commits behind.now result (past_of self.new) }
         ensures fits { IfOk result (λ r. r.1 ≤ length behind.now) }
     {
-        self.touched = Names::new(alloc);
+        self.touched = Names::new(alloc, self.touched.seed());
         Ok((Line::Commit, 0))
     }
 

@@ -4,23 +4,29 @@ ghost use Rattle.script.specs.Past.{no_texts, adding};
 ghost use Rattle.script.specs.Names.{has};
 
 use buck_label::Text;
+use hash_seed::Seed;
 use std::alloc::{AllocError, Global};
 use std::collections::HashSet;
 
 /// A set of texts, which contracts see as the test `has`. A look-up takes constant time: whoever
-/// writes a script picks its names, but not the hashes that the texts keep.
+/// writes a script picks its names, but not the seed by which they are hashed.
 #[derive(Drop)]
 pub(crate) struct Names {
-    texts: HashSet<Text>,
+    texts: HashSet<Text, Seed>,
 }
 
 impl Names {
-    pub(crate) fn new(alloc: Global) -> Names
+    pub(crate) fn new(alloc: Global, seed: Seed) -> Names
         ensures { has result ≡ no_texts }
     {
         Names {
-            texts: HashSet::new(alloc),
+            texts: HashSet::with_hasher(alloc, seed),
         }
+    }
+
+    /// What its texts are hashed by.
+    pub(crate) fn seed(&self) -> Seed {
+        *self.texts.hasher()
     }
 
     /// Adds a text, and tells whether it is a new one.

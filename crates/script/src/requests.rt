@@ -5,6 +5,7 @@ ghost use Rattle.script.specs.Known.{requests_at};
 
 use crate::fate::Fate;
 use buck_label::Text;
+use hash_seed::Seed;
 use std::alloc::{AllocError, Global};
 use std::collections::HashMap;
 
@@ -20,15 +21,15 @@ pub(crate) struct Asked {
 /// The requests by name, with what was noted of each.
 #[derive(Drop)]
 pub(crate) struct Requests {
-    asked: HashMap<Text, Asked>,
+    asked: HashMap<Text, Asked, Seed>,
 }
 
 impl Requests {
-    pub(crate) fn new(alloc: Global) -> Requests
+    pub(crate) fn new(alloc: Global, seed: Seed) -> Requests
         ensures { requests_at result ≡ no_entries }
     {
         Requests {
-            asked: HashMap::new(alloc),
+            asked: HashMap::with_hasher(alloc, seed),
         }
     }
 

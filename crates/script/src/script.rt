@@ -13,11 +13,13 @@ use crate::line::Line;
 use crate::name::Name;
 use crate::number::MOST_BYTES;
 use buck_label::printed_is_read;
+use hash_seed::Seed;
 use std::alloc::{AllocError, Global};
 use std::marker::Model;
 
 /// A script that was read: its lines that do something, in order.
 pub struct Script {
+    seed: Seed,
     lines: Vec<Line>,
     known: Known,
 }
@@ -26,6 +28,7 @@ pub struct Script {
 impl Drop for Script {
     fn drop(self) {
         let Script {
+            seed: _,
             lines: _lines,
             known: _known,
         } = self;
@@ -49,6 +52,12 @@ impl Model for Script {
 }
 
 impl Script {
+    /// The seed of its bytes, by which the names in it are hashed: no name can be picked to meet
+    /// others in a table without it.
+    pub fn seed(&self) -> Seed {
+        self.seed
+    }
+
     /// Its lines.
     pub fn lines(&self) -> &[Line]
         ensures lines { result.now ≡ self.now }
@@ -107,10 +116,10 @@ fn keep(lines: &mut Vec<Line>, made: Option<Line>) -> Result<(), AllocError>
 }
 
 /// The lines, and what is known at their end.
-fn lines_of(alloc: Global, bytes: &[u8]) -> Result<(Vec<Line>, Known), Broken>
+fn lines_of(alloc: Global, seed: Seed, bytes: &[u8]) -> Result<(Vec<Line>, Known), Broken>
     ensures { AreLines bytes.now result }
 {
-    let mut known = Known::new(alloc);
+    let mut known = Known::new(alloc, seed);
     let mut lines = Vec::new(alloc);
     let mut at = 0;
     while at < bytes.len() {
@@ -139,8 +148,9 @@ pub fn read(alloc: Global, bytes: &[u8]) -> Result<Script, ScriptRefusal>
         return Err(ScriptRefusal::TooLong);
     }
     readings_are_one();
-    match lines_of(alloc, bytes) {
-        Ok((lines, known)) => Ok(Script { lines, known }),
+    let seed = Seed::of(bytes);
+    match lines_of(alloc, seed, bytes) {
+        Ok((lines, known)) => Ok(Script { seed, lines, known }),
         Err(Broken::At(at, word)) => Err(ScriptRefusal::Fault {
             line: 1 + line_feeds(&bytes[..at]),
             word,

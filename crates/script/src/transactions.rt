@@ -4,21 +4,22 @@ ghost use Rattle.script.specs.Past.{no_entries, with_entry};
 ghost use Rattle.script.specs.Known.{transactions_at};
 
 use buck_label::Text;
+use hash_seed::Seed;
 use std::alloc::{AllocError, Global};
 use std::collections::HashMap;
 
 /// The transactions by name, with whether each is open still.
 #[derive(Drop)]
 pub(crate) struct Transactions {
-    standing: HashMap<Text, bool>,
+    standing: HashMap<Text, bool, Seed>,
 }
 
 impl Transactions {
-    pub(crate) fn new(alloc: Global) -> Transactions
+    pub(crate) fn new(alloc: Global, seed: Seed) -> Transactions
         ensures { transactions_at result ≡ no_entries }
     {
         Transactions {
-            standing: HashMap::new(alloc),
+            standing: HashMap::with_hasher(alloc, seed),
         }
     }
 

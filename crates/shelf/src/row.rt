@@ -8,6 +8,7 @@ ghost use Rattle.shelf.specs.Ops.{plain};
 ghost use Rattle.shelf.specs.Rows.{Notes, PutsRow, row_of};
 
 use crate::op::ShelfOp;
+use dice_key::Seed;
 use indexmap::{Equivalent, IndexMap};
 use std::alloc::AllocError;
 use std::hash::Hash;
@@ -38,7 +39,7 @@ impl<K: Eq + Hash> Equivalent<RowKey<K>> for (u64, &K) {
     }
 }
 
-pub(crate) type Rows<K, V> = IndexMap<RowKey<K>, Arc<V>>;
+pub(crate) type Rows<K, V> = IndexMap<RowKey<K>, Arc<V>, Seed>;
 
 // Puts a row in, unless there is one of its version and key.
 fn put_row<K: Eq + Hash + Drop, V: Drop>(

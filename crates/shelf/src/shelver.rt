@@ -12,7 +12,7 @@ use crate::reader::Reader;
 use crate::rule::{OnShelf, See, Seen};
 use crate::store::Store;
 use crate::told::{Told, told_place};
-use dice_key::{NoMemory, Universe};
+use dice_key::{NoMemory, Seed, Universe};
 use left_right::writer;
 use std::alloc::{AllocError, Global};
 use std::collections::LinkedList;
@@ -117,17 +117,22 @@ fn fill<U: Universe>(
 }
 
 impl<U: Universe> Shelver<U> {
-    /// An empty shelf, and so many readers of it, with as many places again for what readers are
-    /// told. A reader for which there was no place is refused each look.
+    /// An empty shelf, whose rows are hashed by this seed, and so many readers of it, with as many
+    /// places again for what readers are told. A reader for which there was no place is refused each
+    /// look.
     #[tactic(auto, using(crate::proofs::Keeps::begins))]
-    pub fn new(alloc: Global, readers: u32) -> Result<(Shelver<U>, Vec<Reader<U>>), NoMemory>
+    pub fn new(
+        alloc: Global,
+        seed: Seed,
+        readers: u32,
+    ) -> Result<(Shelver<U>, Vec<Reader<U>>), NoMemory>
         requires { 0 < readers }
         ensures shelver { IfOk result (λ t. t.0 ≡ no_pen []) }
         ensures readers { IfOk result
             (λ t. (length t.1.items ≡ readers) × All IsNewReader t.1.items) }
     {
         let ends = Vec::with_capacity(alloc, readers as usize)?;
-        let (first, second) = (Store::new(alloc), Store::new(alloc));
+        let (first, second) = (Store::new(alloc, seed), Store::new(alloc, seed));
         let places = (2 * readers as usize).min(MOST_PLACES);
         let writer: RawWriter<U> = writer::Writer::new(alloc, first, second, places)?;
         let ends = fill::<U>(&writer, ends, readers);

@@ -6,6 +6,7 @@ ghost use Rattle.shelf.specs.Ops.{row_at};
 
 use crate::op::{Plain, ShelfOp};
 use crate::row::{Rows, note, row_in};
+use dice_key::Seed;
 use indexmap::IndexMap;
 use left_right::Absorb;
 use std::alloc::{AllocError, Global};
@@ -58,13 +59,13 @@ impl<K: Eq + Hash + Drop, V: Drop> Absorb<ShelfOp<K, V>> for Store<K, V> {
 }
 
 impl<K: Eq + Hash + Drop, V: Drop> Store<K, V> {
-    /// No operations.
-    pub(crate) fn new(alloc: Global) -> Store<K, V>
+    /// No operations. Rows are hashed by this seed.
+    pub(crate) fn new(alloc: Global, seed: Seed) -> Store<K, V>
         ensures { result ≡ [] }
     {
         Store {
             log: Vec::new(alloc),
-            rows: IndexMap::new(alloc),
+            rows: IndexMap::with_hasher(alloc, seed),
         }
     }
 

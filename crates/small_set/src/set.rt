@@ -3,6 +3,7 @@ ghost use Rattle.std.specs.Prelude.{◌≡◌, ◌+◌, ◌≤◌, ◌==◌, tru
 ghost use Rattle.std.specs.List.{list_any, IsDistinct};
 ghost use Rattle.indexmap.specs.IndexSet.{spare, insert_all, insert_key};
 
+use hash_seed::Seed;
 use indexmap::IndexSet;
 use std::alloc::{AllocError, Global};
 use std::hash::Hash;
@@ -16,6 +17,7 @@ const FEW: usize = 8;
 /// in which they came.
 pub struct SmallSet<T: Eq + Hash> {
     alloc: Global,
+    seed: Seed,
     members: Members<T>,
 }
 
@@ -23,7 +25,7 @@ pub struct SmallSet<T: Eq + Hash> {
 #[derive(Drop)]
 enum Members<T: Eq + Hash> {
     Few(Vec<T>),
-    Many(Box<IndexSet<T>>),
+    Many(Box<IndexSet<T, Seed>>),
 }
 
 // (One function for all places that drop one: a derived drop is written out at each.)
@@ -31,6 +33,7 @@ impl<T: Eq + Hash + Drop> Drop for SmallSet<T> {
     fn drop(self) {
         let SmallSet {
             alloc: _,
+            seed: _,
             members: _members,
         } = self;
     }
@@ -49,13 +52,14 @@ impl<T: Eq + Hash> Model for SmallSet<T> {
 }
 
 impl<T: Eq + Hash> SmallSet<T> {
-    /// None yet. It takes no memory.
+    /// None yet. A hash set of many members hashes them by this seed. It takes no memory.
     #[tactic(auto, using(crate::proofs::Distinct::distinct_none))]
-    pub fn new(alloc: Global) -> SmallSet<T>
+    pub fn new(alloc: Global, seed: Seed) -> SmallSet<T>
         ensures { result ≡ [] }
     {
         SmallSet {
             alloc,
+            seed,
             members: Members::Few(Vec::new(alloc)),
         }
     }
@@ -119,7 +123,7 @@ impl<T: Eq + Hash + Drop> SmallSet<T> {
                     list.push(value)?;
                     return Ok(true);
                 }
-                self.members = Members::Many(many(self.alloc, list, value)?);
+                self.members = Members::Many(many(self.alloc, self.seed, list, value)?);
                 Ok(true)
             }
             Members::Many(set) => Ok(set.insert(value)?),
@@ -154,15 +158,17 @@ fn is_among<T: Eq>(list: &[T], value: &T) -> bool
 /// as before.
 fn many<T: Eq + Hash + Drop>(
     alloc: Global,
+    seed: Seed,
     list: &mut Vec<T>,
     value: T,
-) -> Result<Box<IndexSet<T>>, AllocError>
+) -> Result<Box<IndexSet<T, Seed>>, AllocError>
     requires { length list.old.items ≤ 8 }
     ensures ok { IfOk result (λ set. set.value.keys
         ≡ insert_key T.eq (insert_all T.eq [] list.old.items) value) }
     ensures err { OnErr result (list.new ≡ list.old) }
 {
-    let mut set = Box::new(alloc, IndexSet::with_capacity(alloc, 2 * FEW)?)?;
+    let set = IndexSet::with_capacity_and_hasher(alloc, 2 * FEW, seed)?;
+    let mut set = Box::new(alloc, set)?;
     fill(&mut set, replace(list, Vec::new(alloc)));
     if set.insert(value).is_err() {
         unreachable!();
@@ -171,7 +177,7 @@ fn many<T: Eq + Hash + Drop>(
 }
 
 /// Inserts all of a list into a hash set that has room for them.
-fn fill<T: Eq + Hash + Drop>(set: &mut IndexSet<T>, list: Vec<T>)
+fn fill<T: Eq + Hash + Drop>(set: &mut IndexSet<T, Seed>, list: Vec<T>)
     requires { length list.items ≤ spare set.old }
     ensures keys { set.new.keys ≡ insert_all T.eq set.old.keys list.items }
     ensures room { spare set.old ≤ spare set.new + length list.items }

@@ -9,6 +9,7 @@ ghost use Rattle.task_share.specs.Listed.{shares_of, names_of, AreNumbered, IsLi
 
 use crate::place::{Place, is_unasked, vacant};
 use crate::places::leave_task;
+use dice_key::Seed;
 use indexmap::IndexMap;
 use small_map::SmallMap;
 use std::alloc::Global;
@@ -18,7 +19,7 @@ use std::sync::Arc;
 
 /// Whether the key has a task that has not ended, and nobody asks for it.
 fn is_idle_at<K: Eq + Hash + Drop, T: Drop>(
-    places: &IndexMap<Arc<K>, Place<K, T>>,
+    places: &IndexMap<Arc<K>, Place<K, T>, Seed>,
     key: &Arc<K>,
 ) -> bool
     ensures { result
@@ -31,7 +32,7 @@ fn is_idle_at<K: Eq + Hash + Drop, T: Drop>(
 }
 
 /// Gives a key that is no candidate any more back to its place.
-fn give_back<K: Eq + Hash + Drop, T: Drop>(places: &mut IndexMap<Arc<K>, Place<K, T>>, key: Arc<K>)
+fn give_back<K: Eq + Hash + Drop, T: Drop>(places: &mut IndexMap<Arc<K>, Place<K, T>, Seed>, key: Arc<K>)
     requires equality { IsEquality K.eq }
     requires linked { IsLinked K.eq places.old.entries }
     requires busy { is_for is_idle (lookup (K.eq (arc_value key)) (shares_of places.old.entries))
@@ -51,7 +52,7 @@ fn give_back<K: Eq + Hash + Drop, T: Drop>(places: &mut IndexMap<Arc<K>, Place<K
 /// Takes the task of a key out with what it waits for, if it has not ended and nobody asks for it;
 /// otherwise the key goes back to its place. The place stays, so that all numbers do.
 fn take_idle<K: Eq + Hash + Drop, T: Drop>(
-    places: &mut IndexMap<Arc<K>, Place<K, T>>,
+    places: &mut IndexMap<Arc<K>, Place<K, T>, Seed>,
     alloc: Global,
     key: Arc<K>,
 ) -> Option<(Arc<K>, T, SmallMap<K>)>
@@ -87,7 +88,7 @@ fn take_idle<K: Eq + Hash + Drop, T: Drop>(
 
 /// Takes one task out that has not ended and that nobody asks for, with what it waits for.
 pub fn pop_idle<K: Eq + Hash + Drop, T: Drop>(
-    places: &mut IndexMap<Arc<K>, Place<K, T>>,
+    places: &mut IndexMap<Arc<K>, Place<K, T>, Seed>,
     candidates: &mut Vec<Arc<K>>,
     alloc: Global,
 ) -> Option<(Arc<K>, T, SmallMap<K>)>
@@ -115,7 +116,7 @@ pub fn pop_idle<K: Eq + Hash + Drop, T: Drop>(
 
 /// Withdraws what a task, which is given by its number, asks for, which is what it waits for.
 pub fn withdraw<K: Eq + Hash + Drop, T: Drop>(
-    places: &mut IndexMap<Arc<K>, Place<K, T>>,
+    places: &mut IndexMap<Arc<K>, Place<K, T>, Seed>,
     candidates: &mut Vec<Arc<K>>,
     asker: usize,
     waits: SmallMap<K>,

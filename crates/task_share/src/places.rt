@@ -9,7 +9,7 @@ ghost use Rattle.task_share.specs.Seen.{asks, waits_at, ask_count, has_place, pr
 ghost use Rattle.task_share.specs.Listed.{shares_of, names_of, AreNumbered, IsLinked, IsListed, KeepsListed, IsChanged, IsChangedAt, Turns, Joined, Left, Stays, UsesRoom};
 
 use crate::place::{Place, settle};
-use dice_key::NoMemory;
+use dice_key::{NoMemory, Seed};
 use indexmap::IndexMap;
 use small_map::SmallMap;
 use std::alloc::Global;
@@ -19,7 +19,7 @@ use std::sync::Arc;
 
 /// Takes a promise away from a key.
 pub fn leave_promise<K: Eq + Hash + Drop, T: Drop>(
-    places: &mut IndexMap<Arc<K>, Place<K, T>>,
+    places: &mut IndexMap<Arc<K>, Place<K, T>, Seed>,
     candidates: &mut Vec<Arc<K>>,
     key: &Arc<K>,
     number: u64,
@@ -44,7 +44,7 @@ pub fn leave_promise<K: Eq + Hash + Drop, T: Drop>(
 
 /// Takes an asking task away from a key, both by number.
 pub fn leave_task<K: Eq + Hash + Drop, T: Drop>(
-    places: &mut IndexMap<Arc<K>, Place<K, T>>,
+    places: &mut IndexMap<Arc<K>, Place<K, T>, Seed>,
     candidates: &mut Vec<Arc<K>>,
     at: usize,
     asker: usize,
@@ -71,7 +71,7 @@ pub fn leave_task<K: Eq + Hash + Drop, T: Drop>(
 /// Takes one asking task away from a key, which is given by number, and gives its number and its
 /// key.
 pub fn pop_asker<K: Eq + Hash + Drop, T: Drop>(
-    places: &mut IndexMap<Arc<K>, Place<K, T>>,
+    places: &mut IndexMap<Arc<K>, Place<K, T>, Seed>,
     candidates: &mut Vec<Arc<K>>,
     at: usize,
 ) -> Option<(usize, Arc<K>)>
@@ -106,7 +106,7 @@ pub fn pop_asker<K: Eq + Hash + Drop, T: Drop>(
 
 /// Writes a task to the place of a key.
 pub fn put_task<K: Eq + Hash + Drop, T: Drop>(
-    places: &mut IndexMap<Arc<K>, Place<K, T>>,
+    places: &mut IndexMap<Arc<K>, Place<K, T>, Seed>,
     candidates: &mut Vec<Arc<K>>,
     key: &Arc<K>,
     task: T,
@@ -133,7 +133,7 @@ pub fn put_task<K: Eq + Hash + Drop, T: Drop>(
 
 /// Notes that the task of a key has ended, and takes its waits out. The key is given by number.
 pub fn end_task<K: Eq + Hash + Drop, T: Drop>(
-    places: &mut IndexMap<Arc<K>, Place<K, T>>,
+    places: &mut IndexMap<Arc<K>, Place<K, T>, Seed>,
     alloc: Global,
     at: usize,
 ) -> SmallMap<K>
@@ -158,7 +158,7 @@ pub fn end_task<K: Eq + Hash + Drop, T: Drop>(
 
 /// Takes a key out of those that the task of another one waits for, both by number.
 pub fn drop_wait<K: Eq + Hash + Drop, T: Drop>(
-    places: &mut IndexMap<Arc<K>, Place<K, T>>,
+    places: &mut IndexMap<Arc<K>, Place<K, T>, Seed>,
     at: usize,
     asked: usize,
 )
@@ -179,7 +179,7 @@ pub fn drop_wait<K: Eq + Hash + Drop, T: Drop>(
 
 /// Adds a promise to a key, in room made ahead.
 pub fn add_promise<K: Eq + Hash + Drop, T: Drop>(
-    places: &mut IndexMap<Arc<K>, Place<K, T>>,
+    places: &mut IndexMap<Arc<K>, Place<K, T>, Seed>,
     key: &Arc<K>,
     number: u64,
 )
@@ -202,7 +202,7 @@ pub fn add_promise<K: Eq + Hash + Drop, T: Drop>(
 
 /// Adds an asking task, with its number, to a key, which is given by number, in room made ahead.
 pub fn add_asker<K: Eq + Hash + Drop, T: Drop>(
-    places: &mut IndexMap<Arc<K>, Place<K, T>>,
+    places: &mut IndexMap<Arc<K>, Place<K, T>, Seed>,
     at: usize,
     number: usize,
     asker: Arc<K>,
@@ -228,7 +228,7 @@ pub fn add_asker<K: Eq + Hash + Drop, T: Drop>(
 /// Adds a key, with its number, to those that the task of another one waits for, in room made
 /// ahead. That one is given by number.
 pub fn add_wait<K: Eq + Hash + Drop, T: Drop>(
-    places: &mut IndexMap<Arc<K>, Place<K, T>>,
+    places: &mut IndexMap<Arc<K>, Place<K, T>, Seed>,
     at: usize,
     number: usize,
     asked: Arc<K>,

@@ -6,7 +6,7 @@ ghost use Rattle.task_share.specs.Seen.{has_place, promise_room, asker_room, wai
 ghost use Rattle.task_share.specs.Listed.{shares_of, names_of, IsLinked, IsListed, KeepsListed, IsChanged, Stays, UsesRoom, IsKept};
 
 use crate::place::{Place, vacant};
-use dice_key::NoMemory;
+use dice_key::{NoMemory, Seed};
 use indexmap::IndexMap;
 use std::alloc::Global;
 use std::hash::Hash;
@@ -15,7 +15,7 @@ use std::sync::Arc;
 /// Makes a place for a key that has none, or gives the key to its place, if that has neither task
 /// nor key.
 pub fn reserve_place<K: Eq + Hash + Drop, T: Drop>(
-    places: &mut IndexMap<Arc<K>, Place<K, T>>,
+    places: &mut IndexMap<Arc<K>, Place<K, T>, Seed>,
     candidates: &mut Vec<Arc<K>>,
     alloc: Global,
     key: &Arc<K>,
@@ -43,7 +43,7 @@ pub fn reserve_place<K: Eq + Hash + Drop, T: Drop>(
 
 /// Makes the place of a number ready for a task of its key.
 fn reserve_there<K: Eq + Hash + Drop, T: Drop>(
-    places: &mut IndexMap<Arc<K>, Place<K, T>>,
+    places: &mut IndexMap<Arc<K>, Place<K, T>, Seed>,
     at: usize,
     key: &Arc<K>,
 ) -> Result<(), NoMemory>
@@ -66,7 +66,7 @@ fn reserve_there<K: Eq + Hash + Drop, T: Drop>(
 
 /// Whether a task may be put to the key of a number: there is one, or the place has its key.
 fn takes_task_at<K: Eq + Hash + Drop, T: Drop>(
-    places: &IndexMap<Arc<K>, Place<K, T>>,
+    places: &IndexMap<Arc<K>, Place<K, T>, Seed>,
     at: usize,
 ) -> bool
     requires equality { IsEquality K.eq }
@@ -82,7 +82,7 @@ fn takes_task_at<K: Eq + Hash + Drop, T: Drop>(
 
 /// Gives the key to its place, which is given by number and has neither task nor key.
 fn name_place<K: Eq + Hash + Drop, T: Drop>(
-    places: &mut IndexMap<Arc<K>, Place<K, T>>,
+    places: &mut IndexMap<Arc<K>, Place<K, T>, Seed>,
     at: usize,
     name: Arc<K>,
 )
@@ -104,7 +104,7 @@ fn name_place<K: Eq + Hash + Drop, T: Drop>(
 
 /// Makes room for one more promise of a key that has a place.
 pub fn reserve_promise<K: Eq + Hash + Drop, T: Drop>(
-    places: &mut IndexMap<Arc<K>, Place<K, T>>,
+    places: &mut IndexMap<Arc<K>, Place<K, T>, Seed>,
     key: &Arc<K>,
 ) -> Result<(), NoMemory>
     requires equality { IsEquality K.eq }
@@ -127,7 +127,7 @@ pub fn reserve_promise<K: Eq + Hash + Drop, T: Drop>(
 
 /// Makes room for one more asking task of a key that has a place.
 pub fn reserve_asker<K: Eq + Hash + Drop, T: Drop>(
-    places: &mut IndexMap<Arc<K>, Place<K, T>>,
+    places: &mut IndexMap<Arc<K>, Place<K, T>, Seed>,
     key: &Arc<K>,
 ) -> Result<(), NoMemory>
     requires equality { IsEquality K.eq }
@@ -150,7 +150,7 @@ pub fn reserve_asker<K: Eq + Hash + Drop, T: Drop>(
 
 /// Makes room for more waits of a key that has a place.
 pub fn reserve_waits<K: Eq + Hash + Drop, T: Drop>(
-    places: &mut IndexMap<Arc<K>, Place<K, T>>,
+    places: &mut IndexMap<Arc<K>, Place<K, T>, Seed>,
     key: &Arc<K>,
     additional: usize,
 ) -> Result<(), NoMemory>

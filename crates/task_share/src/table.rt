@@ -22,7 +22,7 @@ use crate::places::{
     put_task,
 };
 use crate::room;
-use dice_key::NoMemory;
+use dice_key::{NoMemory, Seed};
 use indexmap::IndexMap;
 use number_walk::Waits;
 use std::alloc::Global;
@@ -39,7 +39,7 @@ use std::sync::Arc;
 /// `next_unasked` take it for each key that the task waited for, and `next_unasked` for each
 /// candidate, which an earlier call made.
 pub struct Table<K: Eq + Hash + Drop, T: Drop> {
-    places: IndexMap<Arc<K>, Place<K, T>>,
+    places: IndexMap<Arc<K>, Place<K, T>, Seed>,
     candidates: Vec<Arc<K>>,
     alloc: Global,
 }
@@ -72,13 +72,13 @@ impl<K: Eq + Hash + Drop, T: Drop> Model for Table<K, T> {
 }
 
 impl<K: Eq + Hash + Drop, T: Drop> Table<K, T> {
-    /// A table without tasks. It takes no memory. Keys that are equal have to be the same.
-    pub fn new(alloc: Global) -> Table<K, T>
+    /// A table without tasks, which hashes keys by this seed. It takes no memory. Keys that are equal have to be the same.
+    pub fn new(alloc: Global, seed: Seed) -> Table<K, T>
         requires { IsEquality K.eq }
         ensures { result ≡ [] }
     {
         Table {
-            places: IndexMap::new(alloc),
+            places: IndexMap::with_hasher(alloc, seed),
             candidates: Vec::new(alloc),
             alloc,
         }

@@ -1,6 +1,6 @@
 //! Cycles among waits, with numbers for keys.
 use cycle_guard::{count_above, would_close};
-use dice_key::NoMemory;
+use dice_key::{NoMemory, Seed};
 use std::alloc::Global;
 use std::sync::Arc;
 use std::test::Fail;
@@ -15,7 +15,7 @@ fn wait(alloc: Global, table: &mut Table<u32, u64>, asker: u32, key: u32) -> Res
 
 /// A table in which these tasks wait for these keys.
 fn waiting(alloc: Global, waits: &[(u32, u32)]) -> Result<Table<u32, u64>, NoMemory> {
-    let mut table = Table::new(alloc);
+    let mut table = Table::new(alloc, Seed::fixed());
     for (asker, key) in waits {
         wait(alloc, &mut table, *asker, *key)?;
     }

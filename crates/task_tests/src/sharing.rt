@@ -1,5 +1,5 @@
 //! Tables of tasks whose keys are numbers.
-use dice_key::NoMemory;
+use dice_key::{NoMemory, Seed};
 use std::alloc::Global;
 use std::sync::Arc;
 use std::test::Fail;
@@ -16,7 +16,7 @@ fn make(table: &mut Table<u32, u64>, key: &Arc<u32>, task: u64) -> Result<bool, 
 
 /// The tasks 10 of key 1 and 20 of key 2; 1 asks for 2, and promises 8 and 9 for 1.
 fn shared(alloc: Global, one: &Arc<u32>, two: &Arc<u32>) -> Result<Table<u32, u64>, NoMemory> {
-    let mut table = Table::new(alloc);
+    let mut table = Table::new(alloc, Seed::fixed());
     make(&mut table, one, 10)?;
     make(&mut table, two, 20)?;
     table.join(two, Asker::Task(Arc::try_clone(one)?))?;
@@ -119,7 +119,7 @@ fn a_task_made_anew_keeps_its_askers(rt: HostRuntime) -> Result<(), Fail> {
 
 /// The task 10 of key 1, which asks for 2, and the promise 8 for 1, in room made ahead.
 fn reserved(alloc: Global, one: &Arc<u32>, two: &Arc<u32>) -> Result<Table<u32, u64>, NoMemory> {
-    let mut table = Table::new(alloc);
+    let mut table = Table::new(alloc, Seed::fixed());
     table.reserve(one)?;
     table.make_reserved(one, 10);
     table.reserve_promise(one)?;

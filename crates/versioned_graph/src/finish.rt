@@ -37,7 +37,7 @@ pub(crate) fn link_open<U: Universe>(
     if opened {
         link(alloc, users, key, trace)
     } else {
-        Ok(SmallSet::new(alloc))
+        Ok(SmallSet::new(alloc, users.seed()))
     }
 }
 
@@ -57,7 +57,7 @@ fn link<U: Universe>(
         → Has (users_of U.Key.eq users.new j) q }
 {
     laws_of::<U>();
-    let mut deps = SmallSet::new(alloc);
+    let mut deps = SmallSet::new(alloc, users.seed());
     for i in 0..trace.len() {
         for (dep, _) in trace.batch(i) {
             deps.insert(Arc::try_clone(dep)?)?;

@@ -69,10 +69,11 @@ impl<U: Universe> Graph<U> {
     pub fn new(alloc: Global, universe: Arc<U>) -> Graph<U>
         ensures { result ≡ [] }
     {
+        let users = Users::new(alloc, universe.seed());
         Graph {
             alloc,
             store: Store::new(alloc, universe),
-            users: Users::new(alloc),
+            users,
         }
     }
 

@@ -7,7 +7,7 @@ ghost use Rattle.lists.specs.Lists.{Has};
 
 use crate::store::Store;
 use crate::users::Users;
-use dice_key::{NoMemory, Universe, laws_of};
+use dice_key::{NoMemory, Seed, Universe, laws_of};
 use std::alloc::Global;
 use std::collections::HashSet;
 use std::sync::Arc;
@@ -29,7 +29,7 @@ pub(crate) fn reached<U: Universe>(
         → CommitReaches U.Key.eq store.now (map arc_value changed.now) q) }
 {
     let mut todo = copies(alloc, changed)?;
-    let mut seen = HashSet::new(alloc);
+    let mut seen = HashSet::with_hasher(alloc, users.seed());
     let mut reached = Vec::new(alloc);
     walk(store, users, &mut todo, &mut seen, &mut reached)?;
     Ok(reached)
@@ -41,7 +41,7 @@ fn walk<U: Universe>(
     store: &Store<U>,
     users: &Users<U>,
     todo: &mut Vec<Arc<U::Key>>,
-    seen: &mut HashSet<Arc<U::Key>>,
+    seen: &mut HashSet<Arc<U::Key>, Seed>,
     reached: &mut Vec<Arc<U::Key>>,
 ) -> Result<(), NoMemory>
     requires indexed { IsIndexed U.Key.eq store.now users.now }

@@ -12,7 +12,7 @@ ghost use Rattle.versioned_graph.specs.Sound.{AreTrue};
 
 use crate::entry::Entry;
 use crate::found::{Found, Why};
-use dice_key::{NoMemory, Universe, laws_of};
+use dice_key::{NoMemory, Seed, Universe, laws_of};
 use std::alloc::Global;
 use std::collections::HashMap;
 use std::marker::Model;
@@ -23,7 +23,7 @@ use std::sync::Arc;
 pub(crate) struct Store<U: Universe> {
     pub(crate) alloc: Global,
     pub(crate) universe: Arc<U>,
-    entries: HashMap<Arc<U::Key>, Entry<U>>,
+    entries: HashMap<Arc<U::Key>, Entry<U>, Seed>,
 }
 
 impl<U: Universe> Model for Store<U> {
@@ -40,10 +40,11 @@ impl<U: Universe> Store<U> {
     pub(crate) fn new(alloc: Global, universe: Arc<U>) -> Store<U>
         ensures { result ≡ [] }
     {
+        let entries = HashMap::with_hasher(alloc, universe.seed());
         Store {
             alloc,
             universe,
-            entries: HashMap::new(alloc),
+            entries,
         }
     }
 

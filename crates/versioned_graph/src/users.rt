@@ -4,7 +4,7 @@ ghost use Rattle.std.specs.Arc.{arc_value};
 ghost use Rattle.versioned_graph.specs.Users.{users_of};
 ghost use Rattle.lists.specs.Lists.{Has};
 
-use dice_key::{NoMemory, Universe, laws_of};
+use dice_key::{NoMemory, Seed, Universe, laws_of};
 use small_set::SmallSet;
 use std::alloc::Global;
 use std::collections::HashMap;
@@ -16,7 +16,7 @@ use std::sync::Arc;
 #[derive(Drop)]
 pub(crate) struct Users<U: Universe> {
     alloc: Global,
-    sets: HashMap<Arc<U::Key>, SmallSet<Arc<U::Key>>>,
+    sets: HashMap<Arc<U::Key>, SmallSet<Arc<U::Key>>, Seed>,
 }
 
 impl<U: Universe> Model for Users<U> {
@@ -30,13 +30,18 @@ impl<U: Universe> Model for Users<U> {
 
 impl<U: Universe> Users<U> {
     /// None yet. It takes no memory.
-    pub(crate) fn new(alloc: Global) -> Users<U>
+    pub(crate) fn new(alloc: Global, seed: Seed) -> Users<U>
         ensures { result ≡ [] }
     {
         Users {
             alloc,
-            sets: HashMap::new(alloc),
+            sets: HashMap::with_hasher(alloc, seed),
         }
+    }
+
+    /// What sets of keys hash by.
+    pub(crate) fn seed(&self) -> Seed {
+        *self.sets.hasher()
     }
 
     /// The users of a key, if any were recorded.
@@ -72,7 +77,7 @@ impl<U: Universe> Users<U> {
     {
         laws_of::<U>();
         let key = Arc::try_clone(key)?;
-        let mut set = SmallSet::new(self.alloc);
+        let mut set = SmallSet::new(self.alloc, self.seed());
         set.insert(user)?;
         self.sets.insert(key, set)?;
         Ok(())
