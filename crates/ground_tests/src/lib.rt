@@ -1,4 +1,4 @@
-//! Tests of the crates that stand lowest: small sets and maps, keys, the example universe,
+//! Tests of the crates that stand lowest: seeds, small sets and maps, keys, the example universe,
 //! evaluation, versions, cells and recordings, through public calls.
 #![tactic(auto)]
 
@@ -16,6 +16,8 @@ mod evaluation;
 mod ranges;
 #[cfg(test)]
 mod recordings;
+#[cfg(test)]
+mod seeds;
 #[cfg(test)]
 mod small_maps;
 #[cfg(test)]
