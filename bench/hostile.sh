@@ -10,10 +10,10 @@ if [ -z "$dice" ]; then
     "$here/dice" run </dev/null || exit 1
     dice="$here/crates/dice_cli/out/dice_cli"
 fi
-exec python3 - "$dice" "$most" <<'PYTHON'
+exec python3 - "$dice" "$most" "$here" <<'PYTHON'
 import os, re, subprocess, sys, tempfile
 from concurrent.futures import ThreadPoolExecutor
-dice, most = sys.argv[1], int(sys.argv[2]) * 1024
+dice, most, here = sys.argv[1], int(sys.argv[2]) * 1024, sys.argv[3]
 
 def put(path, text):
     return f"put {path} {len(text)}\n{text}\n"
@@ -136,6 +136,21 @@ def given_up(size):
 def opened(size):
     return "".join(filled(size, lambda i: f"open t{i}\n"))
 
+def of_names(names):
+    """Each a transaction's and that of a request in it."""
+    lines = [put("a/BUCK", 'stamp_file(name = "f")\n') + "commit\n"]
+    for line in ("open {0}\n", "ask {0} {0} //a:f\n", "wait {0}\n", "close {0}\n"):
+        lines += [line.format(name) for name in names]
+    return "".join(lines)
+
+def meeting(size):
+    """Names of 16 bytes that meet in one bucket of a table that is hashed without a seed, 2,000 at most."""
+    with open(os.path.join(here, "bench", "meeting_names.txt")) as stored:
+        return of_names(["n" + line.strip().rjust(15, "0") for line in stored][:size // 64])
+
+def scattered(size):
+    return of_names([f"n{i:015}" for i in range(min(2000, size // 64))])
+
 def comments_of_script(size):
     return "#\n" * (size // 2)
 
@@ -149,7 +164,8 @@ inputs = [
     ("a cycle through all targets of a file", ring), ("a comment of a file edited, all asked for twice", edited),
     ("puts of one byte", puts), ("one path of two contents in turn", two_contents), ("one path of new contents", new_contents),
     ("one target asked for again and again", one_key), ("the same, each given up", given_up), ("transactions that stay open", opened),
-    ("empty comments of a script", comments_of_script),
+    ("empty comments of a script", comments_of_script), ("names of which a table without a seed puts all in one bucket", meeting),
+    ("other names", scattered),
 ]
 
 def packages(size):
