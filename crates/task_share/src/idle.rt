@@ -32,7 +32,10 @@ fn is_idle_at<K: Eq + Hash + Drop, T: Drop>(
 }
 
 /// Gives a key that is no candidate any more back to its place.
-fn give_back<K: Eq + Hash + Drop, T: Drop>(places: &mut IndexMap<Arc<K>, Place<K, T>, Seed>, key: Arc<K>)
+fn give_back<K: Eq + Hash + Drop, T: Drop>(
+    places: &mut IndexMap<Arc<K>, Place<K, T>, Seed>,
+    key: Arc<K>,
+)
     requires equality { IsEquality K.eq }
     requires linked { IsLinked K.eq places.old.entries }
     requires busy { is_for is_idle (lookup (K.eq (arc_value key)) (shares_of places.old.entries))
