@@ -72,9 +72,15 @@ impl<U: Universe> Parked<U> {
 
     /// The job that goes on with these answers, a value for each key; `next` is what it is for
     /// then. It takes no memory.
-    pub fn resume(self, next: Assignment<U>, answers: Answers<U::Value>) -> Job<U>
+    pub fn resume(
+        self,
+        next: Assignment<U>,
+        answers: Answers<U::Value>,
+        agreed: bool,
+    ) -> Job<U>
         requires answers { length answers ≡ length self.keys }
         requires next { next ≡ answered_more self.job self.keys answers }
+        requires agreed { agreed ≡ true → AgreesSoFar next }
         ensures { result ≡ next }
     {
         let Parked {
@@ -84,6 +90,10 @@ impl<U: Universe> Parked<U> {
         } = self;
         let ready = match course {
             Course::Run(run) => Ready::Resume(run, answers),
+            Course::Check(mut check) if agreed => {
+                check.agree();
+                Ready::Check(check)
+            }
             Course::Check(check) => Ready::Feed(check, answers),
         };
         Job {

@@ -182,6 +182,7 @@ fn prepare_end<U: Universe>(
     alloc: Global,
     universe: &U,
     cells: &Cells<U>,
+    graph: &Graph<U>,
     tasks: &Tasks<U>,
     version: u64,
     key: &KeyRef<U>,
@@ -196,7 +197,7 @@ fn prepare_end<U: Universe>(
     ensures woken { IfOk result (λ e. AreWoken U.Key.eq U.meaning cells.now version
         (arc_value key.now) (arc_value value.now) tasks.now e.woken.items) }
 {
-    let woken = woken_by::<U>(alloc, universe, cells, tasks, version, key, value)?;
+    let woken = woken_by::<U>(alloc, universe, cells, graph, tasks, version, key, value)?;
     let trace = step.assignment().answered()?;
     let outcome = Arc::try_clone(value)?;
     let value = Arc::try_clone(value)?;
@@ -246,7 +247,7 @@ fn end_step<U: Universe>(
         → AtHand U.Key.eq U.meaning version w owed tasks.new desk.new graph.new cells.now }
 {
     laws_of::<U>();
-    let ending = prepare_end::<U>(alloc, universe, cells, tasks, version, key, step, value)?;
+    let ending = prepare_end::<U>(alloc, universe, cells, graph, tasks, version, key, step, value)?;
     let Ending {
         key: name,
         value: finished,

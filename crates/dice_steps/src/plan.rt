@@ -112,8 +112,30 @@ pub(crate) fn plan_batch<U: Universe>(
     else {
         return Ok(Plan::Waits(parts, waits));
     };
-    let next = Next::of_batch(assignment, batch, answers)?;
+    let agreed = is_agreed::<U>(universe, graph, version, assignment, batch);
+    let next = Next::of_batch(assignment, batch, answers, agreed)?;
     Ok(Plan::GoesOn(parts, next))
+}
+
+/// Whether a check that asks for one key is known to have its answer: the value that the graph
+/// keeps of the key holds at the check's base and at this version.
+fn is_agreed<U: Universe>(
+    universe: &U,
+    graph: &Graph<U>,
+    version: u64,
+    assignment: &Assignment<U>,
+    batch: &Batch<U::Key>,
+) -> bool {
+    let ([key], Some(earlier)) = (batch.keys(), assignment.earlier()) else {
+        return false;
+    };
+    if let Kind::Injected = universe.kind(key) {
+        return false;
+    }
+    match graph.entry(key) {
+        Some(entry) => entry.holds_at(earlier.base) && entry.holds_at(version),
+        None => false,
+    }
 }
 
 /// How many events the journal has.

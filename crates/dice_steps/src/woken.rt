@@ -5,11 +5,12 @@ ghost use Rattle.dice_steps.specs.Wokens.{AsksAlone, AsksMore, HasAnswer, IsAnsw
 
 use crate::wake::Woken;
 use dice_key::{Answers, KeyRef, Kind, NoMemory, Universe, ValueRef, laws_of};
-use dice_tasks::{Next, Tasks};
+use dice_tasks::{Next, Task, Tasks};
 use injected::Cells;
 use std::alloc::Global;
 use std::sync::Arc;
 use task_share::table_in_order;
+use versioned_graph::{Entry, Graph};
 
 /// The tasks that wait for a key alone, each with what it goes on with when the key's task ends
 /// with this value: the answers to its batch. It takes the memory for them, and changes nothing.
@@ -20,6 +21,7 @@ pub(crate) fn woken_by<U: Universe>(
     alloc: Global,
     universe: &U,
     cells: &Cells<U>,
+    graph: &Graph<U>,
     tasks: &Tasks<U>,
     version: u64,
     key: &KeyRef<U>,
@@ -31,10 +33,15 @@ pub(crate) fn woken_by<U: Universe>(
 {
     laws_of::<U>();
     let askers = tasks.askers(key).tasks;
+    let kept = if askers.len() > 1 {
+        kept_as::<U>(graph, key, value)
+    } else {
+        None
+    };
     let mut woken = Vec::new(alloc);
     for asker in askers {
         if asks_alone::<U>(tasks, asker, key) {
-            let next = next_of::<U>(alloc, universe, cells, tasks, version, key, value, asker)?;
+            let next = next_of::<U>(alloc, universe, cells, tasks, version, key, value, kept, asker)?;
             let one = Woken::new(version, asker, next)?;
             woken.push(one)?;
         }
@@ -69,6 +76,7 @@ fn next_of<U: Universe>(
     version: u64,
     key: &KeyRef<U>,
     value: &ValueRef<U>,
+    kept: Option<&Entry<U>>,
     asker: &KeyRef<U>,
 ) -> Result<Next<U>, NoMemory>
     requires { WaitsAlone U.Key.eq U.meaning (arc_value key.now) tasks.now (arc_value asker.now) }
@@ -89,7 +97,31 @@ fn next_of<U: Universe>(
         };
         answers.push(Arc::try_clone(answer)?)?;
     }
-    task.next(answers)
+    let agreed = is_kept::<U>(kept, task, keys);
+    task.next(answers, agreed)
+}
+
+/// What the graph keeps of a key, if its value is this.
+fn kept_as<'a, U: Universe>(
+    graph: &'a Graph<U>,
+    key: &KeyRef<U>,
+    value: &ValueRef<U>,
+) -> Option<&'a Entry<U>> {
+    match graph.entry(key) {
+        Some(entry) if **entry.value() == **value => Some(entry),
+        _ => None,
+    }
+}
+
+/// Whether a check that asked for one key has its answer: what is kept holds at the check's base.
+fn is_kept<U: Universe>(kept: Option<&Entry<U>>, task: &Task<U>, keys: &[KeyRef<U>]) -> bool {
+    let (Some(entry), [_], Some(job)) = (kept, keys, task.assignment()) else {
+        return false;
+    };
+    match job.earlier() {
+        Some(earlier) => entry.holds_at(earlier.base),
+        None => false,
+    }
 }
 
 /// The answer to a key of a batch: the input of an injected key at the version, the value with

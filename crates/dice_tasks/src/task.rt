@@ -47,6 +47,7 @@ pub struct Next<U: Universe> {
     own: Assignment<U>,
     job: Assignment<U>,
     answers: Answers<U::Value>,
+    agreed: bool,
 }
 
 // (One function for all places that drop one: a derived drop is written out at each.)
@@ -56,6 +57,7 @@ impl<U: Universe> Drop for Next<U> {
             own: _own,
             job: _job,
             answers: _answers,
+            agreed: _,
         } = self;
     }
 }
@@ -73,7 +75,11 @@ impl<U: Universe> Model for Next<U> {
 
 impl<U: Universe> Next<U> {
     /// What a parked job goes on with when its batch has these answers, a value for each key.
-    pub(crate) fn of(parked: &Parked<U>, answers: Answers<U::Value>) -> Result<Next<U>, NoMemory>
+    pub(crate) fn of(
+        parked: &Parked<U>,
+        answers: Answers<U::Value>,
+        agreed: bool,
+    ) -> Result<Next<U>, NoMemory>
         requires { length answers ≡ length parked.now.keys }
         ensures { IfOk result (λ n. n
             ≡ record
@@ -81,7 +87,12 @@ impl<U: Universe> Next<U> {
     {
         let job = parked.answered(&answers)?;
         let own = job.try_clone()?;
-        Ok(Next { own, job, answers })
+        Ok(Next {
+            own,
+            job,
+            answers,
+            agreed,
+        })
     }
 
     /// What a job goes on with when the batch that it asks has these answers, a value for each key.
@@ -89,6 +100,7 @@ impl<U: Universe> Next<U> {
         assignment: &Assignment<U>,
         batch: &Batch<U::Key>,
         answers: Answers<U::Value>,
+        agreed: bool,
     ) -> Result<Next<U>, NoMemory>
         requires { length answers ≡ length batch.now }
         ensures { IfOk result (λ n. n
@@ -96,7 +108,12 @@ impl<U: Universe> Next<U> {
     {
         let job = assignment.extended(batch, &answers)?;
         let own = job.try_clone()?;
-        Ok(Next { own, job, answers })
+        Ok(Next {
+            own,
+            job,
+            answers,
+            agreed,
+        })
     }
 
     /// The job that goes on, and what the task keeps of it. It takes no memory.
@@ -105,8 +122,13 @@ impl<U: Universe> Next<U> {
         requires job { self.job ≡ answered_more parked.job parked.keys self.values }
         ensures { (result.0 ≡ self.job) × (result.1 ≡ self.job) }
     {
-        let Next { own, job, answers } = self;
-        (parked.resume(job, answers), own)
+        let Next {
+            own,
+            job,
+            answers,
+            agreed,
+        } = self;
+        (parked.resume(job, answers, agreed), own)
     }
 }
 
@@ -320,13 +342,17 @@ impl<U: Universe> Task<U> {
 
     /// What a waiting task goes on with when its batch has these answers, a value for each key. It
     /// costs the number of keys and values, over all batches.
-    pub fn next(&self, answers: Answers<U::Value>) -> Result<Next<U>, NoMemory>
+    pub fn next(
+        &self,
+        answers: Answers<U::Value>,
+        agreed: bool,
+    ) -> Result<Next<U>, NoMemory>
         requires { (w : Waits U.Key U.Value) × (self.now ≡ held_of w.job (IsWaiting w.keys))
             × (length answers ≡ length w.keys) }
         ensures { IfOk result (λ n. FollowsOn self.now n × (n.values ≡ answers)) }
     {
         match &self.parts.load {
-            Load::Parked(parked) => Next::of(parked, answers),
+            Load::Parked(parked) => Next::of(parked, answers, agreed),
             _ => unreachable!(),
         }
     }
