@@ -6,7 +6,7 @@ use Rattle.std.specs.Arc.{arc_value}
 use Rattle.std.specs.declared.sync.Arc.{Arc}
 use Rattle.dep_recorder.specs.Recordings.{keys_in, values_in, answered_in}
 use Rattle.std.proofs.lemmas.Option.{same_Some, none-some}
-use Rattle.std.proofs.lemmas.List.{take-append-drop, map-append, length-map, drop_all, take_all}
+use Rattle.std.proofs.lemmas.List.{take-append-drop, map-append, length-map, length-take-le, drop_all, take_all}
 use Rattle.dice_key.specs.Meaning.{Answered}
 use Rattle.dice_key.specs.Lawful.{IsEquality}
 use Rattle.dep_recorder.specs.Checks.{Finding, Wants, IsSame, HasChanged, finding, first_change, change_or, values_of, IsFirstChange, IsNextBatch, IsNext, Checked, IsWantingOf, fed_so_far, changed_at, HasChange}
@@ -246,6 +246,15 @@ module _ {K V : Type 0} (eq : V → V → Bool) (law : IsEquality eq) where
       let m : length ys ≡ length (keys_in ps) = omega arith in
       let z = same_fed n T (answered_in ps) rest ys e k m (subst (λ zs. first_change eq (keys_in ps) (values_in ps) zs ≡ None) y h) in
       (λ i. record { trace = T; fed = fed_so_far T (n + 1) (option_map f (c i)) }) ∙ ((λ i. record { trace = T; fed = z i }) ∙ (λ i. record { trace = (u i).trace; fed = (u i).fed ++ ys ∷ [] }))
+
+  -- what was fed, with the trace's own answers to one batch more
+  pub fed_own : {D : Type 0} (f : D → List V) (T : List (Answered K V)) (n : ℕ) (change : Option D) (s : Checked K V) → record { trace = T; fed = fed_so_far T n (option_map f change) } ≡ s → change ≡ None → n ≤ length T
+      → ◌≡◌ {A = Checked K V} (record { trace = T; fed = fed_so_far T (n + 1) (option_map f change) }) (record { trace = s.trace; fed = values_of (take (length s.fed + 1) s.trace) })
+  fed_own f T n change s v c within =
+      let u : ◌≡◌ {A = Checked K V} (record { trace = T; fed = fed_so_far T n None }) s = (λ i. record { trace = T; fed = fed_so_far T n (option_map f (sym c i)) }) ∙ v in
+      let l : n ≡ length (fed_so_far T n None) = sym (ap length (append-nil (values_of (take n T))) ∙ (length-map (take n T) (λ b. b.values) ∙ length-take-le n T within)) in
+      (λ i. record { trace = T; fed = fed_so_far T (n + 1) (option_map f (c i)) })
+      ∙ ((λ i. record { trace = T; fed = append-nil (values_of (take (n + 1) T)) i }) ∙ ((λ i. record { trace = T; fed = values_of (take (l i + 1) T) }) ∙ (λ i. record { trace = (u i).trace; fed = values_of (take (length (u i).fed + 1) (u i).trace) })))
 
 -- the loop's return
 pub change_here : {K V A B : Type 0} (eq : V → V → Bool) (i : ℕ) (ps : List (Arc K A × Arc V B)) (ns : List (Arc V B)) (p : Arc K A × Arc V B) (n : Arc V B) → i < length ps → i < length ns → p ≡ get_or ps i p → n ≡ get_or ns i n → eq (arc_value p.1) (arc_value n) ≡ false

@@ -1,5 +1,5 @@
 //! Checking a trace again.
-ghost use Rattle.std.specs.Prelude.{◌≡◌, ◌<◌, ◌++◌, ◌∷◌, [], length, map, drop, IfOk, IfSome, IfNone, None, List};
+ghost use Rattle.std.specs.Prelude.{◌≡◌, ◌<◌, ◌++◌, ◌∷◌, [], length, map, take, drop, ◌+◌, IfOk, IfSome, IfNone, None, List};
 ghost use Rattle.std.specs.Arc.{arc_value};
 ghost use Rattle.dep_recorder.specs.Recordings.{keys_in, values_in};
 ghost use Rattle.dep_recorder.specs.Checks.{finding, finding_of, first_change, IsWantingOf, changed_at, values_of, IsNextBatch, IsFirstChange, LendsNext, Wants, IsSame, HasChanged};
@@ -116,6 +116,22 @@ impl<U: Universe> Check<U> {
             Some(at) => self.change = Some(Change { answers, at }),
             None => self.agreed += 1,
         }
+    }
+
+    /// Takes the trace's own answers to the batch that is wanted: those that it has now are known
+    /// to be the same, and none is compared. It takes no memory.
+    pub fn agree(&mut self)
+        requires { (ks : List U.Key)
+            × (finding U.Value.eq self.old.trace self.old.fed ≡ Wants ks) }
+        ensures { self.new
+            ≡ record
+            { trace = self.old.trace; fed = values_of (take (length self.old.fed + 1) self.old.trace) } }
+    {
+        laws_of::<U>();
+        if self.agreed >= self.trace.len() {
+            unreachable!();
+        }
+        self.agreed += 1;
     }
 }
 

@@ -1,3 +1,4 @@
+pub mod Agreed
 pub mod Followed
 pub mod Replayed
 pub mod TruthLemmas

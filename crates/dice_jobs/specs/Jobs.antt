@@ -65,6 +65,14 @@ module _ {K V : Type 0} where
   abbrev pub checking : Assigned K V → V → List (Answered K V) → ℕ → Assigned K V
   checking a x T b = record { name = a.name; answered = a.answered; work = Checks x T b }
 
+  -- the answers so far are those of the trace that is checked
+  abbrev pub AreOfTrace : Work K V → List (Answered K V) → Type 0
+  AreOfTrace Computes A = Unit {0}
+  AreOfTrace (Checks x T b) A = (later : List (Answered K V)) × (T ≡ A ++ later)
+
+  abbrev pub Agrees : Assigned K V → Type 0
+  Agrees a = AreOfTrace a.work a.answered
+
   -- the job that a step leaves waiting, if it wants keys
   abbrev pub waiting_after : Assigned K V → Outcome K V → Option (Waits K V)
   waiting_after a (Wanting ks) = Some (record { job = a; keys = ks })

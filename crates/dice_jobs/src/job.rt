@@ -25,7 +25,7 @@ pub(crate) enum Ready<U: Universe> {
     Begin,
     /// The run goes on with the answers to the batch that it last asked.
     Resume(Box<U::Run>, Answers<U::Value>),
-    /// The check begins.
+    /// The check begins, or goes on after answers that are known to be those of its trace.
     Check(Box<Check<U>>),
     /// The check goes on with the answers to the batch that it wanted.
     Feed(Box<Check<U>>, Answers<U::Value>),

@@ -1,6 +1,6 @@
 //! Jobs that wait for answers.
-ghost use Rattle.std.specs.Prelude.{◌≡◌, length, IfOk};
-ghost use Rattle.dice_jobs.specs.Jobs.{answered_more};
+ghost use Rattle.std.specs.Prelude.{◌≡◌, length, true, IfOk};
+ghost use Rattle.dice_jobs.specs.Jobs.{Agrees, answered_more};
 
 use crate::assignment::Assignment;
 use crate::job::{Job, Ready};
@@ -71,10 +71,12 @@ impl<U: Universe> Parked<U> {
     }
 
     /// The job that goes on with these answers, a value for each key; `next` is what it is for
-    /// then. It takes no memory.
-    pub fn resume(self, next: Assignment<U>, answers: Answers<U::Value>) -> Job<U>
+    /// then. If `agreed` is set they are known to be those of the trace that is checked, and the
+    /// check does not compare them. It takes no memory.
+    pub fn resume(self, next: Assignment<U>, answers: Answers<U::Value>, agreed: bool) -> Job<U>
         requires answers { length answers ≡ length self.keys }
         requires next { next ≡ answered_more self.job self.keys answers }
+        requires agreed { agreed ≡ true → Agrees next }
         ensures { result ≡ next }
     {
         let Parked {
@@ -84,6 +86,10 @@ impl<U: Universe> Parked<U> {
         } = self;
         let ready = match course {
             Course::Run(run) => Ready::Resume(run, answers),
+            Course::Check(mut check) if agreed => {
+                check.agree();
+                Ready::Check(check)
+            }
             Course::Check(check) => Ready::Feed(check, answers),
         };
         Job {

@@ -1,3 +1,4 @@
+pub mod AgreedLemmas
 pub mod AskedLemmas
 pub mod BatchLemmas
 pub mod DoneLemmas

@@ -1,3 +1,4 @@
+pub mod Agreements
 pub mod AtHand
 pub mod Batches
 pub mod Cells

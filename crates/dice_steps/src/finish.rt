@@ -11,6 +11,7 @@ ghost use Rattle.journal.specs.declared.event.Reason.TheVariants.{Differs};
 ghost use Rattle.journal.specs.Tell.{told};
 ghost use Rattle.core_laws.specs.Tasks.{IsReady, IsOut};
 ghost use Rattle.core_laws.specs.Desk.{World};
+ghost use Rattle.dice_steps.specs.Agreements.{AllAgreeIfKept};
 ghost use Rattle.dice_steps.specs.AtHand.{AtHand};
 ghost use Rattle.dice_steps.specs.Finishings.{EndsWith, IsFinished, EndsAndWakes, IsRefused};
 ghost use Rattle.dice_tasks.specs.Hands.{KeepsHands, KeepsDeskRoom};
@@ -182,13 +183,16 @@ fn prepare_end<U: Universe>(
     alloc: Global,
     universe: &U,
     cells: &Cells<U>,
+    graph: &Graph<U>,
     tasks: &Tasks<U>,
     version: u64,
     key: &KeyRef<U>,
     step: &Step<U>,
     value: &ValueRef<U>,
 ) -> Result<Ending<U>, NoMemory>
-    requires { HasAnswers U.Key.eq U.meaning (arc_value key.now) tasks.now }
+    requires answers { HasAnswers U.Key.eq U.meaning (arc_value key.now) tasks.now }
+    requires agree { AllAgreeIfKept U.Key.eq U.meaning cells.now version (arc_value key.now)
+        (arc_value value.now) tasks.now graph.now }
     ensures key { IfOk result (λ e. arc_value e.key ≡ arc_value key.now) }
     ensures value { IfOk result (λ e. arc_value e.value ≡ arc_value value.now) }
     ensures trace { IfOk result (λ e. arc_value e.trace ≡ step.now.job.answered) }
@@ -196,7 +200,7 @@ fn prepare_end<U: Universe>(
     ensures woken { IfOk result (λ e. AreWoken U.Key.eq U.meaning cells.now version
         (arc_value key.now) (arc_value value.now) tasks.now e.woken.items) }
 {
-    let woken = woken_by::<U>(alloc, universe, cells, tasks, version, key, value)?;
+    let woken = woken_by::<U>(alloc, universe, cells, graph, tasks, version, key, value)?;
     let trace = step.assignment().answered()?;
     let outcome = Arc::try_clone(value)?;
     let value = Arc::try_clone(value)?;
@@ -246,7 +250,9 @@ fn end_step<U: Universe>(
         → AtHand U.Key.eq U.meaning version w owed tasks.new desk.new graph.new cells.now }
 {
     laws_of::<U>();
-    let ending = prepare_end::<U>(alloc, universe, cells, tasks, version, key, step, value)?;
+    let ending = prepare_end::<U>(
+        alloc, universe, cells, graph, tasks, version, key, step, value,
+    )?;
     let Ending {
         key: name,
         value: finished,

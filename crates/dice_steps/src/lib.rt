@@ -3,6 +3,7 @@
 //! cycle.
 #![tactic(auto)]
 
+mod agreed;
 mod batch;
 mod finish;
 mod noted;

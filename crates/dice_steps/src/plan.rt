@@ -8,15 +8,18 @@ ghost use Rattle.task_share.specs.Asked.{Leads};
 ghost use Rattle.task_share.specs.Seen.{task_at, asked_of, has_place, asker_room, wait_room, KeepsTasks, KeepsAsks, KeepsRoom};
 ghost use Rattle.versioned_graph.specs.Entries.{entry_at};
 ghost use Rattle.versioned_graph.specs.Looks.{Matches, look};
-ghost use Rattle.core_laws.specs.Tasks.{value_of};
+ghost use Rattle.core_laws.specs.Tasks.{IsOut, IsWaiting, value_of};
+ghost use Rattle.core_laws.specs.Stands.{AsksNext};
 ghost use Rattle.core_laws.specs.Desk.{World};
 ghost use Rattle.dice_steps.specs.AtHand.{AtHand};
 ghost use Rattle.dice_tasks.specs.CyclePaths.{path_with};
+ghost use Rattle.dice_tasks.specs.Helds.{held_of};
 ghost use Rattle.dice_tasks.specs.Hands.{KeepsHands, KeepsDeskRoom, tasks_of};
 ghost use Rattle.dice_steps.specs.Plans.{key_in, waits_of, is_awaited, IsAtHand, HasNone, IsPart, IsSurvey, ArePlaced, IsPlan, IfEnds};
 ghost use Rattle.dice_steps.specs.Taken.{HasNoPath, IsPathAt};
 ghost use Rattle.lists.specs.Lists.{Has};
 
+use crate::agreed::holds_at_both;
 use crate::noted::note;
 use cycle_guard::{count_above, would_close};
 use dice_jobs::Assignment;
@@ -78,9 +81,13 @@ pub(crate) fn plan_batch<U: Universe>(
     assignment: &Assignment<U>,
     batch: &Batch<U::Key>,
 ) -> Result<Plan<U>, NoMemory>
-    requires { (w : World U.Key U.Value)
+    requires hand { (w : World U.Key U.Value)
         × AtHand U.Key.eq U.meaning assignment.now.name.version w owed tasks.old desk.old graph.now
         cells.now }
+    requires out { task_at U.Key.eq tasks.old assignment.now.name.key
+        ≡ Some (held_of assignment.now IsOut) }
+    requires next { AsksNext U.Key.eq U.meaning assignment.now.name.version assignment.now.name.key
+        assignment.now.work assignment.now.answered (IsWaiting batch.now) }
     ensures tasks { KeepsTasks U.Key.eq tasks.old tasks.new }
     ensures asks { KeepsAsks U.Key.eq tasks.old tasks.new }
     ensures room { KeepsRoom U.Key.eq tasks.old tasks.new }
@@ -112,7 +119,8 @@ pub(crate) fn plan_batch<U: Universe>(
     else {
         return Ok(Plan::Waits(parts, waits));
     };
-    let next = Next::of_batch(assignment, batch, answers)?;
+    let agreed = holds_at_both::<U>(universe, graph, version, assignment, batch);
+    let next = Next::of_batch(assignment, batch, answers, agreed)?;
     Ok(Plan::GoesOn(parts, next))
 }
 

@@ -1,8 +1,12 @@
 //! The tasks that wait for one key alone, and what they go on with.
-ghost use Rattle.std.specs.Prelude.{◌≡◌, true, false, IfOk, IfSome, IsSome};
+ghost use Rattle.std.specs.Prelude.{◌≡◌, List, true, false, IfOk, IfSome, IsSome};
 ghost use Rattle.std.specs.Arc.{arc_value};
+ghost use Rattle.std.specs.Option.{option_copied};
+ghost use Rattle.versioned_graph.specs.Entries.{Stored, kept_of};
+ghost use Rattle.dice_steps.specs.Agreements.{IsEntryOf, AgreesIfKept, AllAgreeIfKept};
 ghost use Rattle.dice_steps.specs.Wokens.{AsksAlone, AsksMore, HasAnswer, IsAnswer, WaitsAlone, HasAnswers, IsAnswered, AreWoken};
 
+use crate::agreed::holds_at_base;
 use crate::wake::Woken;
 use dice_key::{Answers, KeyRef, Kind, NoMemory, Universe, ValueRef, laws_of};
 use dice_tasks::{Next, Tasks};
@@ -10,31 +14,39 @@ use injected::Cells;
 use std::alloc::Global;
 use std::sync::Arc;
 use task_share::table_in_order;
+use versioned_graph::{Entry, Graph};
 
 /// The tasks that wait for a key alone, each with what it goes on with when the key's task ends
 /// with this value: the answers to its batch. It takes the memory for them, and changes nothing.
 ///
 /// It costs the number of tasks that ask for the key, and that of the keys and values of those that
-/// wait for it alone.
+/// wait for it alone; if more than one asks, also a comparison of the value with the one that the
+/// graph keeps of the key.
 pub(crate) fn woken_by<U: Universe>(
     alloc: Global,
     universe: &U,
     cells: &Cells<U>,
+    graph: &Graph<U>,
     tasks: &Tasks<U>,
     version: u64,
     key: &KeyRef<U>,
     value: &ValueRef<U>,
 ) -> Result<Vec<Woken<U>>, NoMemory>
-    requires { HasAnswers U.Key.eq U.meaning (arc_value key.now) tasks.now }
+    requires answers { HasAnswers U.Key.eq U.meaning (arc_value key.now) tasks.now }
+    requires agree { AllAgreeIfKept U.Key.eq U.meaning cells.now version (arc_value key.now)
+        (arc_value value.now) tasks.now graph.now }
     ensures { IfOk result (λ ws. AreWoken U.Key.eq U.meaning cells.now version (arc_value key.now)
         (arc_value value.now) tasks.now ws.items) }
 {
     laws_of::<U>();
     let askers = tasks.askers(key).tasks;
+    let kept = shared_entry::<U>(graph, key, value, askers.len());
     let mut woken = Vec::new(alloc);
     for asker in askers {
         if asks_alone::<U>(tasks, asker, key) {
-            let next = next_of::<U>(alloc, universe, cells, tasks, version, key, value, asker)?;
+            let next = next_of::<U>(
+                alloc, universe, cells, tasks, version, key, value, kept, asker,
+            )?;
             let one = Woken::new(version, asker, next)?;
             woken.push(one)?;
         }
@@ -69,9 +81,16 @@ fn next_of<U: Universe>(
     version: u64,
     key: &KeyRef<U>,
     value: &ValueRef<U>,
+    kept: Option<&Entry<U>>,
     asker: &KeyRef<U>,
 ) -> Result<Next<U>, NoMemory>
-    requires { WaitsAlone U.Key.eq U.meaning (arc_value key.now) tasks.now (arc_value asker.now) }
+    requires waits { WaitsAlone U.Key.eq U.meaning (arc_value key.now) tasks.now
+        (arc_value asker.now) }
+    requires agrees { (es : List (U.Key × Stored U.Key U.Value))
+        × IfSome (option_copied kept) (λ e. IsEntryOf U.Key.eq es (arc_value key.now)
+        (arc_value value.now) (kept_of e))
+        × AgreesIfKept U.Key.eq U.meaning cells.now version (arc_value key.now)
+        (arc_value value.now) tasks.now es (arc_value asker.now) }
     ensures { IfOk result (IsAnswered U.Key.eq U.meaning cells.now version (arc_value key.now)
         (arc_value value.now) tasks.now (arc_value asker.now)) }
 {
@@ -79,6 +98,9 @@ fn next_of<U: Universe>(
         unreachable!();
     };
     let Some(batch) = task.batch() else {
+        unreachable!();
+    };
+    let Some(assignment) = task.assignment() else {
         unreachable!();
     };
     let mut answers = Answers::new(alloc);
@@ -89,7 +111,29 @@ fn next_of<U: Universe>(
         };
         answers.push(Arc::try_clone(answer)?)?;
     }
-    task.next(answers)
+    let agreed = holds_at_base::<U>(kept, assignment, batch);
+    task.next(answers, agreed)
+}
+
+/// What the graph keeps of a key for which so many tasks ask, if they are more than one and its
+/// value is this. It costs a look-up and a comparison of the values.
+fn shared_entry<'a, U: Universe>(
+    graph: &'a Graph<U>,
+    key: &KeyRef<U>,
+    value: &ValueRef<U>,
+    askers: usize,
+) -> Option<&'a Entry<U>>
+    ensures { IfSome (option_copied result) (λ e. IsEntryOf U.Key.eq graph.now (arc_value key.now)
+        (arc_value value.now) (kept_of e)) }
+{
+    laws_of::<U>();
+    if askers < 2 {
+        return None;
+    }
+    match graph.entry(key) {
+        Some(entry) if **entry.value() == **value => Some(entry),
+        _ => None,
+    }
 }
 
 /// The answer to a key of a batch: the input of an injected key at the version, the value with

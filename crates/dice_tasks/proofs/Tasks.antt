@@ -37,12 +37,15 @@ module _ {K V : Type 0} where
   same_job a b e f g = λ i. record { name = e i; answered = f i; work = g i }
 
   -- what a task at work is seen as says what its job is for
-  pub same_held : (a b : Assigned K V) (p : Phase K) → held_of a p ≡ held_of b p → a ≡ b
-  same_held a b p e =
-      let s : Works a.work p a.answered ≡ Works b.work p b.answered = λ i. (e i).standing in
+  pub held_job : (a b : Assigned K V) (p q : Phase K) → held_of a p ≡ held_of b q → a ≡ b
+  held_job a b p q e =
+      let s : Works a.work p a.answered ≡ Works b.work q b.answered = λ i. (e i).standing in
       let f : a.answered ≡ b.answered = cc in
       let g : a.work ≡ b.work = cc in
       same_job a b (λ i. (e i).name) f g
+
+  pub same_held : (a b : Assigned K V) (p : Phase K) → held_of a p ≡ held_of b p → a ≡ b
+  same_held a b p e = held_job a b p p e
 
   pub held_is : (a : Assigned K V) (n : Name K) (p : Phase K) → a.name ≡ n → record { name = n; standing = works a p } ≡ held_of a p
   held_is a n p e = λ i. record { name = sym e i; standing = works a p }
@@ -97,11 +100,16 @@ module _ {U K V R : Type 0} (n : Name K) where
   unparked (Away a) d = d
   unparked Nothing d = d
 
+  -- the job that a waiting task keeps
+  pub next_parked : (load : Load U K V R) (s : TaskState K V) (h : Held K V) (p : Waits K V) → IsLoaded n load s → record { name = n; standing = standing_of load s } ≡ h → load ≡ Parked p → (w : Waits K V) → h ≡ held_of w.job (IsWaiting w.keys) → p ≡ w
+  next_parked load s h p l v e w is =
+      let r = parked_is load s w l (v ∙ is) in
+      ap (λ x. unparked x p) (sym e ∙ r.1) ∙ r.2
+
   -- a waiting task goes on with the answers to its batch
   pub next_follows : (load : Load U K V R) (s : TaskState K V) (h : Held K V) (p : Waits K V) (xs : List V) → IsLoaded n load s → record { name = n; standing = standing_of load s } ≡ h → load ≡ Parked p → (w : Waits K V) × (h ≡ held_of w.job (IsWaiting w.keys)) × (length xs ≡ length w.keys) → (a : Ahead K V) → a ≡ record { job = answered_more p.job p.keys xs; values = xs } → FollowsOn h a × (a.values ≡ xs)
   next_follows load s h p xs l v e w a q =
-      let r = parked_is load s w.0 l (v ∙ w.1) in
-      let m : p ≡ w.0 = ap (λ x. unparked x p) (sym e ∙ r.1) ∙ r.2 in
+      let m : p ≡ w.0 = next_parked load s h p l v e w.0 w.1 in
       let values : a.values ≡ xs = λ i. (q i).values in
       (record { waits = w.0; held = w.1; count = ap length values ∙ w.2; job = (λ i. (q i).job) ∙ (λ i. answered_more (m i).job (m i).keys (sym values i)) }, values)
 

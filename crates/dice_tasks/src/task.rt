@@ -4,7 +4,7 @@ ghost use Rattle.std.specs.Arc.{arc_value};
 ghost use Rattle.std.specs.Option.{option_map};
 ghost use Rattle.dice_key.specs.declared.universe.Kind.TheVariants.{Injected};
 ghost use Rattle.dice_key.specs.Meaning.{Answered};
-ghost use Rattle.dice_jobs.specs.Jobs.{Assigned, Waits, Computes, answered_more, checking};
+ghost use Rattle.dice_jobs.specs.Jobs.{Assigned, Waits, Computes, Agrees, answered_more, checking};
 ghost use Rattle.dice_jobs.specs.Alike.{AreAlike};
 ghost use Rattle.dice_jobs.specs.Shapes.{work_of};
 ghost use Rattle.core_laws.specs.Tasks.{Phase, IsReady, IsOut, IsWaiting, Ended, WithValue, WithNothing, goes_on, waits_for, value_in};
@@ -42,11 +42,13 @@ pub(crate) struct Spare<U: Universe> {
 }
 
 /// What a waiting task goes on with when its batch is answered, made ahead: what its job is for
-/// then, twice, and the answers.
+/// then, twice, and the answers; and whether these are known to be those of the trace that it
+/// checks.
 pub struct Next<U: Universe> {
     own: Assignment<U>,
     job: Assignment<U>,
     answers: Answers<U::Value>,
+    agreed: bool,
 }
 
 // (One function for all places that drop one: a derived drop is written out at each.)
@@ -56,6 +58,7 @@ impl<U: Universe> Drop for Next<U> {
             own: _own,
             job: _job,
             answers: _answers,
+            agreed: _,
         } = self;
     }
 }
@@ -68,45 +71,74 @@ impl<U: Universe> Model for Next<U> {
 
     ghost view = { λ n. record { job = n.job; values = n.answers } };
 
-    ghost invariant = { λ n. n.own ≡ n.job };
+    ghost use Rattle.std.specs.Prelude.{true};
+    ghost use Rattle.dice_jobs.specs.Jobs.{Agrees};
+
+    ghost invariant = { λ n. (n.own ≡ n.job) × (n.agreed ≡ true → Agrees n.job) };
 }
 
 impl<U: Universe> Next<U> {
     /// What a parked job goes on with when its batch has these answers, a value for each key.
-    pub(crate) fn of(parked: &Parked<U>, answers: Answers<U::Value>) -> Result<Next<U>, NoMemory>
-        requires { length answers ≡ length parked.now.keys }
+    /// `agreed` says that they are known to be those of the trace that is checked.
+    pub(crate) fn of(
+        parked: &Parked<U>,
+        answers: Answers<U::Value>,
+        agreed: bool,
+    ) -> Result<Next<U>, NoMemory>
+        requires count { length answers ≡ length parked.now.keys }
+        requires agreed { agreed ≡ true
+            → Agrees (answered_more parked.now.job parked.now.keys answers) }
         ensures { IfOk result (λ n. n
             ≡ record
             { job = answered_more parked.now.job parked.now.keys answers; values = answers }) }
     {
         let job = parked.answered(&answers)?;
         let own = job.try_clone()?;
-        Ok(Next { own, job, answers })
+        Ok(Next {
+            own,
+            job,
+            answers,
+            agreed,
+        })
     }
 
     /// What a job goes on with when the batch that it asks has these answers, a value for each key.
+    /// `agreed` says that they are known to be those of the trace that is checked.
     pub fn of_batch(
         assignment: &Assignment<U>,
         batch: &Batch<U::Key>,
         answers: Answers<U::Value>,
+        agreed: bool,
     ) -> Result<Next<U>, NoMemory>
-        requires { length answers ≡ length batch.now }
+        requires count { length answers ≡ length batch.now }
+        requires agreed { agreed ≡ true → Agrees (answered_more assignment.now batch.now answers) }
         ensures { IfOk result (λ n. n
             ≡ record { job = answered_more assignment.now batch.now answers; values = answers }) }
     {
         let job = assignment.extended(batch, &answers)?;
         let own = job.try_clone()?;
-        Ok(Next { own, job, answers })
+        Ok(Next {
+            own,
+            job,
+            answers,
+            agreed,
+        })
     }
 
     /// The job that goes on, and what the task keeps of it. It takes no memory.
+    #[inline(always)]
     fn of_parked(self, parked: Parked<U>) -> (Job<U>, Assignment<U>)
         requires count { length self.values ≡ length parked.keys }
         requires job { self.job ≡ answered_more parked.job parked.keys self.values }
         ensures { (result.0 ≡ self.job) × (result.1 ≡ self.job) }
     {
-        let Next { own, job, answers } = self;
-        (parked.resume(job, answers), own)
+        let Next {
+            own,
+            job,
+            answers,
+            agreed,
+        } = self;
+        (parked.resume(job, answers, agreed), own)
     }
 }
 
@@ -318,15 +350,17 @@ impl<U: Universe> Task<U> {
         put(&mut parts.load, Load::Parked(parked));
     }
 
-    /// What a waiting task goes on with when its batch has these answers, a value for each key. It
-    /// costs the number of keys and values, over all batches.
-    pub fn next(&self, answers: Answers<U::Value>) -> Result<Next<U>, NoMemory>
+    /// What a waiting task goes on with when its batch has these answers, a value for each key.
+    /// `agreed` says that they are known to be those of the trace that is checked. It costs the
+    /// number of keys and values, over all batches.
+    pub fn next(&self, answers: Answers<U::Value>, agreed: bool) -> Result<Next<U>, NoMemory>
         requires { (w : Waits U.Key U.Value) × (self.now ≡ held_of w.job (IsWaiting w.keys))
-            × (length answers ≡ length w.keys) }
+            × (length answers ≡ length w.keys)
+            × (agreed ≡ true → Agrees (answered_more w.job w.keys answers)) }
         ensures { IfOk result (λ n. FollowsOn self.now n × (n.values ≡ answers)) }
     {
         match &self.parts.load {
-            Load::Parked(parked) => Next::of(parked, answers),
+            Load::Parked(parked) => Next::of(parked, answers, agreed),
             _ => unreachable!(),
         }
     }

@@ -66,7 +66,7 @@ fn resumed(parked: Parked<Tiny>, answers: Answers<Value>) -> Result<Job<Tiny>, N
         return Err(NoMemory);
     }
     let next = parked.answered(&answers)?;
-    Ok(parked.resume(next, answers))
+    Ok(parked.resume(next, answers, false))
 }
 
 /// The step after this one, which is answered with these numbers; `NoMemory` if it does not ask as

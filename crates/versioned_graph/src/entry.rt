@@ -18,7 +18,7 @@ use version_ranges::Ranges;
 /// A value that was finished, the trace of its finish, the versions at which it is known to hold,
 /// and the greatest version at which it was finished or seen; and the keys from which an edge to
 /// its key is recorded.
-pub(crate) struct Entry<U: Universe> {
+pub struct Entry<U: Universe> {
     pub(crate) value: Arc<U::Value>,
     pub(crate) trace: Arc<Trace<U>>,
     pub(crate) ranges: Ranges,
@@ -56,6 +56,20 @@ impl<U: Universe> Model for Entry<U> {
 }
 
 impl<U: Universe> Entry<U> {
+    /// The value.
+    pub fn value(&self) -> &Arc<U::Value>
+        ensures { arc_value result.now ≡ self.now.value }
+    {
+        &self.value
+    }
+
+    /// Whether the value is known to hold at a version. It costs a binary search.
+    pub fn holds_at(&self, version: u64) -> bool
+        ensures { result ≡ contains self.now.ranges version }
+    {
+        self.ranges.contains(version)
+    }
+
     /// What the entry answers at a version.
     pub(crate) fn look(&self, universe: &U, version: u64) -> Found<'_, U>
         ensures { look_of result ≡ look U.meaning.is_transient (Some (kept_of self.now)) version }

@@ -90,6 +90,14 @@ impl<U: Universe> Graph<U> {
         self.store.lookup(key, version)
     }
 
+    /// What is kept of a key, if anything. It costs one look-up.
+    pub fn entry(&self, key: &Arc<U::Key>) -> Option<&Entry<U>>
+        ensures { option_map (λ e. kept_of e.now) result
+            ≡ entry_at U.Key.eq self.now (arc_value key.now) }
+    {
+        self.store.entry(key)
+    }
+
     /// After a match notes that the key's value was seen at the version. It takes no memory.
     pub fn seen(&mut self, key: &Arc<U::Key>, version: u64)
         ensures entries { (q : U.Key)

@@ -11,5 +11,6 @@ mod reach;
 mod store;
 mod users;
 
+pub use entry::Entry;
 pub use found::{Found, Why};
 pub use graph::Graph;

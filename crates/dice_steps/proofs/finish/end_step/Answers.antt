@@ -7,12 +7,22 @@ use Rattle.dice_tasks.specs.Helds.{task_of}
 use Rattle.dice_tasks.specs.Endings.{TellsEnd}
 use Rattle.dice_tasks.specs.Entries.{EntriesStand}
 use Rattle.dice_tasks.proofs.EndsLemmas.{working_knows}
+use Rattle.dice_steps.proofs.AgreedLemmas.{all_agree}
 use Rattle.dice_steps.proofs.FinishLemmas.{at_room, stands_at, within, told_of, ends_on, may_wake_now, ends_and_wakes, at_ended, entries_ended, entries_kept}
 use Rattle.dice_steps.proofs.WokenLemmas.{has_answers}
 use Rattle.dice_steps.proofs.finish.end_step.Goals as goal
 
-pub prepare_end-requires-after_bounds : goal.prepare_end-requires-after_bounds
-prepare_end-requires-after_bounds g c κs bounds =
+pub prepare_end-requires-clause-agree : goal.prepare_end-requires-clause-agree
+prepare_end-requires-clause-agree g c κs bounds =
+    let r = c.requires.at_hand in
+    let eq = g.U.Key.PartialEq.eq in
+    let m = g.U.Universe.meaning in
+    let k = arc_value c.args.key.now in
+    all_agree eq m (reverse c.args.desk.now.events) c.args.graph.now r.1.entries c.args.version [] c.args.tasks.now
+    (stands_at eq c.laws_of.ensures.keys m c.laws_of.ensures.lawful c.args.version k r.0 c.args.owed c.args.tasks.now c.args.desk.now c.args.graph.now c.args.cells.now r.1) c.args.cells.now k (arc_value c.args.value.now) c.args.step.now.job c.requires.out
+
+pub prepare_end-requires-clause-answers : goal.prepare_end-requires-clause-answers
+prepare_end-requires-clause-answers g c κs bounds =
     let r = c.requires.at_hand in
     let eq = g.U.Key.PartialEq.eq in
     let m = g.U.Universe.meaning in
