@@ -126,7 +126,6 @@ impl<U: Universe> Next<U> {
     }
 
     /// The job that goes on, and what the task keeps of it. It takes no memory.
-    #[inline(always)]
     fn of_parked(self, parked: Parked<U>) -> (Job<U>, Assignment<U>)
         requires count { length self.values ≡ length parked.keys }
         requires job { self.job ≡ answered_more parked.job parked.keys self.values }

@@ -7,7 +7,7 @@ ghost use Rattle.injected.specs.Seen.{cell_at};
 ghost use Rattle.dice_model.specs.Asks.{IsTrace};
 ghost use Rattle.dice_model.specs.Eval.{HasValue};
 ghost use Rattle.versioned_graph.specs.Edges.{CommitReaches, Records, IsCut, is_edge};
-ghost use Rattle.versioned_graph.specs.Entries.{Kept, entry_at, finished, seen_at, writers_with, writes_trace, written};
+ghost use Rattle.versioned_graph.specs.Entries.{Kept, entry_at, finished, kept_of, seen_at, writers_with, writes_trace, written};
 ghost use Rattle.versioned_graph.specs.Looks.{look_of, look, Matches};
 ghost use Rattle.versioned_graph.specs.Sound.{AreTrue, AreTracedAt, Holds};
 ghost use Rattle.lists.specs.Lists.{Has};
