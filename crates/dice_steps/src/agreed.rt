@@ -53,7 +53,7 @@ pub(crate) fn holds_at_base<U: Universe>(
     assignment: &Assignment<U>,
     batch: &Batch<U::Key>,
 ) -> bool
-    ensures { result ≡ true → (e : Stored U.Key U.Value) × (option_copied kept ≡ Some e)
+    ensures { result ≡ true → (e : Stored U.Key U.Value) × (option_copied kept.entry ≡ Some e)
         × HoldsAtBase (kept_of e) assignment.now batch.now }
 {
     let Some(entry) = kept else {

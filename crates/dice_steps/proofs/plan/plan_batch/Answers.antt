@@ -26,7 +26,7 @@ of_batch-requires-clause-agreed g c κs within agreed =
     let some = rw c.in-Some.is at c.in_ok-answers.ensures.some in
     at_hand_agrees eq m c.laws_of.ensures.keys c.laws_of.ensures.lawful a.name.version r.0 c.args.owed a ks c.args.tasks.now c.reserve_parts.new.tasks c.args.desk.now c.args.graph.now c.args.cells.now r.1 c.requires.out c.requires.next c.reserve_parts.ensures.tasks c.in-Some.answers
     (subst (λ v. AllZip (IsAtHand eq m v c.reserve_parts.new.tasks c.args.graph.now c.args.cells.now) ks c.in-Some.answers) version some)
-    (subst (λ v. HoldsAtBoth eq c.args.graph.now v a ks) version (c.holds_at_both.ensures agreed))
+    (subst (λ v. HoldsAtBoth eq c.args.graph.now v a ks) version (c.holds_at_both-agreed.ensures agreed))
 
 pub returns-then-not-is_empty-clause-plan : goal.returns-then-not-is_empty-clause-plan
 returns-then-not-is_empty-clause-plan g c =

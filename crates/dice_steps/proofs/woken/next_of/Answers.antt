@@ -48,7 +48,7 @@ next-requires-after_bounds g c κs within =
       w,
       is,
       zip_length _ _ _ z,
-      λ on. (let h = c.holds_at_base.ensures on in
+      λ on. (let h = c.holds_at_base-agreed.ensures on in
           let entry = subst (λ o. IfSome o (λ e. IsEntryOf eq agrees.0 k x (kept_of e))) h.1 agrees.1 in
           agrees.2 w (kept_of h.0) c.loop-asked.answers c.requires.waits.held entry (subst (λ a. HoldsAtBase (kept_of h.0) a w.keys) job (subst (λ ks. HoldsAtBase (kept_of h.0) c.in-Some-assignment.assignment.now ks) keys h.2)) z),
     )

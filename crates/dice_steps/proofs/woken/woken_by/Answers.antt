@@ -15,7 +15,7 @@ next_of-requires-clause-agrees g c κs within =
     let eq = g.U.Key.PartialEq.eq in
     let j = arc_value c.asker-item.result in
     let on = sym (c.askers.ensures.tasks j) ∙ has_any eq c.laws_of.ensures.keys (map arc_value c.askers.result.tasks.now) j (among arc_value c.askers.result.tasks.now c.loop-asker.asker-index c.asker-item.result c.loop-asker-test.true c.asker-item.is) in
-    (c.args.graph.now, c.shared_entry.ensures, c.requires.agree j on)
+    (c.args.graph.now, c.shared_entry-kept.ensures, c.requires.agree j on)
 
 pub next_of-requires-clause-waits : goal.next_of-requires-clause-waits
 next_of-requires-clause-waits g c κs within =
