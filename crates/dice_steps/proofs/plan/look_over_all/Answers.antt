@@ -28,7 +28,7 @@ loop-key-init g c =
     record {
       parts = subst (λ zs. AreParts eq g.U.Universe.meaning c.args.version c.args.born c.args.tasks.now c.args.graph.now (arc_value c.args.own.now) [] zs) (sym c.new-parts.ensures.items) (parts_none eq g.U.Universe.meaning c.args.version c.args.born c.args.tasks.now c.args.graph.now (arc_value c.args.own.now));
       order = subst (λ zs. AreInOrder [] (map key_in zs)) (sym c.new-parts.ensures.items) (λ x y h. absurd h);
-      seen = λ q. ap (λ z. list_any (λ a. eq q (arc_value a)) z) c.new-seen.ensures.empty ∙ sym (ap (λ zs. list_any (eq q) (map key_in zs)) c.new-parts.ensures.items);
+      seen = λ q. ap (λ z. list_any (λ a. eq q (arc_value a)) z) c.with_hasher-seen.ensures.empty ∙ sym (ap (λ zs. list_any (eq q) (map key_in zs)) c.new-parts.ensures.items);
     }
 
 pub loop-key-preserved-then-not-branch : goal.loop-key-preserved-then-not-branch
