@@ -11,11 +11,7 @@ use std::collections::HashMap;
 
 /// Nothing has a name yet; names are hashed by this seed. There is room for so many names, if there is memory for it; otherwise it
 /// is made as they come.
-pub(crate) fn with_room<V: Drop>(
-    alloc: Global,
-    seed: Seed,
-    count: usize,
-) -> HashMap<Text, V, Seed>
+pub(crate) fn with_room<V: Drop>(alloc: Global, seed: Seed, count: usize) -> HashMap<Text, V, Seed>
     ensures { (q : List ℕ) → get (pointwise nat_eq) result q ≡ None }
 {
     match HashMap::with_capacity_and_hasher(alloc, count, seed) {
