@@ -28,8 +28,10 @@ fn status<R: Input + Print + Threads + Wait + Sync>(rt: &R, alloc: Global, given
     let mut sink = RealSink::new(rt);
     let mut kept = None;
     let status = run(rt, alloc, &texts, &mut source, &mut sink, &Open, &mut kept);
-    // The process ends here, and what the engine holds goes with it.
-    mem::forget(kept);
+    if let Some(kept) = kept {
+        // The process ends here, and what the engine held goes with it.
+        mem::forget(kept.end(rt));
+    }
     status
 }
 

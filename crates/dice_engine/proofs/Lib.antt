@@ -10,3 +10,4 @@ pub mod Listing
 pub mod Jobs
 pub mod Quieted
 pub mod Shelved
+pub mod Looking

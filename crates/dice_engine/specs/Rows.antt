@@ -1,5 +1,6 @@
 -- What of a journal stands on a shelf, and how far a shelf has taken a journal up.
 use Rattle.std.specs.Prelude.{◌≡◌, ◌≢◌, ◌≤◌, ◌<◌, ℕ, Bool, List, [], ◌∷◌, ◌++◌, length, map, take, reverse, slice_get, Option, Some, None}
+use mathlib.Core.List.{IsPrefix}
 use Rattle.dice_key.specs.Meaning.{Meaning}
 use Rattle.dice_key.specs.declared.universe.Kind.TheVariants.{Injected}
 use Rattle.dice_model.specs.Eval.{HasValue}
@@ -51,6 +52,12 @@ module _ {K V : Type 0} where
   -- order, and nothing else. By `IsSound` a row has the value of its key.
   abbrev pub ShelfHas : List (Told K V) → List (Plain K V) → Type 0
   ShelfHas J ops = map item_of ops ≡ items_of J
+
+  -- the list begins with the rows of the journal
+  pub record BeginsWithRows (J : List (Told K V)) (ops : List (Plain K V)) : Type 0 where
+    pub told : List (Plain K V)
+    pub has : ShelfHas J told
+    pub begins : IsPrefix told ops
 
   -- nothing is on the shelf
   abbrev pub IsBare : LedgeView K V → Type 0

@@ -34,6 +34,23 @@ impl<U: Universe> Drop for Engine<U> {
     }
 }
 
+/// What an engine held that has ended. It goes when this is dropped. A process that ends may forget
+/// it.
+pub struct Ended<U: Universe> {
+    core: Box<Core<U>>,
+    universe: Arc<U>,
+}
+
+// (One function for all places that drop one.)
+impl<U: Universe> Drop for Ended<U> {
+    fn drop(self) {
+        let Ended {
+            core: _core,
+            universe: _universe,
+        } = self;
+    }
+}
+
 impl<U: Universe> Model for Engine<U> {
     ghost use Rattle.atomic_table.specs.Seated.{TableId, table_id_coded};
 
@@ -107,15 +124,13 @@ impl<U: Universe> Engine<U> {
 
     /// Waits for a turn of this seat, and ends the engine and its shelf in it. If the turn of
     /// another seat was never left, it waits for ever. It takes no memory. Later looks of readers
-    /// are refused.
-    pub fn end<R: Wait>(self, rt: &R, seat: Seat<U>)
+    /// are refused. What the engine held goes with the answer.
+    pub fn end<R: Wait>(self, rt: &R, seat: Seat<U>) -> Ended<U>
         requires seat { IsSeatOf self seat }
     {
-        let Engine {
-            stile,
-            universe: _universe,
-        } = self;
-        stile.end(rt, seat).end(rt);
+        let Engine { stile, universe } = self;
+        let core = stile.end(rt, seat).end(rt);
+        Ended { core, universe }
     }
 
     /// Whether a seat has a turn or waits for one just now. It is a hint, by which a seat that can

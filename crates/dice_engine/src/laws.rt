@@ -1,19 +1,23 @@
 //! What callers keep of a seat from one call to the next, as contracts. None of these functions
 //! does any work.
-ghost use Rattle.std.specs.Prelude.{◌≡◌, ◌≢◌, ◌<◌, ◌⊎◌, ◌∷◌, ◌++◌, ℕ, List, [], reverse, Some};
+ghost use Rattle.std.specs.Prelude.{◌≡◌, ◌≢◌, ◌<◌, ◌≤◌, ◌⊎◌, ◌∷◌, ◌++◌, ℕ, List, [], reverse, Some};
 ghost use Rattle.dice_key.specs.declared.universe.Kind.TheVariants.{Injected};
+ghost use Rattle.dice_model.specs.Eval.{HasValue};
 ghost use Rattle.journal.specs.declared.event.Told.{Told};
 ghost use Rattle.journal.specs.declared.event.Told.TheVariants.{Open, Close};
-ghost use Rattle.journal.specs.Events.{Opened, Decision, NotClosed, ByCycle, decided, open_at, live_at, StandsAt, NotLeft};
+ghost use Rattle.journal.specs.Events.{Opened, Decision, NotClosed, ByValue, ByCycle, decided, open_at, live_at, StandsAt, NotLeft};
 ghost use Rattle.journal.specs.Law.{IsLawfulJournal};
 ghost use Rattle.journal.specs.Tell.{event_by};
 ghost use Rattle.atomic_table.specs.Seated.{TableId};
 ghost use Rattle.turnstile.specs.Events.{StartsWith, events_by, AllBelow};
 ghost use Rattle.turnstile.specs.Seats.{SeatView, IsSeatOf};
-ghost use Rattle.dice_engine.specs.Turns.{log_of, Later, Turn, Works};
+ghost use Rattle.shelf.specs.declared.op.Plain.{Plain};
+ghost use Rattle.shelf.specs.Ops.{row_at, IsSound};
+ghost use Rattle.dice_engine.specs.Turns.{newest_in, log_of, Later, Turn, Works};
 ghost use Rattle.dice_engine.specs.Conditions.{HasOpen, HasAsk, SawAsk};
 ghost use Rattle.dice_engine.specs.Calls.{Closes};
 ghost use Rattle.dice_engine.specs.Replies.{Reply, TheValue, TheCycle, NoRoom, NotYet, NotLive, IsReply, IsLiveIn, IsValued};
+ghost use Rattle.dice_engine.specs.Rows.{BeginsWithRows};
 ghost use Rattle.lists.specs.Lists.{Has};
 
 use dice_key::{Universe, laws_of};
@@ -113,3 +117,22 @@ pub fn replies_are_exact<U: Universe>()
         → U.meaning.kind k ≢ Injected → decided U.Key.eq (reverse J) v k ≡ Some ByCycle
         → ((p : List U.Key) × (r ≡ TheCycle p)) ⊎ (r ≡ NoRoom) }
 {}
+
+/// What a look finds after a true `tell`, when the list that the reader sees is sound and begins
+/// with the rows of the journal that the seat saw then. A row at a version of that journal has the
+/// value of its key over the commits of the journal; and of a key that the journal shows decided by
+/// a value there is such a row.
+pub fn looks_after_a_tell<U: Universe>()
+    ensures value { (J : List (Told U.Key U.Value)) (seen : List (Plain U.Key U.Value)) (v : ℕ)
+        (k : U.Key) (x : U.Value) → BeginsWithRows J seen → IsSound U.Key.eq U.meaning seen
+        → v ≤ newest_in J → row_at (U.Key.eq k) v seen ≡ Some x
+        → HasValue U.Key.eq U.meaning (log_of J) v k x }
+    ensures decided { (J : List (Told U.Key U.Value)) (seen : List (Plain U.Key U.Value)) (v : ℕ)
+        (k : U.Key) → BeginsWithRows J seen → IsSound U.Key.eq U.meaning seen
+        → IsLawfulJournal U.Key.eq U.meaning J
+        → decided U.Key.eq (reverse J) v k ≡ Some ByValue
+        → (x : U.Value) × (row_at (U.Key.eq k) v seen ≡ Some x)
+        × HasValue U.Key.eq U.meaning (log_of J) v k x }
+{
+    laws_of::<U>();
+}

@@ -17,12 +17,12 @@ mod workers;
 mod working;
 
 pub use dice_core::CommitRefusal;
-pub use engine::{Engine, Seat};
+pub use engine::{Ended, Engine, Seat};
 pub use gate::{Gate, Open};
 pub use journal::{Cause, Changes, Event};
 pub use laws::{
-    conditions_stay, decided_when_closed, decisions_stay, one_writer_knows_all, own_asks_are_live,
-    replies_are_exact, turns_go_on,
+    conditions_stay, decided_when_closed, decisions_stay, looks_after_a_tell, one_writer_knows_all,
+    own_asks_are_live, replies_are_exact, turns_go_on,
 };
 pub use promise::{Answer, Promise, Settled, Transaction, Worked};
 pub use settling::{leaving_decides_nothing, nothing_hangs, pending_is_exact};

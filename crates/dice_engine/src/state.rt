@@ -144,10 +144,10 @@ impl<U: Universe> State<U> {
         }
     }
 
-    /// Ends the shelf, if there is one, and lets the rest go.
-    pub(crate) fn end<R: Wait>(self, rt: &R) {
+    /// Ends the shelf, if there is one, and hands out the core.
+    pub(crate) fn end<R: Wait>(self, rt: &R) -> Box<Core<U>> {
         let State {
-            core: _core,
+            core,
             shelf,
             left: _,
             newest: _,
@@ -155,6 +155,7 @@ impl<U: Universe> State<U> {
         if let Some(shelf) = shelf {
             Box::into_inner(shelf).end(rt);
         }
+        core
     }
 
     /// What readers can see now, for a reader that learns it; `None` if there is no shelf.

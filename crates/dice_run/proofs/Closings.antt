@@ -17,12 +17,14 @@ use Rattle.script_trace.specs.Output.{key_of}
 use Rattle.dice_run.specs.Seats.{Place, IsOurs, Rests}
 use Rattle.script_trace.specs.Events.{Events, Indices, AddsEnd, AddsEnds, IsDecided, IsJournalOf}
 use Rattle.dice_run.specs.Driving.{transaction_of, Steps, DidClose}
-use Rattle.dice_run.specs.Recording.{WasDecided, IsRecorded, OpenedIn}
+use Rattle.dice_run.specs.Looking.{WasDecided}
+use Rattle.dice_run.specs.Recording.{IsUnpolled, IsRecorded, OpenedIn}
 use Rattle.dice_run.specs.Driven.{Settled, Closing, ClosesOpen}
 use Rattle.dice_run.specs.declared.driver.Driver.{Driver}
 use Rattle.dice_run.proofs.Steps.{own_name, by_name, close_stands}
 use Rattle.dice_run.proofs.Ending.{closed_fate}
-use Rattle.dice_run.proofs.Recorded.{begins_on, begins_itself, decided_on, knows_closed}
+use Rattle.dice_run.proofs.Seating.{begins_on, begins_itself}
+use Rattle.dice_run.proofs.Recorded.{decided_on, knows_closed}
 use Rattle.dice_run.proofs.Deciding.{decided_at_close}
 use Rattle.lists.specs.Lists.{Has}
 use Rattle.lists.proofs.Options.{none_some, some_same}
@@ -52,8 +54,9 @@ opened_later (Close u ∷ ls) past t h = elim (opened_later ls (after past (Clos
     false_true : Some false ≡ Some true → ⊥
     false_true e = cc
 
-pub closing_first : (id : TableId) (ls : List Line) (d : Driver) → Settled id ls d → Closing id ls ls d
-closing_first id ls d s = record {
+pub closing_first : (id : TableId) (ls : List Line) (d : Driver) → Settled id ls d → d.outlook.unpolled.items ≡ [] → Closing id ls ls d
+closing_first id ls d s polled = record {
+  polled = polled;
   past = s.past;
   stands = s.stands;
   newest = s.newest;
@@ -77,6 +80,7 @@ closing_first id ls d s = record {
 pub closing_past : (id : TableId) (ls rest : List Line) (l : Line) (d : Driver) → ((n : Indices) (table : Table Bool) (es : Events) → AddsEnds n table rest es → AddsEnds n table (l ∷ rest) es) → ((t : List ℕ) → OpenedIn (l ∷ rest) t → OpenedIn rest t)
     → Closing id ls (l ∷ rest) d → Closing id ls rest d
 closing_past id ls rest l d f g c = record {
+  polled = c.polled;
   past = c.past;
   stands = c.stands;
   newest = c.newest;
@@ -104,6 +108,7 @@ module _ (id : TableId) (ls rest : List Line) (t : List ℕ) (d e : Driver) wher
   -- the transaction is closed already
   was_closed : transaction_of d t ≡ None → (c : Closing id ls (Open t ∷ rest) d) → Closing id ls rest d
   was_closed none c = record {
+    polled = c.polled;
     past = c.past;
     stands = c.stands;
     newest = c.newest;
@@ -138,6 +143,7 @@ module _ (id : TableId) (ls rest : List Line) (t : List ℕ) (d e : Driver) wher
   -- it is closed now
   is_closed : (c : Closing id ls (Open t ∷ rest) d) → DidClose id t d e → Closing id ls rest e
   is_closed c x = record {
+    polled = ap (λ o. o.unpolled.items) x.outlook ∙ c.polled;
     past = after c.past (Close t);
     stands = w.stands;
     newest = w.newest ∙ (append-nil d.newest.items ∙ c.newest);
@@ -146,7 +152,7 @@ module _ (id : TableId) (ls rest : List Line) (t : List ℕ) (d e : Driver) wher
       indices = c.records.indices;
       knows = knows_closed id d e (plan_of ls) c.past t x c.records.indices c.records.knows;
       own = c.records.own;
-      lines = λ J b. c.records.lines J (begins_on d.seat.seen e.seat.seen J b x.goes.later.begins);
+      lines = λ J b. c.records.lines J (begins_on d.seat.seen e.seat.seen J b x.goes.begins);
       closing = c.records.closing ++ own;
       mine = x.goes.mine ∙ (ap (λ (es : Events). es ++ own) c.records.mine ∙ append_assoc c.records.own c.records.closing own);
       table = with_entry t false c.records.table;
@@ -168,7 +174,7 @@ module _ (id : TableId) (ls rest : List Line) (t : List ℕ) (d e : Driver) wher
   }
     where
       w : Steps id (is_cancelled ls) (plan_of ls) c.past (Close t) d e
-      w = close_stands id (is_cancelled ls) d e (plan_of ls) c.past t c.stands x
+      w = close_stands id (is_cancelled ls) d e (plan_of ls) c.past t c.stands c.polled x
 
       own : Events
       own = told.Close 0 x.transaction.opened ∷ []
@@ -196,7 +202,10 @@ module _ (id : TableId) (ls : List Line) (d : Driver) (u : Place) (c : Closing i
   mine_is : events_by event_by 0 u.seen ≡ d.seat.mine
   mine_is = rest.0.mine ∙ rest.2
 
-  by_open : (r : Planned) → (i : IsRecorded d.seat.seen c.records.indices c.past r) → WasDecided d.seat.seen i.transaction r.version (key_of r.wish) → (o : Option Bool) → c.past.opened r.transaction ≡ o → IsDecided u.seen c.records.indices r
+  none_unpolled : (t : ℕ) (r : Planned) → IsUnpolled d.outlook.unpolled.items t r → ⊥
+  none_unpolled t r p = subst (λ xs. Has xs p.pledge) c.polled p.has
+
+  by_open : (r : Planned) → (i : IsRecorded d.seat.seen d.outlook.unpolled.items c.records.indices c.past r) → WasDecided d.seat.seen i.transaction r.version (key_of r.wish) → (o : Option Bool) → c.past.opened r.transaction ≡ o → IsDecided u.seen c.records.indices r
   by_open r i w None e = absurd (i.known e)
   by_open r i w (Some true) e = absurd (c.records.left r.transaction e)
   by_open r i w (Some false) e =
@@ -228,7 +237,7 @@ module _ (id : TableId) (ls : List Line) (d : Driver) (u : Place) (c : Closing i
     events = mine_is ∙ c.records.mine;
     decisions = λ r h n.
         let i = c.records.knows.requests r h in
-        by_open r i (i.decided (c.answered r h n)) (c.past.opened r.transaction) refl;
+        by_open r i (elim (i.decided (c.answered r h n)) as (λ _. WasDecided d.seat.seen i.transaction r.version (key_of r.wish)) [ inl w ↦ w | inr p ↦ absurd (none_unpolled i.transaction r p) ]) (c.past.opened r.transaction) refl;
   }
 
 pub rests_itself : (id : TableId) (s : Place) → IsOurs id s → Rests id s s

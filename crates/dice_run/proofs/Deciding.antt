@@ -15,7 +15,7 @@ use Rattle.action_digest.specs.declared.value.Value.{Value}
 use Rattle.action_digest.specs.Buck.{buck}
 use Rattle.action_digest.specs.Same.{key_equal}
 use Rattle.script_trace.specs.Events.{Events, IsDecidedIn}
-use Rattle.dice_run.specs.Recording.{WasDecided}
+use Rattle.dice_run.specs.Looking.{WasDecided}
 use Rattle.dice_run.proofs.Seating.{stands_below}
 use Rattle.lists.specs.Lists.{Has}
 use Rattle.lists.proofs.Options.{none_some, some_same}

@@ -18,12 +18,14 @@ use Rattle.journal.specs.declared.event.Told.{Told}
 use Rattle.dice_engine.specs.Turns.{log_of as engine_log}
 use Rattle.action_digest.specs.declared.key.Key.{Key}
 use Rattle.action_digest.specs.declared.value.Value.{Value}
-use Rattle.dice_run.specs.Driving.{IsAt, IsTold, IsReady, Matches, Starts, Steps, newest_of, newest_from}
+use Rattle.dice_run.specs.Driving.{Confirms, IsAt, IsTold, IsReady, Matches, Starts, Steps, newest_of, newest_from}
 use Rattle.dice_run.specs.Driven.{Carried, Settled, Closing, Settling, AskedIn, Waiting}
 use Rattle.dice_run.specs.Recording.{Records, RecordsStep}
 use Rattle.dice_run.specs.Printing.{IsDone}
 use Rattle.dice_run.specs.declared.driver.Driver.{Driver}
-use Rattle.dice_run.proofs.Recorded.{records_first}
+use Rattle.dice_run.proofs.Viewing.{looks_none}
+use Rattle.dice_run.proofs.Recorded.{records_first, records_confirmed}
+use Rattle.dice_run.proofs.Steps.{confirm_stands}
 use Rattle.lists.proofs.Members.{has_end, has_last, has_more}
 use Rattle.lists.proofs.Places.{drop_item}
 use Rattle.lists.specs.Lists.{Has}
@@ -54,6 +56,7 @@ starts_stands id d s = record {
   pledged = λ q x h. absurd (none_some (sym (s.promises q) ∙ h));
   asks_apart = λ q r x y h i e. absurd (none_some (sym (s.promises q) ∙ h));
   requests = λ r h. absurd h;
+  looks = looks_none d s.sees s.unpolled;
   found = λ q a h. absurd (none_some h);
   distinct = tt;
   touched = λ q t h. h;
@@ -205,6 +208,17 @@ waiting_end id ls d w = record {
   records = w.settling.records;
   opened = w.settling.opened;
   answered = λ r h n. elim (w.left r h n) as (λ _. fate_of w.past r.name ≡ Some fate.Answered) [ inl a ↦ a | inr b ↦ absurd b ];
+}
+
+-- the promises that looks answered were polled
+pub settled_confirmed : (id : TableId) (ls : List Line) (d e : Driver) → Settled id ls d → Confirms id d e → Settled id ls e
+settled_confirmed id ls d e s x = record {
+  past = s.past;
+  stands = confirm_stands id d e (plan_of ls) s.past s.stands x;
+  newest = ap (λ v. v.items) x.newest ∙ s.newest;
+  answered = s.answered;
+  records = records_confirmed id ls [] d e (plan_of ls) s.past s.stands x s.records;
+  opened = s.opened;
 }
 
 -- a line that is no request

@@ -2,10 +2,12 @@ pub mod Changing
 pub mod Inputs
 pub mod Seating
 pub mod Turning
+pub mod Viewing
 pub mod Steps
 pub mod Ending
 pub mod Printed
 pub mod Recorded
+pub mod Polling
 pub mod Deciding
 pub mod Traced
 pub mod Closings

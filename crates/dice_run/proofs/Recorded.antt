@@ -34,22 +34,18 @@ use Rattle.script_trace.specs.Output.{log_of, pairs_of_changes, key_of}
 use Rattle.dice_run.specs.Commits.{differs_from}
 use Rattle.dice_run.specs.Seats.{Place, log_in, IsOurs, Goes}
 use Rattle.script_trace.specs.Events.{Events, Indices, no_indices, IsNext, AddsLine, AddsLines, AddsAsk, IsDecidedIn, commit_events}
-use Rattle.dice_run.specs.Driving.{Pledge, transaction_of, pledge_of, IsPending, IsAt, IsMade, Matches, KeepsNames, with_named, DidOpen, DidAsk, DidWait, was_told, is_told, DidCancel, DidClose, Starts}
-use Rattle.dice_run.specs.Recording.{WasDecided, IsRecorded, KnowsIndices, Records, RecordsStep}
+use Rattle.dice_run.specs.Looking.{Pledge, IsLive, WasDecided, WereDecided}
+use Rattle.dice_run.specs.Driving.{Confirms, IsKnown, transaction_of, pledge_of, IsPending, IsAt, IsMade, Matches, KeepsNames, with_named, DidOpen, DidAsk, DidWait, was_told, is_told, DidCancel, DidClose, Starts}
+use Rattle.dice_run.specs.Recording.{IsUnpolled, IsRecorded, KnowsIndices, Records, RecordsStep}
 use Rattle.dice_run.specs.declared.driver.Driver.{Driver}
 use Rattle.dice_run.proofs.Changing.{differing_same}
-use Rattle.dice_run.proofs.Seating.{stands_below}
+use Rattle.dice_run.proofs.Seating.{onward, begins_on, begins_itself, stands_below}
+use Rattle.dice_run.proofs.Viewing.{live_on}
 use Rattle.dice_run.proofs.Steps.{own_name, at_name, past_name, by_name, other_request, live_there}
 use Rattle.lists.proofs.Members.{has_end, has_last, has_left}
 use Rattle.lists.specs.Lists.{Has}
 use Rattle.bulk_script.proofs.Blocks.{differ}
 use Rattle.lists.proofs.Options.{none_some, some_same}
-
-pub begins_on : (I J K : Events) → StartsWith K J → StartsWith J I → StartsWith K I
-begins_on I J K a b = (b.0 ++ a.0, a.1 ∙ (ap (λ (x : Events). x ++ a.0) b.1 ∙ append_assoc I b.0 a.0))
-
-pub begins_itself : (J : Events) → StartsWith J J
-begins_itself J = ([], sym (append-nil J))
 
 below_none : (n : ℕ) → n < 0 → ⊥
 below_none n h = omega arith
@@ -96,14 +92,24 @@ pub decided_on : (I J : Events) (t v : ℕ) (k : Key) → StartsWith J I → Was
 decided_on I J t v k b w = record { earlier = w.earlier; begins = begins_on w.earlier I J b w.begins; opening = w.opening; open_ = w.open_; decided = w.decided }
 
 -- a request that is recorded stays so
-recorded_on : (I J : Events) (n m : Indices) (past new : Past) (r : Planned) → StartsWith J I → m.opened r.transaction ≡ n.opened r.transaction → (past.opened r.transaction ≢ None → new.opened r.transaction ≢ None)
-    → (fate_of new r.name ≡ Some fate.Answered → fate_of past r.name ≡ Some fate.Answered) → IsRecorded I n past r → IsRecorded J m new r
-recorded_on I J n m past new r b same known f i = record {
+recorded_on : (I J : Events) (xs ys : List Pledge) (n m : Indices) (past new : Past) (r : Planned) → StartsWith J I → ((x : Pledge) → Has xs x → Has ys x) → m.opened r.transaction ≡ n.opened r.transaction → (past.opened r.transaction ≢ None → new.opened r.transaction ≢ None)
+    → (fate_of new r.name ≡ Some fate.Answered → fate_of past r.name ≡ Some fate.Answered) → IsRecorded I xs n past r → IsRecorded J ys m new r
+recorded_on I J xs ys n m past new r b more same known f i = record {
   transaction = i.transaction;
   opened = same ∙ i.opened;
   known = known i.known;
-  decided = λ e. decided_on I J i.transaction r.version (key_of r.wish) b (i.decided (f e));
+  decided = λ e. elim (i.decided (f e)) as (λ _. WasDecided J i.transaction r.version (key_of r.wish) ⊎ IsUnpolled ys i.transaction r) [
+    | inl w ↦ inl (decided_on I J i.transaction r.version (key_of r.wish) b w)
+    | inr u ↦ inr (record { pledge = u.pledge; has = more u.pledge u.has; opened = u.opened; version = u.version; key = u.key })
+  ];
 }
+
+-- what is still to be polled is as it was
+unpolled_same : (d e : Driver) → e.outlook.unpolled ≡ d.outlook.unpolled → (x : Pledge) → Has d.outlook.unpolled.items x → Has e.outlook.unpolled.items x
+unpolled_same d e s x = subst (λ v. Has v.items x) (sym s)
+
+outlook_same : (d e : Driver) → e.outlook ≡ d.outlook → (x : Pledge) → Has d.outlook.unpolled.items x → Has e.outlook.unpolled.items x
+outlook_same d e s = unpolled_same d e (ap (λ o. o.unpolled) s)
 
 -- ---- put, drop and commit
 
@@ -119,7 +125,7 @@ knows_kept d e p o past new n own b mine k rs eo ea i = record {
   opened = λ t x h. i.opened t x (sym (same_transaction d e k t) ∙ h);
   asked = λ q x h. i.asked q x (sym (same_pledge d e k q) ∙ h);
   closed = λ t h. (let c = i.closed t (ap (λ (f : Table Bool). f t) (sym eo) ∙ h) in (c.0, c.1, subst (λ (xs : Events). Has xs (told.Close 0 c.0)) (sym mine) (has_left d.seat.mine own _ c.2)));
-  requests = λ r h. recorded_on d.seat.seen e.seat.seen n n past new r b refl
+  requests = λ r h. recorded_on d.seat.seen e.seat.seen d.outlook.unpolled.items e.outlook.unpolled.items n n past new r b (outlook_same d e k.outlook) refl
       (λ g z. g (ap (λ (f : Table Bool). f r.transaction) (sym eo) ∙ z))
       (λ z. ap (λ (f : Table Asked). option_map (λ (a : Asked). a.fate) (f r.name)) (sym ea) ∙ z)
       (i.requests r (subst (λ (x : List Planned). Has x r) rs h));
@@ -149,8 +155,8 @@ commit_same C g p ec eg =
 pub commit_records : (id : TableId) (p : Plan) (past : Past) (d e : Driver) → Matches id d p past → Goes id d.seat e.seat (event_of 0 (differing_from key_equal value_equal buck (log_in d.seat) d.gathered)) → KeepsNames d e → RecordsStep p past line.Commit d e
 commit_records id p past d e m goes k ls rest r =
     let own = event_of 0 (differing_from key_equal value_equal buck (log_in d.seat) d.gathered) in
-    records_on ls rest line.Commit d e p past r goes.later.begins own r.indices (λ J s. (commit_same (log_in d.seat) d.gathered p m.log m.gathered, refl)) goes.mine
-    (knows_kept d e p (planned (is_cancelled ls) p line.Commit) past (after past line.Commit) r.indices own goes.later.begins goes.mine k refl refl refl r.knows)
+    records_on ls rest line.Commit d e p past r goes.begins own r.indices (λ J s. (commit_same (log_in d.seat) d.gathered p m.log m.gathered, refl)) goes.mine
+    (knows_kept d e p (planned (is_cancelled ls) p line.Commit) past (after past line.Commit) r.indices own goes.begins goes.mine k refl refl refl r.knows)
 
 -- ---- open
 
@@ -171,7 +177,8 @@ module _ (id : TableId) (d e : Driver) (p : Plan) (past : Past) (t : List ℕ) (
         (c.0, ap (λ b. cond b (Some x.transaction.opened) (n.opened u)) f ∙ c.1, subst (λ (xs : Events). Has xs (told.Close 0 c.0)) (sym x.opens.goes.mine) (has_left d.seat.mine open_own _ c.2))));
     requests = λ r h. (let z = i.requests r h in
         let f = differ t r.transaction (λ s. z.known (ap past.opened (sym s) ∙ new)) in
-        recorded_on d.seat.seen e.seat.seen n (record n { opened = with_entry t x.transaction.opened n.opened }) past (after past (line.Open t)) r x.opens.goes.later.begins
+        recorded_on d.seat.seen e.seat.seen d.outlook.unpolled.items e.outlook.unpolled.items n (record n { opened = with_entry t x.transaction.opened n.opened }) past (after past (line.Open t)) r x.opens.goes.begins
+        (unpolled_same d e x.unpolled)
         (ap (λ b. cond b (Some x.transaction.opened) (n.opened r.transaction)) f) (λ g y. g (sym (ap (λ b. cond b (Some true) (past.opened r.transaction)) f) ∙ y)) (λ y. y) z);
   }
     where
@@ -180,7 +187,7 @@ module _ (id : TableId) (d e : Driver) (p : Plan) (past : Past) (t : List ℕ) (
 
   pub open_records : (version : ℕ) → x.transaction.version ≡ length p.log → RecordsStep p past (line.Open t) d e
   open_records version v ls rest r =
-      records_on ls rest (line.Open t) d e p past r x.opens.goes.later.begins open_own (record r.indices { opened = with_entry t x.transaction.opened r.indices.opened })
+      records_on ls rest (line.Open t) d e p past r x.opens.goes.begins open_own (record r.indices { opened = with_entry t x.transaction.opened r.indices.opened })
       (λ J s. record {
         index = x.transaction.opened;
         next = next_on e.seat.seen J d.seat.mine (told.Open 0 (length p.log)) x.transaction.opened s (record {
@@ -217,7 +224,7 @@ module _ (id : TableId) (d e : Driver) (p : Plan) (past : Past) (r : Request) (w
       some_none : Some true ≡ None → ⊥
       some_none e = cc
 
-      new_recorded : (wish : Wish) → IsRecorded e.seat.seen (ask_indices n) (after past (line.Ask r)) (wanted ends p r wish)
+      new_recorded : (wish : Wish) → IsRecorded e.seat.seen e.outlook.unpolled.items (ask_indices n) (after past (line.Ask r)) (wanted ends p r wish)
       new_recorded wish = record {
         transaction = x.transaction.opened;
         opened = i.opened r.transaction x.transaction x.held;
@@ -225,10 +232,10 @@ module _ (id : TableId) (d e : Driver) (p : Plan) (past : Past) (r : Request) (w
         decided = λ h. absurd (pending_now r.name (own_name r.name) h);
       }
 
-      old_recorded : (s : Planned) → Has p.requests s → IsRecorded e.seat.seen (ask_indices n) (after past (line.Ask r)) s
+      old_recorded : (s : Planned) → Has p.requests s → IsRecorded e.seat.seen e.outlook.unpolled.items (ask_indices n) (after past (line.Ask r)) s
       old_recorded s h =
           let f = other_request id d p past r.name s m new.free h in
-          recorded_on d.seat.seen e.seat.seen n (ask_indices n) past (after past (line.Ask r)) s x.asks.goes.later.begins refl (λ g. g)
+          recorded_on d.seat.seen e.seat.seen d.outlook.unpolled.items e.outlook.unpolled.items n (ask_indices n) past (after past (line.Ask r)) s x.asks.goes.begins (outlook_same d e x.outlook) refl (λ g. g)
           (λ z. sym (ap (λ b. option_map (λ (a : Asked). a.fate) (cond b (Some (made_in r.transaction)) (past.asked s.name))) f) ∙ z) (i.requests s h)
 
       both : (wish : Wish) → KnowsIndices e (record p { requests = p.requests ++ wanted ends p r wish ∷ [] }) (after past (line.Ask r)) (ask_indices n)
@@ -239,9 +246,9 @@ module _ (id : TableId) (d e : Driver) (p : Plan) (past : Past) (r : Request) (w
             ∙ ap Some (ap (λ (z : Pledge). z.ask) (some_same (sym (at_name r.name (Some x.pledge) (pledge_of d)) ∙ (sym (x.promises r.name) ∙ (ap (pledge_of e) s ∙ h))))))
             (λ f. ap (λ b. cond b (Some x.pledge.ask) (n.asked q)) f ∙ i.asked q y (sym (past_name r.name q (Some x.pledge) (pledge_of d) f) ∙ (sym (x.promises q) ∙ h)));
         closed = λ t h. (let c = i.closed t h in (c.0, c.1, subst (λ (xs : Events). Has xs (told.Close 0 c.0)) (sym x.asks.goes.mine) (has_left d.seat.mine ask_own _ c.2)));
-        requests = λ s h. elim (has_last p.requests (wanted ends p r wish) s h) as (λ _. IsRecorded e.seat.seen (ask_indices n) (after past (line.Ask r)) s) [
+        requests = λ s h. elim (has_last p.requests (wanted ends p r wish) s h) as (λ _. IsRecorded e.seat.seen e.outlook.unpolled.items (ask_indices n) (after past (line.Ask r)) s) [
           | inl a ↦ old_recorded s a
-          | inr b ↦ subst (IsRecorded e.seat.seen (ask_indices n) (after past (line.Ask r))) b (new_recorded wish)
+          | inr b ↦ subst (IsRecorded e.seat.seen e.outlook.unpolled.items (ask_indices n) (after past (line.Ask r))) b (new_recorded wish)
         ];
       }
 
@@ -262,12 +269,12 @@ module _ (id : TableId) (d e : Driver) (p : Plan) (past : Past) (r : Request) (w
 
 pub ask_records : (id : TableId) (p : Plan) (past : Past) (r : Request) (d e : Driver) → Matches id d p past → IsNew past r → DidAsk id r (key.Digest r.label) d e → RecordsStep p past (line.Ask r) d e
 ask_records id p past r d e m new x ls rest z =
-    records_on ls rest (line.Ask r) d e p past z x.asks.goes.later.begins (ask_own id d e p past r (Digest r.label) m new x) (ask_indices id d e p past r (Digest r.label) m new x z.indices)
+    records_on ls rest (line.Ask r) d e p past z x.asks.goes.begins (ask_own id d e p past r (Digest r.label) m new x) (ask_indices id d e p past r (Digest r.label) m new x z.indices)
     (ask_adds id d e p past r (Digest r.label) m new x z.indices z.knows) x.asks.goes.mine (knows_asked id d e p past r (Digest r.label) m new x (is_cancelled ls) z.indices z.knows).0
 
 pub action_records : (id : TableId) (p : Plan) (past : Past) (r : Request) (d e : Driver) → Matches id d p past → IsNew past r → DidAsk id r (key.Action r.label) d e → RecordsStep p past (line.Action r) d e
 action_records id p past r d e m new x ls rest z =
-    records_on ls rest (line.Action r) d e p past z x.asks.goes.later.begins (ask_own id d e p past r (Text r.label) m new x) (ask_indices id d e p past r (Text r.label) m new x z.indices)
+    records_on ls rest (line.Action r) d e p past z x.asks.goes.begins (ask_own id d e p past r (Text r.label) m new x) (ask_indices id d e p past r (Text r.label) m new x z.indices)
     (ask_adds id d e p past r (Text r.label) m new x z.indices z.knows) x.asks.goes.mine (knows_asked id d e p past r (Text r.label) m new x (is_cancelled ls) z.indices z.knows).1
 
 -- ---- wait
@@ -300,6 +307,21 @@ unclosed_seen id s t o n = free_closed t s.seen (λ by h.
     let g : Has s.seen (told.Close 0 t) = subst (λ b. Has s.seen (told.Close b t)) z h in
     closed_free t s.mine n 0 (subst (λ (xs : Events). Has xs (told.Close 0 t)) o.mine (events_have s.seen (told.Close 0 t) g refl)))
 
+-- a promise whose key is decided while it is live
+pub decided_live : (id : TableId) (s : Place) (x : Pledge) → IsOurs id s → IsLive s x → IsDecidedIn s.seen x.version (arc_value x.key) → WasDecided s.seen x.opened x.version (arc_value x.key)
+decided_live id s x o l d = record {
+  earlier = s.seen;
+  begins = begins_itself s.seen;
+  opening = subst (λ n. StandsAt s.seen x.opened (told.Open n x.version)) o.number l.asks.opening;
+  open_ = unclosed_seen id s x.opened o l.open_;
+  decided = d;
+}
+
+-- of another transaction, version and key, which are the same
+decided_as : (x : Pledge) (t v : ℕ) (k : Key) (J : Events) → x.opened ≡ t → x.version ≡ v → arc_value x.key ≡ k → WasDecided J x.opened x.version (arc_value x.key) → WasDecided J t v k
+decided_as x t v k J et ev ek w =
+    subst (λ n. WasDecided J n v k) et (subst (λ u. WasDecided J x.opened u k) ev (subst (WasDecided J x.opened x.version) ek w))
+
 module _ (id : TableId) (d e : Driver) (p : Plan) (past : Past) (q : List ℕ) (m : Matches id d p past) (alive : fate_of past q ≢ Some fate.Cancelled) where
   abbrev waits : Past
   waits = after past (line.Wait q)
@@ -312,20 +334,23 @@ module _ (id : TableId) (d e : Driver) (p : Plan) (past : Past) (q : List ℕ) (
 
   -- it was answered before
   module _ (none : pledge_of d q ≡ None) (is : e ≡ d) where
-    was_recorded : (n : Indices) (r : Planned) → Has p.requests r → IsRecorded d.seat.seen n past r → IsRecorded d.seat.seen n waits r
+    abbrev left : List Pledge
+    left = d.outlook.unpolled.items
+
+    was_recorded : (n : Indices) (r : Planned) → Has p.requests r → IsRecorded d.seat.seen left n past r → IsRecorded d.seat.seen left n waits r
     was_recorded n r h i = by_name q r.name _
         (λ s. record { transaction = i.transaction; opened = i.opened; known = i.known; decided = λ z. again (sym s) })
-        (λ f. recorded_on d.seat.seen d.seat.seen n n past waits r (begins_itself d.seat.seen) refl (λ g. g) (λ z. sym (fate_other r.name f) ∙ z) i)
+        (λ f. recorded_on d.seat.seen d.seat.seen left left n n past waits r (begins_itself d.seat.seen) (λ x g. g) refl (λ g. g) (λ z. sym (fate_other r.name f) ∙ z) i)
       where
         made : IsMade d past r
         made = m.requests r h
 
-        at_fate : (f : Fate) → made.asked.fate ≡ f → r.name ≡ q → IsAt d r f → WasDecided d.seat.seen i.transaction r.version (key_of r.wish)
+        at_fate : (f : Fate) → made.asked.fate ≡ f → r.name ≡ q → IsAt d r f → WasDecided d.seat.seen i.transaction r.version (key_of r.wish) ⊎ IsUnpolled left i.transaction r
         at_fate fate.Pending g s a = absurd (none_some (sym none ∙ (ap (pledge_of d) (sym s) ∙ a.held)))
         at_fate fate.Answered g s a = i.decided (ap (option_map (λ (b : Asked). b.fate)) made.made ∙ ap Some g)
         at_fate fate.Cancelled g s a = absurd (dead r s made g)
 
-        again : r.name ≡ q → WasDecided d.seat.seen i.transaction r.version (key_of r.wish)
+        again : r.name ≡ q → WasDecided d.seat.seen i.transaction r.version (key_of r.wish) ⊎ IsUnpolled left i.transaction r
         again s = at_fate made.asked.fate refl s made.at
 
     knows_was : (n : Indices) → KnowsIndices d p past n → KnowsIndices e p waits n
@@ -337,36 +362,37 @@ module _ (id : TableId) (d e : Driver) (p : Plan) (past : Past) (q : List ℕ) (
     })
 
   -- it is answered now
-  module _ (x : Pledge) (held : pledge_of d q ≡ Some x) (goes : Goes id d.seat e.seat []) (decides : buck.kind (arc_value x.key) ≢ Injected → IsDecidedIn e.seat.seen x.version (arc_value x.key))
+  module _ (x : Pledge) (held : pledge_of d q ≡ Some x) (goes : Goes id d.seat e.seat []) (known : IsKnown x d e)
       (promises : (n : List ℕ) → pledge_of e n ≡ with_named q None (pledge_of d) n) (transactions : e.transactions ≡ d.transactions) where
-    now_recorded : (n : Indices) → KnowsIndices d p past n → (r : Planned) → Has p.requests r → IsRecorded d.seat.seen n past r → IsRecorded e.seat.seen n waits r
+    still_unpolled : (y : Pledge) → Has d.outlook.unpolled.items y → Has e.outlook.unpolled.items y
+    still_unpolled y h = elim known as (λ _. Has e.outlook.unpolled.items y) [
+      | inl more ↦ subst (λ xs. Has xs y) (sym more) (has_left d.outlook.unpolled.items (x ∷ []) y h)
+      | inr same ↦ subst (λ xs. Has xs y) (sym same.0) h
+    ]
+
+    now_recorded : (n : Indices) → KnowsIndices d p past n → (r : Planned) → Has p.requests r → IsRecorded d.seat.seen d.outlook.unpolled.items n past r → IsRecorded e.seat.seen e.outlook.unpolled.items n waits r
     now_recorded n w r h i = by_name q r.name _
         (λ s. record { transaction = i.transaction; opened = i.opened; known = i.known; decided = λ z. at_fate made.asked.fate refl (sym s) made.at })
-        (λ f. recorded_on d.seat.seen e.seat.seen n n past waits r goes.later.begins refl (λ g. g) (λ z. sym (fate_other r.name f) ∙ z) i)
+        (λ f. recorded_on d.seat.seen e.seat.seen d.outlook.unpolled.items e.outlook.unpolled.items n n past waits r goes.begins still_unpolled refl (λ g. g) (λ z. sym (fate_other r.name f) ∙ z) i)
       where
         made : IsMade d past r
         made = m.requests r h
 
-        pending : (a : IsPending d r) → r.name ≡ q → WasDecided e.seat.seen i.transaction r.version (key_of r.wish)
+        pending : (a : IsPending d r) → r.name ≡ q → WasDecided e.seat.seen i.transaction r.version (key_of r.wish) ⊎ IsUnpolled e.outlook.unpolled.items i.transaction r
         pending a s =
             let same : a.pledge ≡ x = some_same (sym a.held ∙ (ap (pledge_of d) s ∙ held)) in
             let index : a.pledge.opened ≡ i.transaction = sym a.same ∙ some_same (sym (w.opened r.transaction a.transaction a.within) ∙ i.opened) in
-            let mine : e.seat.mine ≡ d.seat.mine = goes.mine ∙ append-nil d.seat.mine in
-            let closed : NotClosed a.pledge.opened e.seat.mine = subst (NotClosed a.pledge.opened) (sym mine) (live_there id d p past r m a) in
+            let t : x.opened ≡ i.transaction = ap (λ (y : Pledge). y.opened) (sym same) ∙ index in
             let k : arc_value x.key ≡ key_of r.wish = ap (λ (y : Pledge). arc_value y.key) (sym same) ∙ a.key in
             let v : x.version ≡ r.version = ap (λ (y : Pledge). y.version) (sym same) ∙ a.version in
-            record {
-              earlier = e.seat.seen;
-              begins = begins_itself e.seat.seen;
-              opening = subst (λ n. StandsAt e.seat.seen n (told.Open 0 r.version)) index
-                  (stands_longer d.seat.seen e.seat.seen a.pledge.opened (told.Open 0 r.version) goes.later.begins
-                  (subst (λ u. StandsAt d.seat.seen a.pledge.opened (told.Open 0 u)) a.version
-                  (subst (λ n. StandsAt d.seat.seen a.pledge.opened (told.Open n a.pledge.version)) m.ours.number a.asks.opening)));
-              open_ = subst (λ n. NotClosed n e.seat.seen) index (unclosed_seen id e.seat a.pledge.opened goes.ours closed);
-              decided = subst (λ u. IsDecidedIn e.seat.seen u (key_of r.wish)) v (subst (IsDecidedIn e.seat.seen x.version) k (decides (λ z. computed r.wish (ap buck.kind (sym k) ∙ z))));
-            }
+            let live : IsLive d.seat x = subst (IsLive d.seat) same (record { asks = a.asks; open_ = live_there id d p past r m a }) in
+            elim known as (λ _. WasDecided e.seat.seen i.transaction r.version (key_of r.wish) ⊎ IsUnpolled e.outlook.unpolled.items i.transaction r) [
+              | inl more ↦ inr (record { pledge = x; has = subst (λ xs. Has xs x) (sym more) (has_end d.outlook.unpolled.items x); opened = t; version = v; key = k })
+              | inr known_now ↦ inl (decided_as x i.transaction r.version (key_of r.wish) e.seat.seen t v k
+                  (decided_live id e.seat x goes.ours (live_on d.seat e.seat [] x (onward id d.seat e.seat [] goes) tt tt live) (known_now.1 (λ z. computed r.wish (ap buck.kind (sym k) ∙ z)))))
+            ]
 
-        at_fate : (f : Fate) → made.asked.fate ≡ f → r.name ≡ q → IsAt d r f → WasDecided e.seat.seen i.transaction r.version (key_of r.wish)
+        at_fate : (f : Fate) → made.asked.fate ≡ f → r.name ≡ q → IsAt d r f → WasDecided e.seat.seen i.transaction r.version (key_of r.wish) ⊎ IsUnpolled e.outlook.unpolled.items i.transaction r
         at_fate fate.Pending g s a = pending a s
         at_fate fate.Answered g s a = absurd (none_some (sym a.0 ∙ (ap (pledge_of d) s ∙ held)))
         at_fate fate.Cancelled g s a = absurd (dead r s made g)
@@ -383,11 +409,11 @@ module _ (id : TableId) (d e : Driver) (p : Plan) (past : Past) (q : List ℕ) (
 
   pub knows_waited : (n : Indices) → DidWait id q d e → KnowsIndices d p past n → KnowsIndices e p waits n
   knows_waited n (was_told none is) i = knows_was none is n i
-  knows_waited n (is_told x text held goes told decides promises answers transactions gathered newest) i = knows_now x held goes decides promises transactions n i
+  knows_waited n (is_told x text held goes told known sees promises answers transactions gathered newest) i = knows_now x held goes known promises transactions n i
 
   pub waits_begin : DidWait id q d e → StartsWith e.seat.seen d.seat.seen × (e.seat.mine ≡ d.seat.mine)
   waits_begin (was_told none is) = (([], ap (λ (y : Driver). y.seat.seen) is ∙ sym (append-nil d.seat.seen)), ap (λ (y : Driver). y.seat.mine) is)
-  waits_begin (is_told x text held goes told decides promises answers transactions gathered newest) = (goes.later.begins, goes.mine ∙ append-nil d.seat.mine)
+  waits_begin (is_told x text held goes told known sees promises answers transactions gathered newest) = (goes.begins, goes.mine ∙ append-nil d.seat.mine)
 
   pub wait_records : DidWait id q d e → RecordsStep p past (line.Wait q) d e
   wait_records did ls rest r =
@@ -403,6 +429,36 @@ module _ (id : TableId) (d e : Driver) (p : Plan) (past : Past) (q : List ℕ) (
         knows = knows_waited r.indices did r.knows;
         lines = λ J all n s h. r.lines J all n (begins_on d.seat.seen e.seat.seen J s b.0) (h.0 ∙ b.1, h.1);
       }
+
+-- ---- promises that are polled
+
+module _ (id : TableId) (ls rest : List Line) (d e : Driver) (p : Plan) (past : Past) (m : Matches id d p past) (x : Confirms id d e) where
+  confirmed : (n : Indices) (r : Planned) → IsRecorded d.seat.seen d.outlook.unpolled.items n past r → IsRecorded e.seat.seen e.outlook.unpolled.items n past r
+  confirmed n r i = record {
+    transaction = i.transaction;
+    opened = i.opened;
+    known = i.known;
+    decided = λ z. inl (elim (i.decided z) as (λ _. WasDecided e.seat.seen i.transaction r.version (key_of r.wish)) [
+      | inl w ↦ decided_on d.seat.seen e.seat.seen i.transaction r.version (key_of r.wish) x.goes.begins w
+      | inr u ↦ decided_as u.pledge i.transaction r.version (key_of r.wish) e.seat.seen u.opened u.version u.key (x.decided u.pledge u.has (λ g. computed r.wish (ap buck.kind (sym u.key) ∙ g)))
+    ]);
+  }
+
+  knows_confirmed : (n : Indices) → KnowsIndices d p past n → KnowsIndices e p past n
+  knows_confirmed n i = record {
+    opened = λ t y h. i.opened t y (ap (λ v. get (pointwise nat_eq) v t) (sym x.transactions) ∙ h);
+    asked = λ q y h. i.asked q y (ap (λ v. get (pointwise nat_eq) v q) (sym x.promises) ∙ h);
+    closed = λ t h. (let c = i.closed t h in (c.0, c.1, subst (λ (xs : Events). Has xs (told.Close 0 c.0)) (sym (x.goes.mine ∙ append-nil d.seat.mine)) c.2));
+    requests = λ r h. confirmed n r (i.requests r h);
+  }
+
+  pub records_confirmed : Records ls rest d p past → Records ls rest e p past
+  records_confirmed r = record {
+    indices = r.indices;
+    knows = knows_confirmed r.indices r.knows;
+    lines = λ J all n s h. r.lines J all n (begins_on d.seat.seen e.seat.seen J s x.goes.begins)
+        (subst (λ (own : Events). AddsLines J (is_cancelled ls) p own r.indices rest all n) (x.goes.mine ∙ append-nil d.seat.mine) h);
+  }
 
 -- ---- cancel
 
@@ -426,12 +482,12 @@ module _ (id : TableId) (d e : Driver) (p : Plan) (past : Past) (q : List ℕ) (
         (λ s. absurd (none_some (sym (x.promises q ∙ at_name q None (pledge_of d)) ∙ (ap (pledge_of e) s ∙ h))))
         (λ f. i.asked u y (sym (past_name q u None (pledge_of d) f) ∙ (sym (x.promises u) ∙ h)));
     closed = λ t h. (let c = i.closed t h in (c.0, c.1, subst (λ (xs : Events). Has xs (told.Close 0 c.0)) (sym x.goes.mine) (has_left d.seat.mine (told.Leave 0 x.pledge.ask ∷ []) _ c.2)));
-    requests = λ r h. recorded_on d.seat.seen e.seat.seen n n past cancels r x.goes.later.begins refl (λ g. g) (cancels_fate r.name) (i.requests r h);
+    requests = λ r h. recorded_on d.seat.seen e.seat.seen d.outlook.unpolled.items e.outlook.unpolled.items n n past cancels r x.goes.begins (outlook_same d e x.outlook) refl (λ g. g) (cancels_fate r.name) (i.requests r h);
   }
 
   pub cancel_records : RecordsStep p past (line.Cancel q) d e
   cancel_records ls rest r =
-      records_on ls rest (line.Cancel q) d e p past r x.goes.later.begins (told.Leave 0 x.pledge.ask ∷ []) r.indices
+      records_on ls rest (line.Cancel q) d e p past r x.goes.begins (told.Leave 0 x.pledge.ask ∷ []) r.indices
       (λ J s. (record { ask = x.pledge.ask; asked = r.knows.asked q x.pledge x.held; adds = refl }, refl)) x.goes.mine (knows_cancelled r.indices r.knows)
 
 -- ---- close
@@ -465,7 +521,7 @@ module _ (id : TableId) (d e : Driver) (p : Plan) (past : Past) (t : List ℕ) (
     closed = λ u h. by_name t u _
         (λ s. (x.transaction.opened, ap n.opened (sym s) ∙ i.opened t x.transaction x.held, subst (λ (xs : Events). Has xs (told.Close 0 x.transaction.opened)) (sym x.goes.mine) (has_end d.seat.mine (told.Close 0 x.transaction.opened))))
         (λ f. (let c = i.closed u (sym (ap (λ b. cond b (Some false) (past.opened u)) f) ∙ h) in (c.0, c.1, subst (λ (xs : Events). Has xs (told.Close 0 c.0)) (sym x.goes.mine) (has_left d.seat.mine close_own _ c.2))));
-    requests = λ r h. recorded_on d.seat.seen e.seat.seen n n past closes r x.goes.later.begins refl (known r.transaction) (closes_fate r.name) (i.requests r h);
+    requests = λ r h. recorded_on d.seat.seen e.seat.seen d.outlook.unpolled.items e.outlook.unpolled.items n n past closes r x.goes.begins (outlook_same d e x.outlook) refl (known r.transaction) (closes_fate r.name) (i.requests r h);
   }
     where
       false_none : Some false ≡ None → ⊥
@@ -480,5 +536,5 @@ module _ (id : TableId) (d e : Driver) (p : Plan) (past : Past) (t : List ℕ) (
 
   pub close_records : RecordsStep p past (line.Close t) d e
   close_records ls rest r =
-      records_on ls rest (line.Close t) d e p past r x.goes.later.begins close_own r.indices
+      records_on ls rest (line.Close t) d e p past r x.goes.begins close_own r.indices
       (λ J s. (record { transaction = x.transaction.opened; opened = r.knows.opened t x.transaction x.held; adds = refl }, refl)) x.goes.mine (knows_closed r.indices r.knows)

@@ -1,5 +1,5 @@
 -- What the driver's seat keeps from one turn to the next.
-use Rattle.std.proofs.Common.{◌≡◌, ◌≤◌, ◌<◌, ℕ, List, [], ◌∷◌, ◌++◌, length, reverse, refl, sym, ap, ◌∙◌, subst, arith, append-nil, length-append}
+use Rattle.std.proofs.Common.{◌≡◌, ◌≤◌, ◌<◌, ℕ, List, [], ◌∷◌, ◌++◌, length, reverse, refl, sym, ap, ◌∙◌, subst, arith, append_assoc, append-nil, length-append}
 use Rattle.std.proofs.lemmas.List.{reverse-append, length-reverse}
 use Rattle.atomic_table.specs.Seated.{TableId}
 use Rattle.journal.specs.declared.event.Told.{Told}
@@ -8,7 +8,7 @@ use Rattle.journal.specs.Events.{NotClosed, commits_of, event_of, StandsAt, NotL
 use Rattle.turnstile.specs.Events.{StartsWith}
 use Rattle.dice_engine.specs.Turns.{log_of}
 use Rattle.dice_engine.specs.Conditions.{HasOpen, HasAsk}
-use Rattle.dice_engine.proofs.Callers.{open_later, ask_later, closed_both, left_both, same_number}
+use Rattle.dice_engine.proofs.Callers.{open_later, ask_later, closed_both, left_both}
 use Rattle.dice_engine.proofs.Indices.{back_below, from_front}
 use Rattle.action_digest.specs.declared.key.Key.{Key}
 use Rattle.action_digest.specs.declared.value.Value.{Value}
@@ -17,6 +17,12 @@ use Rattle.action_digest.specs.Same.{key_equal}
 use Rattle.dice_run.specs.Commits.{with_pairs}
 use Rattle.dice_run.specs.Seats.{Place, log_in, Goes}
 
+pub begins_on : (I J K : List (Told Key Value)) → StartsWith K J → StartsWith J I → StartsWith K I
+begins_on I J K a b = (b.0 ++ a.0, a.1 ∙ (ap (λ (x : List (Told Key Value)). x ++ a.0) b.1 ∙ append_assoc I b.0 a.0))
+
+pub begins_itself : (J : List (Told Key Value)) → StartsWith J J
+begins_itself J = ([], sym (append-nil J))
+
 -- the seat has seen what it had seen, and its own events are those that it had, and these
 pub record Onward (s u : Place) (own : List (Told Key Value)) : Type 0 where
   pub number : u.number ≡ s.number
@@ -24,7 +30,7 @@ pub record Onward (s u : Place) (own : List (Told Key Value)) : Type 0 where
   pub mine : u.mine ≡ s.mine ++ own
 
 pub onward : (id : TableId) (s u : Place) (own : List (Told Key Value)) → Goes id s u own → Onward s u own
-onward id s u own g = record { number = same_number key_equal buck s u g.later; begins = g.later.begins; mine = g.mine }
+onward id s u own g = record { number = g.number; begins = g.begins; mine = g.mine }
 
 pub onward_same : (s u : Place) → u ≡ s → Onward s u []
 onward_same s u e = record {

@@ -17,6 +17,7 @@ use Rattle.journal.specs.Events.{NotClosed, event_of, NotLeft}
 use Rattle.dice_engine.specs.Calls.{differing_from}
 use Rattle.dice_engine.specs.Conditions.{HasOpen, HasAsk}
 use Rattle.dice_engine.specs.declared.promise.Transaction.{Transaction}
+use Rattle.script.specs.declared.line.Line.{Line}
 use Rattle.script.specs.declared.line.Line.TheVariants as line
 use Rattle.script.specs.declared.line.Request.{Request}
 use Rattle.script.specs.declared.fate.Fate.{Fate}
@@ -36,9 +37,11 @@ use Rattle.script_trace.specs.Output.{log_of, pair_of_change, pairs_of_changes, 
 use Rattle.dice_run.specs.Answers.{IsToldOf, told_value, told_cycle}
 use Rattle.dice_run.specs.Commits.{differs_from, with_pairs}
 use Rattle.dice_run.specs.Seats.{Place, log_in, IsOurs, Goes}
-use Rattle.dice_run.specs.Driving.{Pledge, transaction_of, pledge_of, answer_of, paths_of, IsPending, IsTold, IsAt, IsMade, Matches, KeepsNames, HasTransaction, MayWait, MayCancel, with_named, DidOpen, DidAsk, DidWait, was_told, is_told, DidCancel, DidClose, Steps}
+use Rattle.dice_run.specs.Looking.{Pledge, Sees, IsLive}
+use Rattle.dice_run.specs.Driving.{Looks, IsKnown, Confirms, transaction_of, pledge_of, answer_of, paths_of, IsPending, IsTold, IsAt, IsMade, Matches, KeepsNames, HasTransaction, MayWait, MayCancel, with_named, DidOpen, DidAsk, DidWait, was_told, is_told, DidCancel, DidClose, Steps, newest_of}
 use Rattle.dice_run.specs.declared.driver.Driver.{Driver}
 use Rattle.dice_run.proofs.Changing.{differing_same}
+use Rattle.dice_run.proofs.Viewing.{sees_on, looks_on, looks_same, looks_more, looks_none}
 use Rattle.dice_run.proofs.Seating.{Onward, onward, onward_same, still_open, still_asks, seen_longer, log_open, log_close, log_ask, log_leave, log_none, log_commit, commit_closes_none, commit_leaves_none, open_below, ask_below}
 use Rattle.lists.proofs.Distinct.{distinct_end}
 use Rattle.lists.proofs.Members.{has_end, has_last}
@@ -139,6 +142,7 @@ module _ (id : TableId) (d e : Driver) (p : Plan) (past : Past) (m : Matches id 
         asks_apart = λ q r x y h i. m.asks_apart q r x y (sym (same_pledge q) ∙ h) (sym (same_pledge r) ∙ i);
         requests = λ r h. made_still d e [] (onward_same d.seat e.seat seat) [] (same_log ∙ sym (append-nil (log_in d.seat))) r past (after past (line.Drop path)) refl (λ x i. tt) (same_pledge r.name) (same_answer r.name) (λ x i. same_transaction r.transaction ∙ i) (m.requests r h);
         found = m.found;
+        looks = looks_same d e [] (onward_same d.seat e.seat seat) m.looks k.outlook (λ x h. (tt, tt)) (λ q y h. inl (sym (same_pledge q) ∙ h));
         distinct = subst AreDistinct (sym (put_paths p.gathered c)) (distinct_end (paths_of p.gathered) path m.distinct (m.touched path fresh));
         touched = λ q t h. put_touched past path q (paths_of p.gathered) m.touched t (subst (λ (xs : List (List ℕ)). Has xs q) (put_paths p.gathered c) h);
       }
@@ -195,6 +199,7 @@ commit_stands id ends d e p past m goes eg k en =
         requests = λ r h. made_still d e own o more.0 (log ∙ more.1) r past (after past line.Commit) refl (λ x i. commit_leaves_none x.ask 0 ps) (ap (λ v. get (pointwise nat_eq) v r.name) k.promises)
             (ap (λ v. option_map (λ w. w.items) (get (pointwise nat_eq) v r.name)) k.answers) (λ x i. ap (λ v. get (pointwise nat_eq) v r.transaction) k.transactions ∙ i) (m.requests r h);
         found = m.found;
+        looks = looks_same d e own o m.looks k.outlook (λ x h. (commit_leaves_none x.ask 0 ps, commit_closes_none x.opened 0 ps)) (λ q y h. inl (ap (λ v. get (pointwise nat_eq) v q) (sym k.promises) ∙ h));
         distinct = tt;
         touched = λ q t h. h;
       };
@@ -312,6 +317,7 @@ module _ (id : TableId) (ends : Ends) (d e : Driver) (p : Plan) (past : Past) (t
       asks_apart = λ q r y z h i. m.asks_apart q r y z (ap (λ v. get (pointwise nat_eq) v q) (sym x.promises) ∙ h) (ap (λ v. get (pointwise nat_eq) v r) (sym x.promises) ∙ i);
       requests = λ r h. made_still d e opens_own opens_onward [] (opens_log ∙ sym (append-nil (log_in d.seat))) r past (after past (line.Open t)) refl (λ y i. tt) (ap (λ v. get (pointwise nat_eq) v r.name) x.promises)
           (ap (λ v. option_map (λ w. w.items) (get (pointwise nat_eq) v r.name)) x.answers) (opens_kept r.transaction) (m.requests r h);
+      looks = looks_on d e opens_own opens_onward m.looks x.sees (ap (λ v. v.items) x.unpolled) (λ y h. (tt, tt)) (λ q y h. inl (ap (λ v. get (pointwise nat_eq) v q) (sym x.promises) ∙ h));
       found = m.found;
       distinct = m.distinct;
       touched = m.touched;
@@ -396,6 +402,12 @@ module _ (id : TableId) (ends : Ends) (d e : Driver) (p : Plan) (past : Past) (r
   asks_below : (q : List ℕ) (y : Pledge) → pledge_of d q ≡ Some y → y.ask < x.pledge.ask
   asks_below q y h = (let a = m.pledged q y h in let b = x.asks.new in omega arith)
 
+  asks_later : (q : List ℕ) (y : Pledge) → pledge_of e q ≡ Some y → (pledge_of d q ≡ Some y) ⊎ (length d.seat.seen ≤ y.ask)
+  asks_later q y h = elim (asks_was q y h) as (λ _. (pledge_of d q ≡ Some y) ⊎ (length d.seat.seen ≤ y.ask)) [
+    | inl a ↦ inr (subst (λ (z : Pledge). length d.seat.seen ≤ z.ask) a.1 x.asks.new)
+    | inr b ↦ inl b
+  ]
+
   asks_pledged : (q : List ℕ) (y : Pledge) → pledge_of e q ≡ Some y → y.ask < length e.seat.seen
   asks_pledged q y h = elim (asks_was q y h) as (λ _. y.ask < length e.seat.seen) [
     | inl a ↦ subst (λ (z : Pledge). z.ask < length e.seat.seen) a.1 (ask_below e.seat x.pledge.ask x.pledge.opened x.pledge.version (arc_value x.pledge.key) x.asks.has)
@@ -426,6 +438,7 @@ module _ (id : TableId) (ends : Ends) (d e : Driver) (p : Plan) (past : Past) (r
     pledged = asks_pledged;
     asks_apart = asks_apart;
     requests = asks_requests;
+    looks = looks_same d e asks_own asks_onward m.looks x.outlook (λ y h. (tt, tt)) asks_later;
     found = asks_found;
     distinct = m.distinct;
     touched = m.touched;
@@ -449,7 +462,7 @@ module _ (id : TableId) (d : Driver) (p : Plan) (past : Past) (m : Matches id d 
   may_wait_at : (q : List ℕ) (r : Planned) (f : Fate) → r.name ≡ q → f ≢ fate.Cancelled → IsAt d r f → MayWait d q
   may_wait_at q r fate.Pending n c i = λ x h.
       let s : i.pledge ≡ x = some_same (sym i.held ∙ (ap (pledge_of d) n ∙ h)) in
-      subst (λ (y : Pledge). HasAsk d.seat y.ask y.opened y.version (arc_value y.key) × NotClosed y.opened d.seat.mine) s (i.asks, live_there id d p past r m i)
+      subst (IsLive d.seat) s (record { asks = i.asks; open_ = live_there id d p past r m i })
   may_wait_at q r fate.Answered n c i = λ x h. absurd (none_some (sym i.0 ∙ (ap (pledge_of d) n ∙ h)))
   may_wait_at q r fate.Cancelled n c i = absurd (c refl)
 
@@ -531,6 +544,7 @@ module _ (id : TableId) (ends : Ends) (d e : Driver) (p : Plan) (past : Past) (q
       asks_apart = λ n r x y h i. m.asks_apart n r x y (ap (λ (z : Driver). pledge_of z n) (sym is) ∙ h) (ap (λ (z : Driver). pledge_of z r) (sym is) ∙ i);
       requests = λ r h. by_name q r.name _ (λ s. again r (sym s) (m.requests r h))
           (λ f. (let i = m.requests r h in record { asked = i.asked; made = waits_other r.name f ∙ i.made; transaction = i.transaction; within = subst (λ (z : Driver). r.version ≤ length (log_in z.seat)) (sym is) i.within; at = subst (λ (z : Driver). IsAt z r i.asked.fate) (sym is) i.at }));
+      looks = subst Looks (sym is) m.looks;
       found = waits_found;
       distinct = m.distinct;
       touched = m.touched;
@@ -548,7 +562,7 @@ module _ (id : TableId) (ends : Ends) (d e : Driver) (p : Plan) (past : Past) (q
           let a = at_again r i.asked.fate n (not_cancelled r n i) i.at in
           waits_made r n i (subst (λ (z : Driver). r.version ≤ length (log_in z.seat)) (sym is) i.within) (subst (λ (z : Driver). pledge_of z r.name ≡ None) (sym is) a.0) (subst (λ (z : Driver). IsTold z r) (sym is) a.1)
 
-  module _ (x : Pledge) (text : List ℕ) (held : pledge_of d q ≡ Some x) (goes : Goes id d.seat e.seat []) (told : IsToldOf (log_in d.seat) x.version (arc_value x.key) text)
+  module _ (x : Pledge) (text : List ℕ) (held : pledge_of d q ≡ Some x) (goes : Goes id d.seat e.seat []) (told : IsToldOf (log_in d.seat) x.version (arc_value x.key) text) (known : IsKnown x d e) (sees : Sees e.seat e.outlook)
       (promises : (n : List ℕ) → pledge_of e n ≡ with_named q None (pledge_of d) n) (answers : (n : List ℕ) → answer_of e n ≡ with_named q (Some text) (answer_of d) n)
       (transactions : e.transactions ≡ d.transactions) (gathered : e.gathered ≡ d.gathered) (newest : e.newest ≡ d.newest) where
     told_onward : Onward d.seat e.seat []
@@ -586,6 +600,19 @@ module _ (id : TableId) (ends : Ends) (d e : Driver) (p : Plan) (past : Past) (q
     told_other r f i = made_still d e [] told_onward [] (told_log ∙ sym (append-nil (log_in d.seat))) r past waits (waits_other r.name f) (λ y j. tt)
         (promises r.name ∙ past_name q r.name None (pledge_of d) f) (answers r.name ∙ past_name q r.name (Some text) (answer_of d) f) (λ y j. told_transaction r.transaction ∙ j) i
 
+    -- what is still to be answered is not what is answered now
+    told_apart : (n : List ℕ) (y : Pledge) → pledge_of e n ≡ Some y → (pledge_of d n ≡ Some y) × (x.ask ≡ y.ask → ⊥)
+    told_apart n y h = (
+      told_was n y h,
+      λ s. none_some (sym (promises q ∙ at_name q None (pledge_of d)) ∙ (ap (pledge_of e) (m.asks_apart q n x y held (told_was n y h) s) ∙ h)),
+    )
+
+    told_looks : Looks e
+    told_looks = elim known as (λ _. Looks e) [
+      | inl more ↦ looks_more d e [] told_onward m.looks x refl sees more (may_wait id d p past m q some alive x held) told_apart
+      | inr same ↦ looks_on d e [] told_onward m.looks sees same.0 (λ y h. (tt, tt)) (λ n y h. inl (told_was n y h))
+    ]
+
     told_now : Steps id ends p past (line.Wait q) d e
     told_now = record {
       stands = record {
@@ -599,6 +626,7 @@ module _ (id : TableId) (ends : Ends) (d e : Driver) (p : Plan) (past : Past) (q
         pledged = λ n y h. (let a = m.pledged n y (told_was n y h) in let b = seen_longer d.seat e.seat [] told_onward in omega arith);
         asks_apart = λ n r y z h i. m.asks_apart n r y z (told_was n y h) (told_was r z i);
         requests = λ r h. by_name q r.name _ (λ s. told_made r (sym s) (m.requests r h)) (λ f. told_other r f (m.requests r h));
+        looks = told_looks;
         found = waits_found;
         distinct = m.distinct;
         touched = m.touched;
@@ -608,7 +636,45 @@ module _ (id : TableId) (ends : Ends) (d e : Driver) (p : Plan) (past : Past) (q
 
   pub wait_stands : DidWait id q d e → Steps id ends p past (line.Wait q) d e
   wait_stands (was_told none is) = told_before none is
-  wait_stands (is_told x text held goes told decides promises answers transactions gathered newest) = told_now x text held goes told promises answers transactions gathered newest
+  wait_stands (is_told x text held goes told known sees promises answers transactions gathered newest) = told_now x text held goes told known sees promises answers transactions gathered newest
+
+-- ---- promises that are polled
+
+module _ (id : TableId) (d e : Driver) (p : Plan) (past : Past) (m : Matches id d p past) (x : Confirms id d e) where
+  confirms_onward : Onward d.seat e.seat []
+  confirms_onward = onward id d.seat e.seat [] x.goes
+
+  confirms_log : log_in e.seat ≡ log_in d.seat
+  confirms_log = log_none d.seat e.seat [] confirms_onward refl
+
+  confirms_transaction : (t : List ℕ) → transaction_of e t ≡ transaction_of d t
+  confirms_transaction t = ap (λ v. get (pointwise nat_eq) v t) x.transactions
+
+  confirms_pledge : (q : List ℕ) → pledge_of e q ≡ pledge_of d q
+  confirms_pledge q = ap (λ v. get (pointwise nat_eq) v q) x.promises
+
+  pub confirm_stands : Matches id e p past
+  confirm_stands = record {
+    ours = x.goes.ours;
+    log = confirms_log ∙ m.log;
+    gathered = x.gathered ∙ m.gathered;
+    within = m.within;
+    known = λ t k. (let y = m.known t k in (y.0, confirms_transaction t ∙ y.1));
+    open_ = λ t y h. (let z = m.open_ t y (sym (confirms_transaction t) ∙ h) in (still_open d.seat e.seat [] confirms_onward y.opened y.version tt z.0, z.1, z.2));
+    apart = λ t u y z h i. m.apart t u y z (sym (confirms_transaction t) ∙ h) (sym (confirms_transaction u) ∙ i);
+    pledged = λ q y h. (let a = m.pledged q y (sym (confirms_pledge q) ∙ h) in let b = seen_longer d.seat e.seat [] confirms_onward in omega arith);
+    asks_apart = λ q r y z h i. m.asks_apart q r y z (sym (confirms_pledge q) ∙ h) (sym (confirms_pledge r) ∙ i);
+    requests = λ r h. made_still d e [] confirms_onward [] (confirms_log ∙ sym (append-nil (log_in d.seat))) r past past refl (λ y i. tt) (confirms_pledge r.name)
+        (ap (λ v. option_map (λ w. w.items) (get (pointwise nat_eq) v r.name)) x.answers) (λ y i. confirms_transaction r.transaction ∙ i) (m.requests r h);
+    looks = looks_none e (x.sees e.seat (sees_on d.seat e.seat d.outlook confirms_onward.begins m.looks.sees)) x.unpolled;
+    found = m.found;
+    distinct = m.distinct;
+    touched = m.touched;
+  }
+
+-- a step after that
+pub after_confirming : (id : TableId) (ends : Ends) (d b e : Driver) (p : Plan) (past : Past) (l : Line) → Confirms id d b → Steps id ends p past l b e → Steps id ends p past l d e
+after_confirming id ends d b e p past l x s = record { stands = s.stands; newest = s.newest ∙ ap (λ v. v.items ++ newest_of p l) x.newest }
 
 -- ---- a request that is given up
 
@@ -677,6 +743,7 @@ module _ (id : TableId) (ends : Ends) (d e : Driver) (p : Plan) (past : Past) (q
       pledged = λ n y h. (let a = m.pledged n y (cancels_was n y h) in let b = seen_longer d.seat e.seat cancels_own cancels_onward in omega arith);
       asks_apart = λ n r y z h i. m.asks_apart n r y z (cancels_was n y h) (cancels_was r z i);
       requests = λ r h. by_name q r.name _ (λ s. cancels_made r (sym s) (m.requests r h)) (λ f. cancels_kept r f (m.requests r h));
+      looks = looks_same d e cancels_own cancels_onward m.looks x.outlook (λ y h. (((λ s. m.looks.apart y q x.pledge h x.held (sym s)), tt), tt)) (λ n y h. inl (cancels_was n y h));
       found = cancels_found;
       distinct = m.distinct;
       touched = m.touched;
@@ -686,7 +753,7 @@ module _ (id : TableId) (ends : Ends) (d e : Driver) (p : Plan) (past : Past) (q
 
 -- ---- a transaction that is closed
 
-module _ (id : TableId) (ends : Ends) (d e : Driver) (p : Plan) (past : Past) (t : List ℕ) (m : Matches id d p past) (x : DidClose id t d e) where
+module _ (id : TableId) (ends : Ends) (d e : Driver) (p : Plan) (past : Past) (t : List ℕ) (m : Matches id d p past) (polled : d.outlook.unpolled.items ≡ []) (x : DidClose id t d e) where
   abbrev pub closes : Past
   closes = after past (line.Close t)
 
@@ -764,6 +831,7 @@ module _ (id : TableId) (ends : Ends) (d e : Driver) (p : Plan) (past : Past) (t
       pledged = λ n y h. (let a = m.pledged n y (sym (closes_pledge n) ∙ h) in let b = seen_longer d.seat e.seat closes_own closes_onward in omega arith);
       asks_apart = λ n r y z h i. m.asks_apart n r y z (sym (closes_pledge n) ∙ h) (sym (closes_pledge r) ∙ i);
       requests = λ r h. closes_made r (m.requests r h);
+      looks = looks_none e (subst (Sees e.seat) (sym x.outlook) (sees_on d.seat e.seat d.outlook closes_onward.begins m.looks.sees)) (ap (λ o. o.unpolled.items) x.outlook ∙ polled);
       found = closes_found;
       distinct = m.distinct;
       touched = m.touched;
@@ -804,7 +872,7 @@ pub action_steps : (id : TableId) (ends : Ends) (d e : Driver) (p : Plan) (past 
 action_steps id ends d e p past r m n x =
     let s = ask_stands id ends d e p past r (Text r.label) m n x in
     record {
-      stands = record { ours = s.ours; log = s.log; gathered = s.gathered; within = s.within; known = s.known; open_ = s.open_; apart = s.apart; pledged = s.pledged; asks_apart = s.asks_apart; requests = s.requests; found = s.found; distinct = s.distinct; touched = s.touched };
+      stands = record { ours = s.ours; log = s.log; gathered = s.gathered; within = s.within; known = s.known; open_ = s.open_; apart = s.apart; pledged = s.pledged; asks_apart = s.asks_apart; requests = s.requests; found = s.found; distinct = s.distinct; touched = s.touched; looks = s.looks };
       newest = ap (λ v. v.items) x.newest ∙ sym (append-nil d.newest.items);
     }
 

@@ -11,7 +11,7 @@ use Rattle.dice_core.specs.declared.commit.CommitRefusal.TheVariants as refusal
 use Rattle.dice_run.specs.Commits.{AreDistinctSources}
 use Rattle.dice_key.specs.declared.universe.NoMemory.{NoMemory}
 use Rattle.dice_engine.specs.declared.promise.Transaction.{Transaction}
-use Rattle.dice_run.specs.Driving.{Pledge}
+use Rattle.dice_run.specs.Looking.{Pledge}
 use Rattle.journal.specs.declared.event.Told.{Told}
 use Rattle.journal.specs.declared.event.Told.TheVariants.{Open, Close, Ask, Leave}
 use Rattle.journal.specs.Events.{NotClosed, open_at, live_at, event_of}
@@ -86,7 +86,7 @@ module _ (id : TableId) (s u : Place) (o : IsOurs id s) (P : Events → Events �
       ∙ (ap (λ n. events_by event_by n t.found) (sym o.number) ∙ t.found_mine)))
 
   pub turn_goes : (own : Events) → t.adds.own ≡ own → Goes id s u own
-  turn_goes own e = record { ours = later_ours id s u o t.later; later = t.later; mine = t.mine ∙ ap (λ es. s.mine ++ es) e }
+  turn_goes own e = record { ours = later_ours id s u o t.later; number = same_number key_equal buck s u t.later; begins = t.later.begins; mine = t.mine ∙ ap (λ es. s.mine ++ es) e }
 
   -- a transaction of the seat that it has not closed is open in the journal that the turn found
   found_open : (i v : ℕ) → HasOpen s i v → open_at (reverse t.found) i ≡ Some (record { by = s.number; version = v })
@@ -145,7 +145,7 @@ asks_if id s u i v k o (Ok p) t n h = turn_asks id s u p.ask p.opened p.version 
 asks_if id s u i v k o (Err e) t n h = tt
 
 pub later_goes : (id : TableId) (s u : Place) → IsOurs id s → Later key_equal buck s u → u.mine ≡ s.mine → Goes id s u []
-later_goes id s u o l e = record { ours = later_ours id s u o l; later = l; mine = e ∙ sym (append-nil s.mine) }
+later_goes id s u o l e = record { ours = later_ours id s u o l; number = same_number key_equal buck s u l; begins = l.begins; mine = e ∙ sym (append-nil s.mine) }
 
 pub later_log : (id : TableId) (s u : Place) → IsOurs id s → Later key_equal buck s u → u.mine ≡ s.mine → log_of u.seen ≡ log_in s
 later_log id s u o l e = our_log id u (later_ours id s u o l) ∙ ap log_of e

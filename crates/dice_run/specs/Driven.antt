@@ -33,6 +33,7 @@ pub record Closing (id : TableId) (ls rest : List Line) (d : Driver) : Type 0 wh
   pub newest : d.newest.items ≡ newest_from (is_cancelled ls) no_plan ls
   pub answered : (r : Planned) → Has (plan_of ls).requests r → r.cancelled ≡ false → fate_of past r.name ≡ Some fate.Answered
   pub records : RecordsEnds ls rest d past
+  pub polled : d.outlook.unpolled.items ≡ []
 
 -- a transaction is closed, if it is open
 abbrev pub ClosesOpen : TableId → List ℕ → Driver → Driver → Type 0

@@ -1,5 +1,5 @@
 -- Where the driver of a script stands.
-use Rattle.std.specs.Prelude.{◌≡◌, ◌≢◌, ◌≤◌, ◌<◌, ℕ, true, false, nat_eq, if◌then◌else◌, List, [], ◌∷◌, ◌++◌, map, length, Option, Some, None}
+use Rattle.std.specs.Prelude.{◌≡◌, ◌≢◌, ◌≤◌, ◌<◌, ◌⊎◌, ℕ, true, false, nat_eq, if◌then◌else◌, List, [], ◌∷◌, ◌++◌, map, length, Option, Some, None}
 use Rattle.std.specs.Map.{lookup}
 use Rattle.std.specs.Arc.{arc_value}
 use Rattle.std.specs.Str.{bytes_eq}
@@ -12,7 +12,6 @@ use Rattle.journal.specs.declared.event.Told.TheVariants.{Close, Leave}
 use Rattle.journal.specs.Events.{NotClosed}
 use Rattle.dice_engine.specs.Conditions.{HasOpen, HasAsk}
 use Rattle.dice_engine.specs.declared.promise.Transaction.{Transaction}
-use Rattle.dice_engine.specs.declared.promise.Promise.{Promise}
 use Rattle.script.specs.declared.line.Line.{Line}
 use Rattle.script.specs.declared.line.Line.TheVariants as line
 use Rattle.script.specs.declared.line.Request.{Request}
@@ -22,23 +21,19 @@ use Rattle.script.specs.declared.requests.Asked.{Asked}
 use Rattle.script.specs.Past.{Past, after}
 use Rattle.script.specs.Order.{Fits}
 use Rattle.script.specs.Plan.{Ends, Plan, Planned, Change, version_of, planned, committed}
-use Rattle.action_digest.specs.declared.buck.Buck.{Buck}
-use Rattle.action_digest.specs.declared.run.Run.{Run}
 use Rattle.action_digest.specs.declared.key.Key.{Key}
 use Rattle.action_digest.specs.declared.value.Value.{Value}
 use Rattle.action_digest.specs.Buck.{buck}
 use Rattle.script_trace.specs.Output.{log_of, pairs_of_changes, key_of}
 use Rattle.dice_run.specs.Answers.{IsToldOf}
 use Rattle.script_trace.specs.Events.{IsDecidedIn}
-use Rattle.dice_run.specs.Seats.{log_in, IsOurs, Goes, Opens, Asks}
+use Rattle.dice_run.specs.Seats.{Place, log_in, IsOurs, Goes, Opens, Asks}
+use Rattle.dice_run.specs.Looking.{Pledge, Sees, IsLive, AreLive, WereDecided}
 use Rattle.dice_run.specs.declared.driver.Driver.{Driver}
 use Rattle.lists.specs.Lists.{AreDistinct, Has}
 
 abbrev pub paths_of : List Change → List (List ℕ)
 paths_of cs = map (λ c. c.path) cs
-
-abbrev pub Pledge : Type 0
-Pledge = Promise Buck Key Value Run
 
 -- the open transaction, the request that is still to be answered, and the answer, of a name
 abbrev pub transaction_of : Driver → List ℕ → Option Transaction
@@ -84,6 +79,13 @@ pub record IsMade (d : Driver) (past : Past) (r : Planned) : Type 0 where
 
 -- ---- the driver
 
+-- What was looked at: the driver sees what the seat has seen; and the promises that a look answered and that were not polled
+-- since are live, and none of them is of a request that is still to be answered.
+pub record Looks (d : Driver) : Type 0 where
+  pub sees : Sees d.seat d.outlook
+  pub live : AreLive d.seat d.outlook.unpolled.items
+  pub apart : (x : Pledge) (q : List ℕ) (y : Pledge) → Has d.outlook.unpolled.items x → pledge_of d q ≡ Some y → x.ask ≡ y.ask → ⊥
+
 -- the driver has the log, the gathered changes and the requests of this plan; those of its transactions that are not closed are
 -- open, and each has an index of its own; and so has each ask
 pub record Matches (id : TableId) (d : Driver) (p : Plan) (past : Past) : Type 0 where
@@ -100,6 +102,7 @@ pub record Matches (id : TableId) (d : Driver) (p : Plan) (past : Past) : Type 0
   pub found : (q : List ℕ) (a : Asked) → past.asked q ≡ Some a → (r : Planned) × Has p.requests r × (r.name ≡ q)
   pub distinct : AreDistinct (paths_of p.gathered)
   pub touched : (q : List ℕ) → past.touched q ≡ false → Has (paths_of p.gathered) q → ⊥
+  pub looks : Looks d
 
 -- the driver stands for a plan, and the line fits what came before it
 pub record IsReady (id : TableId) (d : Driver) (l : Line) : Type 0 where
@@ -137,6 +140,7 @@ pub record KeepsNames (d e : Driver) : Type 0 where
   pub transactions : e.transactions ≡ d.transactions
   pub promises : e.promises ≡ d.promises
   pub answers : e.answers ≡ d.answers
+  pub outlook : e.outlook ≡ d.outlook
 
 -- the transaction of this name is open
 pub record HasTransaction (d : Driver) (t : List ℕ) : Type 0 where
@@ -150,7 +154,7 @@ HasIfHeld d t = (x : Transaction) → transaction_of d t ≡ Some x → HasOpen 
 
 -- a request of this name that is still to be answered is live
 abbrev pub MayWait : Driver → List ℕ → Type 0
-MayWait d q = (x : Pledge) → pledge_of d q ≡ Some x → HasAsk d.seat x.ask x.opened x.version (arc_value x.key) × NotClosed x.opened d.seat.mine
+MayWait d q = (x : Pledge) → pledge_of d q ≡ Some x → IsLive d.seat x
 
 -- the request of this name is still to be answered, and live
 abbrev pub MayCancel : Driver → List ℕ → Type 0
@@ -166,6 +170,8 @@ with_named t x f q = if pointwise nat_eq t q then x else f q
 pub record DidOpen (id : TableId) (t : List ℕ) (d e : Driver) : Type 0 where
   pub transaction : Transaction
   pub opens : Opens id d.seat e.seat transaction.opened transaction.version
+  pub sees : Sees e.seat e.outlook
+  pub unpolled : e.outlook.unpolled ≡ d.outlook.unpolled
   pub transactions : (q : List ℕ) → transaction_of e q ≡ with_named t (Some transaction) (transaction_of d) q
   pub promises : e.promises ≡ d.promises
   pub answers : e.answers ≡ d.answers
@@ -180,9 +186,38 @@ pub record DidAsk (id : TableId) (r : Request) (k : Key) (d e : Driver) : Type 0
   pub opened : pledge.opened ≡ transaction.opened
   pub version : pledge.version ≡ transaction.version
   pub key : arc_value pledge.key ≡ k
+  pub outlook : e.outlook ≡ d.outlook
   pub promises : (q : List ℕ) → pledge_of e q ≡ with_named r.name (Some pledge) (pledge_of d) q
   pub transactions : e.transactions ≡ d.transactions
   pub answers : e.answers ≡ d.answers
+  pub gathered : e.gathered ≡ d.gathered
+  pub newest : e.newest ≡ d.newest
+
+-- what the promise x has come to is known: a look told it, and the promise is still to be polled; or its key is decided
+abbrev pub IsKnown : Pledge → Driver → Driver → Type 0
+IsKnown x d e = (e.outlook.unpolled.items ≡ d.outlook.unpolled.items ++ x ∷ [])
+    ⊎ (e.outlook.unpolled.items ≡ d.outlook.unpolled.items) × (buck.kind (arc_value x.key) ≢ Injected → IsDecidedIn e.seat.seen x.version (arc_value x.key))
+
+-- it became known
+pub record Comes (id : TableId) (x : Pledge) (d e : Driver) : Type 0 where
+  pub goes : Goes id d.seat e.seat []
+  pub known : IsKnown x d e
+  pub sees : Sees e.seat e.outlook
+  pub promises : e.promises ≡ d.promises
+  pub answers : e.answers ≡ d.answers
+  pub transactions : e.transactions ≡ d.transactions
+  pub gathered : e.gathered ≡ d.gathered
+  pub newest : e.newest ≡ d.newest
+
+-- the promises that looks answered were polled, and nothing else was done
+pub record Confirms (id : TableId) (d e : Driver) : Type 0 where
+  pub goes : Goes id d.seat e.seat []
+  pub decided : WereDecided e.seat.seen d.outlook.unpolled.items
+  pub unpolled : e.outlook.unpolled.items ≡ []
+  pub sees : (s : Place) → Sees s d.outlook → Sees s e.outlook
+  pub promises : e.promises ≡ d.promises
+  pub answers : e.answers ≡ d.answers
+  pub transactions : e.transactions ≡ d.transactions
   pub gathered : e.gathered ≡ d.gathered
   pub newest : e.newest ≡ d.newest
 
@@ -190,7 +225,7 @@ pub record DidAsk (id : TableId) (r : Request) (k : Key) (d e : Driver) : Type 0
 pub data DidWait (id : TableId) (q : List ℕ) (d e : Driver) : Type 0 where
   was_told : pledge_of d q ≡ None → e ≡ d → DidWait id q d e
   is_told : (x : Pledge) (text : List ℕ) → pledge_of d q ≡ Some x → Goes id d.seat e.seat [] → IsToldOf (log_in d.seat) x.version (arc_value x.key) text
-      → (buck.kind (arc_value x.key) ≢ Injected → IsDecidedIn e.seat.seen x.version (arc_value x.key))
+      → IsKnown x d e → Sees e.seat e.outlook
       → ((p : List ℕ) → pledge_of e p ≡ with_named q None (pledge_of d) p) → ((p : List ℕ) → answer_of e p ≡ with_named q (Some text) (answer_of d) p)
       → e.transactions ≡ d.transactions → e.gathered ≡ d.gathered → e.newest ≡ d.newest → DidWait id q d e
 
@@ -198,6 +233,7 @@ pub record DidCancel (id : TableId) (q : List ℕ) (d e : Driver) : Type 0 where
   pub pledge : Pledge
   pub held : pledge_of d q ≡ Some pledge
   pub goes : Goes id d.seat e.seat (Leave 0 pledge.ask ∷ [])
+  pub outlook : e.outlook ≡ d.outlook
   pub promises : (p : List ℕ) → pledge_of e p ≡ with_named q None (pledge_of d) p
   pub transactions : e.transactions ≡ d.transactions
   pub answers : e.answers ≡ d.answers
@@ -208,6 +244,7 @@ pub record DidClose (id : TableId) (t : List ℕ) (d e : Driver) : Type 0 where
   pub transaction : Transaction
   pub held : transaction_of d t ≡ Some transaction
   pub goes : Goes id d.seat e.seat (Close 0 transaction.opened ∷ [])
+  pub outlook : e.outlook ≡ d.outlook
   pub transactions : (q : List ℕ) → transaction_of e q ≡ with_named t None (transaction_of d) q
   pub promises : e.promises ≡ d.promises
   pub answers : e.answers ≡ d.answers
@@ -222,3 +259,5 @@ pub record Starts (id : TableId) (d : Driver) : Type 0 where
   pub newest : d.newest.items ≡ []
   pub transactions : (t : List ℕ) → transaction_of d t ≡ None
   pub promises : (q : List ℕ) → pledge_of d q ≡ None
+  pub sees : Sees d.seat d.outlook
+  pub unpolled : d.outlook.unpolled.items ≡ []

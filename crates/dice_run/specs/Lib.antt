@@ -2,6 +2,7 @@ pub mod Run
 pub mod Commits
 pub mod Answers
 pub mod Seats
+pub mod Looking
 pub mod Driving
 pub mod Driven
 pub mod Printing

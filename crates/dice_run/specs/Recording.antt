@@ -1,9 +1,9 @@
 -- What the driver knows of its journal while it carries out a script.
 use Rattle.std.specs.Prelude.{◌≡◌, ◌≢◌, ◌⊎◌, ℕ, Bool, true, false, List, [], ◌∷◌, ◌++◌, Some, None}
 use Rattle.journal.specs.declared.event.Told.TheVariants as told
-use Rattle.journal.specs.Events.{NotClosed, StandsAt}
 use Rattle.turnstile.specs.Events.{StartsWith}
 use Rattle.dice_engine.specs.declared.promise.Transaction.{Transaction}
+use Rattle.std.specs.Arc.{arc_value}
 use Rattle.script.specs.declared.line.Line.{Line}
 use Rattle.script.specs.declared.line.Line.TheVariants.{Put, Drop, Commit, Open, Ask, Action, Wait, Cancel, Close}
 use Rattle.script.specs.declared.fate.Fate.TheVariants as fate
@@ -11,32 +11,34 @@ use Rattle.script.specs.Past.{Table, Past, nothing, after, after_all, fate_of, i
 use Rattle.script.specs.Plan.{Plan, Planned, no_plan, planned, plan_of}
 use Rattle.action_digest.specs.declared.key.Key.{Key}
 use Rattle.script_trace.specs.Output.{key_of}
-use Rattle.script_trace.specs.Events.{Events, Indices, no_indices, AddsLines, AddsEnds, IsDecidedIn}
-use Rattle.dice_run.specs.Driving.{Pledge, transaction_of, pledge_of}
+use Rattle.script_trace.specs.Events.{Events, Indices, no_indices, AddsLines, AddsEnds}
+use Rattle.dice_run.specs.Looking.{Pledge, WasDecided}
+use Rattle.dice_run.specs.Driving.{transaction_of, pledge_of}
 use Rattle.dice_run.specs.declared.driver.Driver.{Driver}
 use Rattle.lists.specs.Lists.{Has}
 
--- at some time (v, k) was decided, and the transaction of this index was open at v
-pub record WasDecided (J : Events) (transaction v : ℕ) (k : Key) : Type 0 where
-  pub earlier : Events
-  pub begins : StartsWith J earlier
-  pub opening : StandsAt earlier transaction (told.Open 0 v)
-  pub open_ : NotClosed transaction earlier
-  pub decided : IsDecidedIn earlier v k
+-- a look answered the request, in the transaction of this index, and it is still to be polled
+pub record IsUnpolled (xs : List Pledge) (transaction : ℕ) (r : Planned) : Type 0 where
+  pub pledge : Pledge
+  pub has : Has xs pledge
+  pub opened : pledge.opened ≡ transaction
+  pub version : pledge.version ≡ r.version
+  pub key : arc_value pledge.key ≡ key_of r.wish
 
--- the index of the request's transaction is known, and, if the request was answered, its key was decided
-pub record IsRecorded (J : Events) (n : Indices) (past : Past) (r : Planned) : Type 0 where
+-- the index of the request's transaction is known, and, if the request was answered, its key was decided, or its promise is among
+-- those that are still to be polled
+pub record IsRecorded (J : Events) (xs : List Pledge) (n : Indices) (past : Past) (r : Planned) : Type 0 where
   pub transaction : ℕ
   pub opened : n.opened r.transaction ≡ Some transaction
   pub known : past.opened r.transaction ≢ None
-  pub decided : fate_of past r.name ≡ Some fate.Answered → WasDecided J transaction r.version (key_of r.wish)
+  pub decided : fate_of past r.name ≡ Some fate.Answered → WasDecided J transaction r.version (key_of r.wish) ⊎ IsUnpolled xs transaction r
 
 -- of what was opened and asked for the indices are known, and a transaction that is closed has its event
 pub record KnowsIndices (d : Driver) (p : Plan) (past : Past) (n : Indices) : Type 0 where
   pub opened : (t : List ℕ) (x : Transaction) → transaction_of d t ≡ Some x → n.opened t ≡ Some x.opened
   pub asked : (q : List ℕ) (x : Pledge) → pledge_of d q ≡ Some x → n.asked q ≡ Some x.ask
   pub closed : (t : List ℕ) → past.opened t ≡ Some false → (i : ℕ) × (n.opened t ≡ Some i) × Has d.seat.mine (told.Close 0 i)
-  pub requests : (r : Planned) → Has p.requests r → IsRecorded d.seat.seen n past r
+  pub requests : (r : Planned) → Has p.requests r → IsRecorded d.seat.seen d.outlook.unpolled.items n past r
 
 -- before the rest of the lines the seat's own events are those of the lines before, in this journal and in each longer one
 pub record Records (ls rest : List Line) (d : Driver) (p : Plan) (past : Past) : Type 0 where

@@ -10,7 +10,7 @@ use Rattle.journal.specs.Tell.{event_by}
 use Rattle.journal.specs.Events.{event_of}
 use Rattle.turnstile.specs.Events.{StartsWith, events_by, AllBelow}
 use Rattle.turnstile.specs.Seats.{SeatView, IsSeatOf}
-use Rattle.dice_engine.specs.Turns.{log_of, Later}
+use Rattle.dice_engine.specs.Turns.{log_of}
 use Rattle.dice_engine.specs.Calls.{differing_from}
 use Rattle.dice_engine.specs.Conditions.{HasOpen, HasAsk}
 use Rattle.action_digest.specs.declared.key.Key.{Key}
@@ -36,10 +36,11 @@ pub record IsOurs (id : TableId) (s : Place) : Type 0 where
   pub mine : events_by event_by 0 s.seen ≡ s.mine
   pub below : AllBelow event_by 1 s.seen
 
--- after turns of its own, in which it added these events
+-- after turns of its own, or none, in which it added these events
 pub record Goes (id : TableId) (s u : Place) (own : List (Told Key Value)) : Type 0 where
   pub ours : IsOurs id u
-  pub later : Later key_equal buck s u
+  pub number : u.number ≡ s.number
+  pub begins : StartsWith u.seen s.seen
   pub mine : u.mine ≡ s.mine ++ own
 
 -- after turns of its own that added nothing

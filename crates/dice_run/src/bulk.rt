@@ -6,7 +6,7 @@ ghost use Rattle.dice_run.specs.declared.kept.Kept.{Kept};
 
 use crate::append;
 use crate::carried::{Ending, carry_out};
-use crate::kept::Kept;
+use crate::kept::{Kept, end};
 use crate::status::Status;
 use bulk_script::{bulk_is_script, bulk_script, request_count};
 use dice_engine::Gate;
@@ -52,7 +52,10 @@ pub(crate) fn run_bulk<R: Threads + Wait + Sync, K: Sink, G: Gate>(
             *kept = ending.kept;
             Status::Done
         }
-        Err(_) => Status::WriteFailed,
+        Err(_) => {
+            end(rt, ending.kept);
+            Status::WriteFailed
+        }
     }
 }
 
@@ -83,12 +86,17 @@ fn sum_up<R: Threads + Wait + Sync, G: Gate>(
         Err(ScriptRefusal::NoMemory) => return Err(NoMemory),
     };
     let ending = carry_out(rt, alloc, workers, false, gate, &script)?;
-    let out = summary(alloc, targets, &ending.out)?;
-    Ok(Ending {
-        status: Status::Done,
-        out,
-        kept: ending.kept,
-    })
+    match summary(alloc, targets, &ending.out) {
+        Ok(out) => Ok(Ending {
+            status: Status::Done,
+            out,
+            kept: ending.kept,
+        }),
+        Err(NoMemory) => {
+            end(rt, ending.kept);
+            Err(NoMemory)
+        }
+    }
 }
 
 /// The line that an output of the bulk script of so many targets is summed up by.

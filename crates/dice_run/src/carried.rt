@@ -86,12 +86,20 @@ pub(crate) fn carry_out<R: Threads + Wait + Sync, G: Gate>(
         → Answers trace input a.out.items a.kept) }
 {
     let universe = Arc::new(alloc, Buck::seeded(alloc, script.seed())?)?;
-    let (engine, seat) = Engine::new(rt, alloc, universe, 1)?;
-    let (seat, output) = drive(rt, alloc, &engine, seat, script, trace, workers, gate);
-    let out = output?;
-    Ok(Ending {
-        status: Status::Done,
-        out,
-        kept: Some(Kept { engine, seat }),
-    })
+    let (engine, seat, mut readers) = Engine::with_readers(rt, alloc, universe, 1, 1)?;
+    let reader = readers.pop();
+    let (seat, output) = drive(
+        rt, alloc, &engine, seat, reader, script, trace, workers, gate,
+    );
+    match output {
+        Ok(out) => Ok(Ending {
+            status: Status::Done,
+            out,
+            kept: Some(Kept { engine, seat }),
+        }),
+        Err(NoMemory) => {
+            engine.end(rt, seat);
+            Err(NoMemory)
+        }
+    }
 }

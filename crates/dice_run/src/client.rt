@@ -9,6 +9,7 @@ ghost use Rattle.dice_key.specs.declared.universe.Kind.TheVariants.{Injected};
 ghost use Rattle.action_digest.specs.Buck.{buck};
 ghost use Rattle.dice_run.specs.Commits.{AreDistinctSources};
 ghost use Rattle.script_trace.specs.Events.{IsDecidedIn};
+ghost use Rattle.dice_run.specs.Looking.{AreLive, WereDecided};
 ghost use Rattle.dice_run.specs.Seats.{IsOurs, log_in, Commits, Opens, Asks, Goes, IsCome};
 
 use action_digest::{Buck, Key, Value};
@@ -113,6 +114,25 @@ pub(crate) fn wait<R: Wait, G: Gate>(
         Settled::Cycle(path) => Ok(Came::Cycle(path)),
         Settled::Gone => unreachable!(),
     }
+}
+
+/// Waits for each of these promises.
+pub(crate) fn wait_all<R: Wait, G: Gate>(
+    rt: &R,
+    engine: &Engine<Buck>,
+    seat: &mut Seat<Buck>,
+    promises: &[Promise<Buck>],
+    gate: &G,
+) -> Result<(), NoMemory>
+    requires ours { IsOurs engine.now seat.old }
+    requires live { AreLive seat.old promises.now }
+    ensures goes { Goes engine.now seat.old seat.new [] }
+    ensures decided { OnOk result (WereDecided seat.new.seen promises.now) }
+{
+    for promise in promises {
+        wait(rt, engine, seat, promise, gate)?;
+    }
+    Ok(())
 }
 
 /// The lines of the journal, one for each event, in order.

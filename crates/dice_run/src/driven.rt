@@ -10,10 +10,11 @@ ghost use Rattle.dice_run.specs.Printing.{IsDone};
 
 use crate::driver::Driver;
 use crate::named::with_room;
+use crate::outlook::Outlook;
 use crate::printer::print;
 use crate::{append, client};
 use action_digest::Buck;
-use dice_engine::{Engine, Gate, Seat, Updater};
+use dice_engine::{Engine, Gate, Reader, Seat, Updater};
 use dice_key::NoMemory;
 use script::{Line, Name, Request, Script};
 use std::alloc::Global;
@@ -26,6 +27,7 @@ pub(crate) fn drive_alone<R: Wait, G: Gate>(
     alloc: Global,
     engine: &Engine<Buck>,
     seat: Seat<Buck>,
+    reader: Option<Reader<Buck>>,
     script: &Script,
     trace: bool,
     gate: &G,
@@ -41,6 +43,7 @@ pub(crate) fn drive_alone<R: Wait, G: Gate>(
     let mut driver = Driver {
         alloc,
         seat,
+        outlook: Outlook::new(alloc, reader),
         gathered: Updater::new(alloc),
         newest: Vec::new(alloc),
         transactions: HashMap::with_hasher(alloc, seed),
@@ -86,6 +89,7 @@ impl Driver {
     {
         self.lines(rt, engine, gate, script)?;
         self.settle(rt, engine, gate, script)?;
+        self.confirm(rt, engine, gate)?;
         self.close_all(rt, engine, script);
         let output = print(self.alloc, script, self)?;
         if trace {
@@ -199,7 +203,8 @@ impl Driver {
 
     /// Closes the transactions that are open, in the order of opening.
     fn close_all<R: Wait>(&mut self, rt: &R, engine: &Engine<Buck>, script: &Script)
-        requires { Settled engine.now script.now self.old }
+        requires settled { Settled engine.now script.now self.old }
+        requires polled { self.old.outlook.unpolled.items ≡ [] }
         ensures { Closing engine.now script.now [] self.new }
     {
         for line in script.lines() {

@@ -1,5 +1,5 @@
 //! The driver of a script: what its lines have the engine do.
-ghost use Rattle.std.specs.Prelude.{◌≡◌, ◌++◌, ◌∷◌, [], ℕ, List, Some, None, OnOk, length, nat_eq, if◌then◌else◌};
+ghost use Rattle.std.specs.Prelude.{◌≡◌, ◌++◌, ◌∷◌, [], ℕ, List, Some, None, IfOk, OnOk, length, nat_eq, if◌then◌else◌};
 ghost use Rattle.std.specs.HashMap.{get};
 ghost use Rattle.std.specs.Cmp.Lexicographic.{pointwise};
 ghost use Rattle.std.specs.Arc.{arc_value};
@@ -9,12 +9,14 @@ ghost use Rattle.script.specs.Past.{Past};
 ghost use Rattle.script.specs.Order.{Fits};
 ghost use Rattle.script.specs.Plan.{Ends, Plan};
 ghost use Rattle.dice_run.specs.Commits.{AreDistinctSources};
-ghost use Rattle.dice_run.specs.Seats.{IsOurs, log_in, Commits};
+ghost use Rattle.dice_run.specs.Looking.{Sees, IsLive, AreLive};
+ghost use Rattle.dice_run.specs.Seats.{IsOurs, IsCome, log_in, Commits};
 ghost use Rattle.dice_run.specs.Recording.{RecordsStep};
-ghost use Rattle.dice_run.specs.Driving.{Matches, Steps, IsReady, KeepsNames, DidOpen, DidAsk, DidWait, DidCancel, DidClose, HasTransaction, MayWait, MayCancel, MayClose};
+ghost use Rattle.dice_run.specs.Driving.{Matches, Steps, IsReady, KeepsNames, DidOpen, DidAsk, DidWait, Comes, Confirms, DidCancel, DidClose, HasTransaction, MayWait, MayCancel, MayClose};
 
 use crate::client::{self, Came};
 use crate::named::{note, take};
+use crate::outlook::Outlook;
 use crate::request::came_lines;
 use action_digest::{Buck, Key, Value};
 use buck_label::{Path, Text};
@@ -26,13 +28,14 @@ use std::collections::HashMap;
 use std::mem;
 use std::sync::{Arc, Wait};
 
-/// What has been done of a script: the seat at the engine; what was gathered since the last commit;
-/// the newest version after each commit; the transactions that are open; the requests that are
-/// still to be answered; and the answers.
+/// What has been done of a script: the seat at the engine, and what is seen without a turn; what
+/// was gathered since the last commit; the newest version after each commit; the transactions that
+/// are open; the requests that are still to be answered; and the answers.
 #[derive(Drop)]
 pub(crate) struct Driver {
     pub(crate) alloc: Global,
     pub(crate) seat: Seat<Buck>,
+    pub(crate) outlook: Outlook,
     pub(crate) gathered: Updater<Buck>,
     pub(crate) newest: Vec<u64>,
     pub(crate) transactions: HashMap<Text, Transaction, Seed>,
@@ -72,7 +75,10 @@ impl Driver {
             }
             Line::Wait(name) => self.wait(rt, engine, gate, name)?,
             Line::Cancel(name) => self.cancel(rt, engine, name),
-            Line::Close(name) => self.close(rt, engine, name),
+            Line::Close(name) => {
+                self.confirm(rt, engine, gate)?;
+                self.close(rt, engine, name);
+            }
         }
         Ok(())
     }
@@ -108,13 +114,15 @@ impl Driver {
         Ok(())
     }
 
-    /// Opens a transaction.
+    /// Opens a transaction, and has the reader told what is finished.
     fn open<R: Wait>(&mut self, rt: &R, engine: &Engine<Buck>, name: &Name) -> Result<(), NoMemory>
         requires { IsOurs engine.now self.old.seat }
         ensures ours { IsOurs engine.now self.new.seat }
         ensures did { OnOk result (DidOpen engine.now name.now self.old self.new) }
     {
         let transaction = client::open(rt, engine, &mut self.seat)?;
+        self.outlook
+            .tell(rt, engine, &mut self.seat, transaction.version);
         note(&mut self.transactions, name, transaction)
     }
 
@@ -139,7 +147,7 @@ impl Driver {
         note(&mut self.promises, &request.name, promise)
     }
 
-    /// Waits for a request, unless it was waited for before, and notes how it is answered.
+    /// Waits for a request, unless it was answered before, and notes how it is answered.
     pub(crate) fn wait<R: Wait, G: Gate>(
         &mut self,
         rt: &R,
@@ -149,6 +157,7 @@ impl Driver {
     ) -> Result<(), NoMemory>
         requires ours { IsOurs engine.now self.old.seat }
         requires open { MayWait self.old name.now }
+        requires sees { Sees self.old.seat self.old.outlook }
         ensures ours { IsOurs engine.now self.new.seat }
         ensures did { OnOk result (DidWait engine.now name.now self.old self.new) }
     {
@@ -158,9 +167,51 @@ impl Driver {
         let Some(promise) = take(&mut self.promises, name) else {
             unreachable!()
         };
-        let came = client::wait(rt, engine, &mut self.seat, &promise, gate)?;
+        let came = self.come(rt, engine, gate, promise)?;
         let answer = came_lines(self.alloc, &came)?;
         note(&mut self.answers, name, answer)
+    }
+
+    /// What a key that was asked for has come to. If a look does not tell, it is waited for;
+    /// otherwise its promise is still to be polled.
+    fn come<R: Wait, G: Gate>(
+        &mut self,
+        rt: &R,
+        engine: &Engine<Buck>,
+        gate: &G,
+        promise: Promise<Buck>,
+    ) -> Result<Came, NoMemory>
+        requires ours { IsOurs engine.now self.old.seat }
+        requires sees { Sees self.old.seat self.old.outlook }
+        requires live { IsLive self.old.seat promise }
+        ensures did { OnOk result (Comes engine.now promise self.old self.new) }
+        ensures ours { IsOurs engine.now self.new.seat }
+        ensures came { IfOk result
+            (IsCome (log_in self.old.seat) promise.version (arc_value promise.key)) }
+    {
+        if let Some(value) = self.outlook.look(engine, &promise) {
+            self.outlook.unpolled.push(promise)?;
+            return Ok(Came::Value(value));
+        }
+        client::wait(rt, engine, &mut self.seat, &promise, gate)
+    }
+
+    /// Polls each promise that a look answered, and waits for it if it is pending: so the seat has
+    /// seen then that its key is decided.
+    pub(crate) fn confirm<R: Wait, G: Gate>(
+        &mut self,
+        rt: &R,
+        engine: &Engine<Buck>,
+        gate: &G,
+    ) -> Result<(), NoMemory>
+        requires ours { IsOurs engine.now self.old.seat }
+        requires live { AreLive self.old.seat self.old.outlook.unpolled.items }
+        ensures ours { IsOurs engine.now self.new.seat }
+        ensures did { OnOk result (Confirms engine.now self.old self.new) }
+    {
+        client::wait_all(rt, engine, &mut self.seat, &self.outlook.unpolled, gate)?;
+        self.outlook.unpolled.clear();
+        Ok(())
     }
 
     /// Gives a request up.

@@ -9,6 +9,7 @@ mod driven;
 mod driver;
 mod kept;
 mod named;
+mod outlook;
 mod printer;
 mod request;
 mod run_of;

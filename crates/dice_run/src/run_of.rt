@@ -9,7 +9,7 @@ ghost use Rattle.dice_run.specs.Given.{IsGiven};
 
 use crate::bulk::run_bulk;
 use crate::carried::answer;
-use crate::kept::Kept;
+use crate::kept::{Kept, end};
 use crate::status::Status;
 use dice_engine::Gate;
 use dice_io::{ReadFail, Sink, Source, read_all, write_all};
@@ -150,6 +150,9 @@ fn run_script<R: Threads + Wait + Sync, S: Source, K: Sink, G: Gate>(
             *kept = ending.kept;
             ending.status
         }
-        Err(_) => Status::WriteFailed,
+        Err(_) => {
+            end(rt, ending.kept);
+            Status::WriteFailed
+        }
     }
 }

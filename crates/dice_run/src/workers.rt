@@ -7,7 +7,7 @@ ghost use Rattle.dice_run.specs.Seats.{IsOurs};
 
 use crate::driven::drive_alone;
 use action_digest::Buck;
-use dice_engine::{Engine, Gate, Seat};
+use dice_engine::{Engine, Gate, Reader, Seat};
 use dice_key::NoMemory;
 use script::Script;
 use std::alloc::Global;
@@ -20,6 +20,9 @@ use std::thread::Threads;
 /// the order of asking. If it is wanted, the trace of the journal follows the output. The seat
 /// comes back.
 ///
+/// If there is a reader, it is told after each `open` what is finished. Then requests are first
+/// looked at by it, without a turn, and polled before a transaction is closed.
+///
 /// Each worker has a seat that is split off from this one, and does jobs in a thread of its own
 /// until the script is done; if no thread can be made, waiting does all jobs. With no workers no
 /// thread is made.
@@ -28,6 +31,7 @@ pub fn drive<R: Threads + Wait + Sync, G: Gate>(
     alloc: Global,
     engine: &Engine<Buck>,
     seat: Seat<Buck>,
+    reader: Option<Reader<Buck>>,
     script: &Script,
     trace: bool,
     workers: u32,
@@ -41,12 +45,12 @@ pub fn drive<R: Threads + Wait + Sync, G: Gate>(
     ensures journal { OnOk result.1 (IsJournalOf script.now result.0.seen) }
 {
     if workers == 0 {
-        return drive_alone(rt, alloc, engine, seat, script, trace, gate);
+        return drive_alone(rt, alloc, engine, seat, reader, script, trace, gate);
     }
     let mut seat = seat;
     match engine.split_seats(alloc, &mut seat, u64::from(workers)) {
-        Ok(seats) => drive_with(rt, alloc, engine, seat, seats, script, trace, gate),
-        Err(NoMemory) => drive_alone(rt, alloc, engine, seat, script, trace, gate),
+        Ok(seats) => drive_with(rt, alloc, engine, seat, reader, seats, script, trace, gate),
+        Err(NoMemory) => drive_alone(rt, alloc, engine, seat, reader, script, trace, gate),
     }
 }
 
@@ -56,6 +60,7 @@ fn drive_with<R: Threads + Wait + Sync, G: Gate>(
     alloc: Global,
     engine: &Engine<Buck>,
     seat: Seat<Buck>,
+    reader: Option<Reader<Buck>>,
     seats: Vec<Seat<Buck>>,
     script: &Script,
     trace: bool,
@@ -77,6 +82,6 @@ fn drive_with<R: Threads + Wait + Sync, G: Gate>(
             ensures { IsOurs engine.entry.now result.0
                 × IfOk result.1 (λ out. IsPrintout trace script.entry.now result.0.seen out.items)
                 × OnOk result.1 (IsJournalOf script.entry.now result.0.seen) }
-        { drive_alone(rt, alloc, engine, seat, script, trace, gate) },
+        { drive_alone(rt, alloc, engine, seat, reader, script, trace, gate) },
     )
 }

@@ -99,6 +99,7 @@ fn all_as_wanted<R: Wait>(
     seat: &mut Seat<Tiny>,
 ) -> Result<bool, NoMemory>
     requires { IsSeatOf engine.now seat.old × IsWriter seat.old }
+    ensures { IsSeatOf engine.now seat.new }
 {
     for (changes, want) in &ROWS {
         if commit(rt, alloc, engine, seat, changes)? != *want {
@@ -108,10 +109,12 @@ fn all_as_wanted<R: Wait>(
     Ok(true)
 }
 
-/// Whether they do so on an engine of their own.
+/// Whether they do so on an engine of their own, which ends then.
 fn all_as_wanted_alone<R: Wait>(rt: &R, alloc: Global) -> Result<bool, NoMemory> {
     let (engine, mut seat) = start(rt, alloc, Tiny::new(alloc)?, 1)?;
-    all_as_wanted(rt, alloc, &engine, &mut seat)
+    let all = all_as_wanted(rt, alloc, &engine, &mut seat);
+    engine.end(rt, seat);
+    all
 }
 
 #[test]
@@ -154,12 +157,16 @@ fn a_promise_is_pending_then_settled_and_at_last_gone(rt: HostRuntime) -> Result
 fn two_seats<R: Wait>(rt: &R, alloc: Global) -> Result<(Worked, Seen, u64, Worked), NoMemory> {
     let ring = Arc::new(alloc, Place::Ring(true))?;
     let (engine, mut zero) = start(rt, alloc, Tiny::new(alloc)?, 1)?;
-    let mut one = engine.split(&mut zero)?;
-    let (worked, last) = waited(rt, &engine, &mut zero, &mut one, ring)?;
-    let seen = seen_of(&last);
+    let Ok(mut one) = engine.split(&mut zero) else {
+        engine.end(rt, zero);
+        return Err(NoMemory);
+    };
+    let came = waited(rt, &engine, &mut zero, &mut one, ring);
     let number = engine.join(&mut zero, one);
     let left = engine.work(rt, &mut zero, &Open, 0);
-    Ok((worked, seen, number, left))
+    engine.end(rt, zero);
+    let (worked, last) = came?;
+    Ok((worked, seen_of(&last), number, left))
 }
 
 #[test]
@@ -209,15 +216,23 @@ fn newest_of_two<R: Wait>(
     alloc: Global,
 ) -> Result<(Version, Made, Version, Version), NoMemory> {
     let (engine, mut zero) = start(rt, alloc, Tiny::new(alloc)?, 2)?;
-    let mut one = engine.split(&mut zero)?;
+    let Ok(mut one) = engine.split(&mut zero) else {
+        engine.end(rt, zero);
+        return Err(NoMemory);
+    };
     let before = engine.newest(&mut zero);
-    let made = commit(rt, alloc, &engine, &mut one, &CELLS)?;
+    let made = commit(rt, alloc, &engine, &mut one, &CELLS);
     let after = engine.newest(&mut zero);
-    let transaction = engine.open(rt, &mut zero)?;
-    let opened = transaction.version;
-    engine.close(rt, &mut zero, transaction);
+    let opened = match engine.open(rt, &mut zero) {
+        Ok(transaction) => {
+            let version = transaction.version;
+            engine.close(rt, &mut zero, transaction);
+            Ok(version)
+        }
+        Err(NoMemory) => Err(NoMemory),
+    };
     engine.end(rt, zero);
-    Ok((before, made, after, opened))
+    Ok((before, made?, after, opened?))
 }
 
 #[test]

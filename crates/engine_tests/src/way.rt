@@ -92,6 +92,7 @@ pub(crate) fn way_of<U: Universe, R: Wait>(
     key: KeyRef<U>,
 ) -> Result<Way<U>, NoMemory>
     requires { IsSeatOf engine.now seat.old × IsWriter seat.old }
+    ensures { IsSeatOf engine.now seat.new }
 {
     let transaction = engine.open(rt, seat)?;
     let version = transaction.version;
@@ -139,7 +140,7 @@ impl<U: Universe> Drop for Course<U> {
     }
 }
 
-/// A commit on an engine of its own, and then the way of a promise for a key.
+/// A commit on an engine of its own, which ends then, and the way of a promise for a key.
 pub(crate) fn course_of<U: Universe, R: Wait>(
     rt: &R,
     alloc: Global,
@@ -148,9 +149,25 @@ pub(crate) fn course_of<U: Universe, R: Wait>(
     key: KeyRef<U>,
 ) -> Result<Course<U>, NoMemory> {
     let (engine, mut seat) = start(rt, alloc, universe, 1)?;
-    let before = engine.log(rt, alloc, &mut seat)?.len();
-    let made = engine.commit(rt, &mut seat, updater).ok();
-    let way = way_of(rt, alloc, &engine, &mut seat, key)?;
+    let course = course_on(rt, alloc, &engine, &mut seat, updater, key);
+    engine.end(rt, seat);
+    course
+}
+
+fn course_on<U: Universe, R: Wait>(
+    rt: &R,
+    alloc: Global,
+    engine: &Engine<U>,
+    seat: &mut Seat<U>,
+    updater: &Updater<U>,
+    key: KeyRef<U>,
+) -> Result<Course<U>, NoMemory>
+    requires { IsSeatOf engine.now seat.old × IsWriter seat.old }
+    ensures { IsSeatOf engine.now seat.new }
+{
+    let before = engine.log(rt, alloc, seat)?.len();
+    let made = engine.commit(rt, seat, updater).ok();
+    let way = way_of(rt, alloc, engine, seat, key)?;
     let taken = engine.is_taken();
     Ok(Course {
         before,

@@ -7,7 +7,7 @@ use std::test::Fail;
 use std::thread::Threads;
 
 /// The status of a run with these words, from this source into this sink; 100 more if an engine
-/// is kept after another status than 0, or none after 0.
+/// is kept after another status than 0, or none after 0. The engine ends.
 pub(crate) fn status_of<R: Threads + Wait + Sync, G: Gate>(
     rt: &R,
     alloc: Global,
@@ -18,7 +18,11 @@ pub(crate) fn status_of<R: Threads + Wait + Sync, G: Gate>(
 ) -> u8 {
     let mut kept = None;
     let status = run(rt, alloc, words, source, sink, gate, &mut kept).code();
-    if kept.is_some() == (status == 0) {
+    let is_kept = kept.is_some();
+    if let Some(kept) = kept {
+        kept.end(rt);
+    }
+    if is_kept == (status == 0) {
         status
     } else {
         status.saturating_add(100)

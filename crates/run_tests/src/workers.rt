@@ -64,18 +64,19 @@ fn traces_and_summaries(rt: HostRuntime) -> Result<(), Fail> {
     Ok(())
 }
 
-/// What a script prints that is driven on an engine of its own, and the number of the seat that
-/// comes back.
+/// What a script prints that is driven on an engine of its own, with a reader, and the number of
+/// the seat that comes back. The engine ends.
 fn driven<R: Threads + Wait + Sync>(
     rt: &R,
     alloc: Global,
     script: &Script,
 ) -> Result<(Vec<u8>, u64), Fail> {
     let universe = Arc::new(alloc, Buck::new(alloc)?)?;
-    let (engine, seat) = Engine::new(rt, alloc, universe, 1)?;
-    let (seat, out) = drive(rt, alloc, &engine, seat, script, false, 2, &Open);
+    let (engine, seat, mut readers) = Engine::with_readers(rt, alloc, universe, 1, 1)?;
+    let reader = readers.pop();
+    let (seat, out) = drive(rt, alloc, &engine, seat, reader, script, false, 2, &Open);
     let number = seat.number();
-    drop(seat);
+    engine.end(rt, seat);
     Ok((out?, number))
 }
 

@@ -8,7 +8,7 @@ use Rattle.lists.proofs.Places.{drop_item}
 
 pub loop-line-init : goal.loop-line-init
 loop-line-init g c =
-    subst (λ (ls : List Line). Closing c.args.engine.now c.args.script.now ls c.args.self.now) (sym c.lines-line-items.ensures.lines) (closing_first c.args.engine.now c.args.script.now c.args.self.now c.requires)
+    subst (λ (ls : List Line). Closing c.args.engine.now c.args.script.now ls c.args.self.now) (sym c.lines-line-items.ensures.lines) (closing_first c.args.engine.now c.args.script.now c.args.self.now c.requires.settled c.requires.polled)
 
 pub close_line-requires : goal.close_line-requires
 close_line-requires g c =

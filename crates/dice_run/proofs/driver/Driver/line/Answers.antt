@@ -1,14 +1,15 @@
 use Rattle.std.proofs.Common.{◌≡◌, true, ◌∙◌, ◌++◌, ◌∷◌, [], List, ℕ, Some, sym, ap, subst, rules}
 use Rattle.script.specs.Order.{Fits}
 use Rattle.script.specs.declared.line.Line.{Line}
+use Rattle.script.specs.declared.line.Line.TheVariants as line
 use Rattle.action_digest.specs.declared.key.Key.TheVariants as key
 use Rattle.action_digest.specs.declared.value.Value.TheVariants as value
 use Rattle.std.specs.Arc.{arc_value}
 use Rattle.dice_run.specs.Driving.{Steps, DidAsk}
 use Rattle.dice_run.proofs.Changing.{distinct_sources}
-use Rattle.dice_run.proofs.Steps.{put_steps, drop_steps, commit_stands, open_stands, ask_steps, action_steps, wait_stands, cancel_stands, close_stands, has_transaction, may_wait, may_cancel}
+use Rattle.dice_run.proofs.Steps.{put_steps, drop_steps, commit_stands, open_stands, ask_steps, action_steps, wait_stands, cancel_stands, close_stands, confirm_stands, after_confirming, has_transaction, may_wait, may_cancel}
 use Rattle.dice_run.specs.Recording.{RecordsStep}
-use Rattle.dice_run.proofs.Recorded.{put_records, drop_records, commit_records, open_records, ask_records, action_records, wait_records, cancel_records, close_records}
+use Rattle.dice_run.proofs.Recorded.{put_records, drop_records, commit_records, open_records, ask_records, action_records, wait_records, cancel_records, close_records, records_confirmed}
 use Rattle.dice_run.proofs.Steps.{version_is}
 use Rattle.dice_run.proofs.driver.Driver.line.Goals as goal
 
@@ -34,9 +35,16 @@ pub cancel-requires-clause-open : goal.cancel-requires-clause-open
 cancel-requires-clause-open g c =
     may_cancel c.args.engine.now c.args.self.now c.requires.plan c.requires.past c.requires.stands c.in-Cancel.name (subst (Fits c.requires.past) c.in-Cancel.is c.requires.fits)
 
+pub wait-requires-clause-sees : goal.wait-requires-clause-sees
+wait-requires-clause-sees g c = c.requires.stands.looks.sees
+
+pub confirm-requires-clause-live : goal.confirm-requires-clause-live
+confirm-requires-clause-live g c = c.requires.stands.looks.live
+
 pub close-requires-clause-open : goal.close-requires-clause-open
 close-requires-clause-open g c =
-    has_transaction c.args.engine.now c.args.self.now c.requires.plan c.requires.past c.requires.stands c.in-Close.name (subst (Fits c.requires.past) c.in-Close.is c.requires.fits)
+    let m = confirm_stands c.args.engine.now c.args.self.now c.confirm.new.self c.requires.plan c.requires.past c.requires.stands c.in_ok-confirm-in-Close.ensures.did in
+    has_transaction c.args.engine.now c.confirm.new.self c.requires.plan c.requires.past m c.in-Close.name (subst (Fits c.requires.past) c.in-Close.is c.requires.fits)
 
 pub returns-in_ok-gather-in-Put-clause-stands : goal.returns-in_ok-gather-in-Put-clause-stands
 returns-in_ok-gather-in-Put-clause-stands g c ends p past m f =
@@ -93,10 +101,14 @@ returns-in-Cancel-clause-stands g c ends p past m f =
     subst (λ (l : Line). Steps c.args.engine.now ends p past l c.args.self.now c.cancel.new.self) (sym c.in-Cancel.is)
     (cancel_stands c.args.engine.now ends c.args.self.now c.cancel.new.self p past c.in-Cancel.name m fits c.cancel.ensures)
 
-pub returns-in-Close-clause-stands : goal.returns-in-Close-clause-stands
-returns-in-Close-clause-stands g c ends p past m f =
-    subst (λ (l : Line). Steps c.args.engine.now ends p past l c.args.self.now c.close.new.self) (sym c.in-Close.is)
-    (close_stands c.args.engine.now ends c.args.self.now c.close.new.self p past c.in-Close.name m c.close.ensures)
+pub returns-in_ok-confirm-in-Close-clause-stands : goal.returns-in_ok-confirm-in-Close-clause-stands
+returns-in_ok-confirm-in-Close-clause-stands g c ends p past m f =
+    let d = c.args.self.now in
+    let b = c.confirm.new.self in
+    let x = c.in_ok-confirm-in-Close.ensures.did in
+    subst (λ (l : Line). Steps c.args.engine.now ends p past l d c.close.new.self) (sym c.in-Close.is)
+    (after_confirming c.args.engine.now ends d b c.close.new.self p past (line.Close c.in-Close.name) x
+    (close_stands c.args.engine.now ends b c.close.new.self p past c.in-Close.name (confirm_stands c.args.engine.now d b p past m x) x.unpolled c.close.ensures))
 
 pub returns-in_ok-gather-in-Put-clause-records : goal.returns-in_ok-gather-in-Put-clause-records
 returns-in_ok-gather-in-Put-clause-records g c p past m f =
@@ -150,7 +162,11 @@ returns-in-Cancel-clause-records g c p past m f =
     subst (λ (l : Line). RecordsStep p past l c.args.self.now c.cancel.new.self) (sym c.in-Cancel.is)
     (cancel_records c.args.engine.now c.args.self.now c.cancel.new.self p past c.in-Cancel.name m c.cancel.ensures)
 
-pub returns-in-Close-clause-records : goal.returns-in-Close-clause-records
-returns-in-Close-clause-records g c p past m f =
-    subst (λ (l : Line). RecordsStep p past l c.args.self.now c.close.new.self) (sym c.in-Close.is)
-    (close_records c.args.engine.now c.args.self.now c.close.new.self p past c.in-Close.name c.close.ensures)
+pub returns-in_ok-confirm-in-Close-clause-records : goal.returns-in_ok-confirm-in-Close-clause-records
+returns-in_ok-confirm-in-Close-clause-records g c p past m f =
+    let d = c.args.self.now in
+    let b = c.confirm.new.self in
+    let x = c.in_ok-confirm-in-Close.ensures.did in
+    subst (λ (l : Line). RecordsStep p past l d c.close.new.self) (sym c.in-Close.is)
+    (λ ls rest r. close_records c.args.engine.now b c.close.new.self p past c.in-Close.name c.close.ensures ls rest
+    (records_confirmed c.args.engine.now ls (line.Close c.in-Close.name ∷ rest) d b p past m x r))

@@ -17,20 +17,20 @@ map_if : {X Y : Type 0} (f : X → Y) (b : Bool) (x : X) (o : Option X) → opti
 map_if f true x o = refl
 map_if f false x o = refl
 
-pub wait-requires-clause-asked : goal.wait-requires-clause-asked
-wait-requires-clause-asked g c κs within = (c.requires.open c.in-Some.promise (sym c.take.ensures.value ∙ c.in-Some.is)).0
-
-pub wait-requires-clause-open : goal.wait-requires-clause-open
-wait-requires-clause-open g c κs within = (c.requires.open c.in-Some.promise (sym c.take.ensures.value ∙ c.in-Some.is)).1
+pub come-requires-clause-live : goal.come-requires-clause-live
+come-requires-clause-live g c = c.requires.open c.in-Some.promise (sym c.take.ensures.value ∙ c.in-Some.is)
 
 pub returns-clause-did : goal.returns-clause-did
 returns-clause-did g c = on_ok c.note.result _ _
     (λ noted.
     let p = c.in-Some.promise in
-    is_told p c.in_ok-answer.answer.items (sym c.take.ensures.value ∙ c.in-Some.is) c.wait.ensures.goes
+    let did = c.in_ok-came.ensures.did in
+    is_told p c.in_ok-answer.answer.items (sym c.take.ensures.value ∙ c.in-Some.is) did.goes
     (c.in_ok-answer.ensures (log_in c.args.self.now.seat) p.version (arc_value p.key) c.in_ok-came.ensures.came)
-    c.in_ok-came.ensures.decided
-    c.take.ensures.rest
-    (λ n. ap (option_map (λ v. v.items)) (noted n) ∙ map_if (λ v. v.items) (bytes_eq c.args.name.now n) c.in_ok-answer.answer (get (pointwise nat_eq) c.args.self.now.answers n))
-    refl refl refl)
+    did.known
+    did.sees
+    (λ n. ap (λ v. get (pointwise nat_eq) v n) did.promises ∙ c.take.ensures.rest n)
+    (λ n. ap (option_map (λ v. v.items)) (noted n) ∙ (map_if (λ v. v.items) (bytes_eq c.args.name.now n) c.in_ok-answer.answer (get (pointwise nat_eq) c.come.new.self.answers n)
+    ∙ ap (λ v. cond (bytes_eq c.args.name.now n) (Some c.in_ok-answer.answer.items) (option_map (λ w. w.items) (get (pointwise nat_eq) v n))) did.answers))
+    did.transactions did.gathered did.newest)
     c.note.ensures
