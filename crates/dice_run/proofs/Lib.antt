@@ -8,6 +8,7 @@ pub mod Ending
 pub mod Printed
 pub mod Recorded
 pub mod Polling
+pub mod Looks
 pub mod Deciding
 pub mod Traced
 pub mod Closings

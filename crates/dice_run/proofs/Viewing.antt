@@ -9,6 +9,7 @@ use Rattle.atomic_table.specs.Seated.{TableId}
 use Rattle.journal.specs.declared.event.Told.{Told}
 use Rattle.journal.specs.Events.{NotClosed, NotLeft}
 use Rattle.turnstile.specs.Events.{StartsWith}
+use Rattle.shelf.specs.Ends.{ReaderView}
 use Rattle.dice_engine.proofs.Callers.{closed_both}
 use Rattle.action_digest.specs.declared.key.Key.{Key}
 use Rattle.action_digest.specs.declared.value.Value.{Value}
@@ -90,10 +91,10 @@ looks_none d sees none = record {
 }
 
 -- a reader that was told nothing yet
-pub sees_first : (s : Place) (o : Outlook) → o.told ≡ 0 → Sees s o
-sees_first s o z r e f = record {
+pub sees_first : (s : Place) (r : ReaderView Key Value) → SeesWith s 0 r
+sees_first s r = record {
   journal = [];
   begins = (s.seen, refl);
-  newest = subst (λ n. n ≤ 0) (sym z) (omega arith);
+  newest = (omega arith);
   rows = record { told = []; has = refl; begins = (r.seen, refl) };
 }

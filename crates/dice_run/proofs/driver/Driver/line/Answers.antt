@@ -36,10 +36,10 @@ cancel-requires-clause-open g c =
     may_cancel c.args.engine.now c.args.self.now c.requires.plan c.requires.past c.requires.stands c.in-Cancel.name (subst (Fits c.requires.past) c.in-Cancel.is c.requires.fits)
 
 pub wait-requires-clause-sees : goal.wait-requires-clause-sees
-wait-requires-clause-sees g c = c.requires.stands.looks.sees
+wait-requires-clause-sees g c κs within = c.requires.stands.looks.sees
 
 pub confirm-requires-clause-live : goal.confirm-requires-clause-live
-confirm-requires-clause-live g c = c.requires.stands.looks.live
+confirm-requires-clause-live g c κs within = c.requires.stands.looks.live
 
 pub close-requires-clause-open : goal.close-requires-clause-open
 close-requires-clause-open g c =

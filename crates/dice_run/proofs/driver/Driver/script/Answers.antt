@@ -8,10 +8,10 @@ on_each (Ok a) P p = p
 on_each (Err e) P p = tt
 
 pub confirm-requires-clause-ours : goal.confirm-requires-clause-ours
-confirm-requires-clause-ours g c = c.in_ok-settle.ensures.settled.stands.ours
+confirm-requires-clause-ours g c κs within = c.in_ok-settle.ensures.settled.stands.ours
 
 pub confirm-requires-clause-live : goal.confirm-requires-clause-live
-confirm-requires-clause-live g c = c.in_ok-settle.ensures.settled.stands.looks.live
+confirm-requires-clause-live g c κs within = c.in_ok-settle.ensures.settled.stands.looks.live
 
 pub close_all-requires-clause-settled : goal.close_all-requires-clause-settled
 close_all-requires-clause-settled g c = settled_confirmed c.args.engine.now c.args.script.now c.settle.new.self c.confirm.new.self c.in_ok-settle.ensures.settled c.in_ok-confirm.ensures.did

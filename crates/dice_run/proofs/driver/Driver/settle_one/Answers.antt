@@ -21,7 +21,7 @@ wait-requires-clause-open g c κs within =
     may_wait c.args.engine.now d (plan_of ls) n.past n.settling.stands q (settling_some c.args.engine.now ls d n.past q n.settling n.request n.made n.named) (settling_alive c.args.engine.now ls d n.past q n.settling (sym c.if-is_cancelled.ensures))
 
 pub wait-requires-clause-sees : goal.wait-requires-clause-sees
-wait-requires-clause-sees g c = c.requires.settling.stands.looks.sees
+wait-requires-clause-sees g c κs within = c.requires.settling.stands.looks.sees
 
 pub returns-clause-settles : goal.returns-clause-settles
 returns-clause-settles g c = on_ok c.wait.result _ _ (λ did past s.

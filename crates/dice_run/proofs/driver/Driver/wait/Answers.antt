@@ -18,7 +18,7 @@ map_if f true x o = refl
 map_if f false x o = refl
 
 pub come-requires-clause-live : goal.come-requires-clause-live
-come-requires-clause-live g c = c.requires.open c.in-Some.promise (sym c.take.ensures.value ∙ c.in-Some.is)
+come-requires-clause-live g c κs within = c.requires.open c.in-Some.promise (sym c.take.ensures.value ∙ c.in-Some.is)
 
 pub returns-clause-did : goal.returns-clause-did
 returns-clause-did g c = on_ok c.note.result _ _
