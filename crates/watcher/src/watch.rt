@@ -27,10 +27,13 @@ pub(crate) fn watch_builder<R: Print + Threads + Wait + Sync>(rt: &R, alloc: Glo
     let Some(reader) = readers.pop() else {
         unreachable!()
     };
-    let (seat, watched, built) = build_watched(rt, alloc, &engine, seat, reader);
+    let (seat, printed, built) = build_watched(rt, alloc, &engine, seat, reader);
     engine.end(rt, seat);
-    watched?;
     built?;
+    if printed? < VERSIONS {
+        // The shelf had no memory for a row.
+        return Err(NoMemory.into());
+    }
     Ok(())
 }
 
@@ -41,16 +44,16 @@ fn build_watched<R: Print + Threads + Wait + Sync>(
     engine: &Engine<Tiny>,
     seat: Seat<Tiny>,
     reader: Reader<Tiny>,
-) -> (Seat<Tiny>, io::Result<()>, Result<(), NoMemory>)
+) -> (Seat<Tiny>, io::Result<u64>, Result<(), NoMemory>)
     requires { IsSeatOf engine.now seat × IsWriter seat }
     ensures { IsSeatOf engine.now result.0 }
 {
     let done = AtomicBool::new(false);
     let over = &done;
-    let (watched, (seat, built)) = beside(
+    let (printed, (seat, built)) = beside(
         rt,
         reader,
-        &|reader: Reader<Tiny>| -> io::Result<()> { watch(rt, engine, reader, over) },
+        &|reader: Reader<Tiny>| -> io::Result<u64> { watch(rt, engine, reader, over) },
         move || -> (Seat<Tiny>, Result<(), NoMemory>)
             requires { IsSeatOf engine.now seat × IsWriter seat }
             ensures { IsSeatOf engine.entry.now result.0 }
@@ -61,17 +64,18 @@ fn build_watched<R: Print + Threads + Wait + Sync>(
             (seat, built)
         },
     );
-    (seat, watched, built)
+    (seat, printed, built)
 }
 
-/// Prints the sum at each version as soon as it is finished. It stops at one that the builder did
-/// not come to.
+/// Prints the sum at each version as soon as it is finished, and answers the last version with one.
+/// It stops if the builder is done and the next sum is not there.
 fn watch<R: Print + Wait>(
     rt: &R,
     engine: &Engine<Tiny>,
     mut reader: Reader<Tiny>,
     done: &AtomicBool,
-) -> io::Result<()> {
+) -> io::Result<u64> {
+    let mut last = 0;
     for version in 1..=VERSIONS {
         let transaction = Transaction { version, opened: 0 };
         let Some(sum) = finished(rt, engine, &mut reader, &transaction, &SUM, done) else {
@@ -80,8 +84,9 @@ fn watch<R: Print + Wait>(
         if let Value::Number(number) = *sum {
             println!(rt; "version {version}: the sum is {number}")?;
         }
+        last = version;
     }
-    Ok(())
+    Ok(last)
 }
 
 /// The value of a key as soon as it is finished at the version of a transaction, or nothing once
