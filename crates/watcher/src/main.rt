@@ -8,18 +8,21 @@ mod looks;
 mod watch;
 
 use anyhow::Result;
-use std::env;
+use std::env::{self, Args};
 
 fn main(rt: HostRuntime) -> Result<()> {
     let alloc = rt.alloc();
-    let mut readers = None;
-    for (place, word) in env::args(&rt)?.enumerate() {
-        if place == 2 {
-            readers = word.parse::<u32>().ok();
-        }
-    }
-    match readers {
+    match readers_of(env::args(&rt)?) {
         Some(readers) => looks::measure(&rt, alloc, readers),
         None => watch::watch_builder(&rt, alloc),
     }
+}
+
+/// The number of readers in the words `looks READERS` after the program's name.
+fn readers_of(mut words: Args) -> Option<u32> {
+    words.next()?;
+    if words.next()?.as_str() != "looks" {
+        return None;
+    }
+    words.next()?.parse().ok()
 }

@@ -1,11 +1,14 @@
 //! The reader that watches the builder.
+ghost use Rattle.std.specs.Prelude.{◌≡◌, Some, IfSome};
+ghost use Rattle.std.specs.Arc.{arc_value};
 ghost use Rattle.turnstile.specs.Seats.{IsSeatOf, IsWriter};
+ghost use Rattle.shelf.specs.Ops.{IsSound, row_at};
 
 use crate::beside::beside;
 use crate::build::{SUM, build};
 use anyhow::Result;
 use dice_engine::{Engine, Reader, Seat, Transaction};
-use dice_key::NoMemory;
+use dice_key::{NoMemory, Universe, ValueRef};
 use std::alloc::Global;
 use std::io::{self, Print};
 use std::sync::atomic::{AtomicBool, Ordering};
@@ -21,10 +24,16 @@ const VERSIONS: u64 = 3;
 pub(crate) fn watch_builder<R: Print + Threads + Wait + Sync>(rt: &R, alloc: Global) -> Result<()> {
     let universe = Arc::new(alloc, Tiny::new(alloc)?)?;
     let (engine, seat, mut readers) = Engine::with_readers(rt, alloc, universe, 1, 1)?;
-    let (seat, watched, built) = build_watched(rt, alloc, &engine, seat, readers.pop());
+    let Some(reader) = readers.pop() else {
+        unreachable!()
+    };
+    let (seat, printed, built) = build_watched(rt, alloc, &engine, seat, reader);
     engine.end(rt, seat);
-    watched?;
     built?;
+    if printed? < VERSIONS {
+        // The shelf had no memory for a row.
+        return Err(NoMemory.into());
+    }
     Ok(())
 }
 
@@ -34,17 +43,17 @@ fn build_watched<R: Print + Threads + Wait + Sync>(
     alloc: Global,
     engine: &Engine<Tiny>,
     seat: Seat<Tiny>,
-    reader: Option<Reader<Tiny>>,
-) -> (Seat<Tiny>, io::Result<()>, Result<(), NoMemory>)
+    reader: Reader<Tiny>,
+) -> (Seat<Tiny>, io::Result<u64>, Result<(), NoMemory>)
     requires { IsSeatOf engine.now seat × IsWriter seat }
     ensures { IsSeatOf engine.now result.0 }
 {
     let done = AtomicBool::new(false);
     let over = &done;
-    let (watched, (seat, built)) = beside(
+    let (printed, (seat, built)) = beside(
         rt,
         reader,
-        &|reader: Option<Reader<Tiny>>| -> io::Result<()> { watch(rt, engine, reader, over) },
+        &|reader: Reader<Tiny>| -> io::Result<u64> { watch(rt, engine, reader, over) },
         move || -> (Seat<Tiny>, Result<(), NoMemory>)
             requires { IsSeatOf engine.now seat × IsWriter seat }
             ensures { IsSeatOf engine.entry.now result.0 }
@@ -55,34 +64,55 @@ fn build_watched<R: Print + Threads + Wait + Sync>(
             (seat, built)
         },
     );
-    (seat, watched, built)
+    (seat, printed, built)
 }
 
-/// Prints the sum at each version as soon as it is finished. It looks without a turn, so it never
-/// keeps the builder waiting. It stops when the builder is done and the next sum is not there.
+/// Prints the sum at each version as soon as it is finished, and answers the last version with one.
+/// It stops if the builder is done and the next sum is not there.
 fn watch<R: Print + Wait>(
     rt: &R,
     engine: &Engine<Tiny>,
-    reader: Option<Reader<Tiny>>,
+    mut reader: Reader<Tiny>,
     done: &AtomicBool,
-) -> io::Result<()> {
-    let Some(mut reader) = reader else {
-        return Ok(());
-    };
-    let mut version = 1;
+) -> io::Result<u64> {
+    let mut last = 0;
+    for version in 1..=VERSIONS {
+        let transaction = Transaction { version, opened: 0 };
+        let Some(sum) = finished(rt, engine, &mut reader, &transaction, &SUM, done) else {
+            break;
+        };
+        if let Value::Number(number) = *sum {
+            println!(rt; "version {version}: the sum is {number}")?;
+        }
+        last = version;
+    }
+    Ok(last)
+}
+
+/// The value of a key as soon as it is finished at the version of a transaction, or nothing once
+/// the builder is done and it is not there. It looks without a turn, so it never keeps the builder
+/// waiting for one.
+fn finished<U: Universe, R: Wait>(
+    rt: &R,
+    engine: &Engine<U>,
+    reader: &mut Reader<U>,
+    transaction: &Transaction,
+    key: &U::Key,
+    done: &AtomicBool,
+) -> Option<ValueRef<U>>
+    ensures row { IfSome result (λ x. row_at (U.Key.eq key.now) transaction.now.version
+        reader.new.seen ≡ Some (arc_value x)) }
+    ensures sound { IfSome result (λ x. IsSound U.Key.eq U.meaning reader.new.seen) }
+{
     for _ in rt.forever() {
         let is_last = done.load(Ordering::Acquire);
-        let transaction = Transaction { version, opened: 0 };
-        match engine.quick(&mut reader, &transaction, &SUM) {
-            Ok(Some(sum)) => {
-                if let Value::Number(number) = *sum {
-                    println!(rt; "version {version}: the sum is {number}")?;
-                }
-                version += 1;
-            }
-            _ if is_last || version > VERSIONS => return Ok(()),
-            _ => thread::yield_now(),
+        if let Ok(Some(value)) = engine.quick(reader, transaction, key) {
+            return Some(value);
         }
+        if is_last {
+            return None;
+        }
+        thread::yield_now();
     }
     unreachable!()
 }
