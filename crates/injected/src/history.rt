@@ -210,7 +210,8 @@ fn single_with<V: Eq + Hash>(
         → contains r w
         ≡ V.eq (value_at (arc_value absent.now) ((set, arc_value value.now) ∷ []) w)
         (arc_value wanted.now)) }
-    ensures tail { IfOk result (λ r. is_open r ≡ V.eq (arc_value value.now) (arc_value wanted.now)) }
+    ensures tail { IfOk result
+        (λ r. is_open r ≡ V.eq (arc_value value.now) (arc_value wanted.now)) }
 {
     let first = **absent == **wanted;
     let number = number_if(**value == **wanted);

@@ -96,8 +96,8 @@ impl NumberSet {
         }
     }
 
-    /// Adds a number, and tells whether it is new. With room it needs no memory; at an error nothing
-    /// changes.
+    /// Adds a number, and tells whether it is new. With room it needs no memory; at an error
+    /// nothing changes.
     #[tactic(auto, using(crate::proofs::Apart::none_apart, crate::proofs::Apart::one_apart))]
     pub fn insert(&mut self, number: u64) -> Result<bool, AllocError>
         ensures updates { OnOk result (Changes self.old.keys self.new.keys number true) }
