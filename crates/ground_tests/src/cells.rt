@@ -83,6 +83,19 @@ const UNSET: [Row; 2] = [
     (9, 0, &[(0, None)], (0, None)),
 ];
 
+/// The rows of a key that is set once.
+const ONCE: [Row; 3] = [
+    (1, 0, &[(0, Some(2))], (0, Some(2))),
+    (2, 5, &[(2, None)], (2, None)),
+    (9, 5, &[(2, None)], (2, None)),
+];
+
+/// The rows of a key that is set once, to the value that it has without a set.
+const ONCE_AS_UNSET: [Row; 2] = [
+    (1, 0, &[(0, None)], (0, None)),
+    (4, 0, &[(0, None)], (0, None)),
+];
+
 /// Sets the key's values; whether each version was above those before it. Room is made for the key
 /// in between.
 fn set_all(alloc: Global, cells: &mut Cells<Tiny>, key: &Arc<Place>) -> Result<bool, NoMemory> {
@@ -106,6 +119,17 @@ fn are_as_set(cells: &Cells<Tiny>, key: &Arc<Place>) -> Result<bool, NoMemory> {
     )
 }
 
+/// Whether a key that is set once, to this value, has these rows.
+fn has_one_set(alloc: Global, value: u64, rows: &[Row]) -> Result<bool, NoMemory> {
+    let mut cells = no_cells(alloc)?;
+    let key = Arc::new(alloc, Place::Cell(6))?;
+    Ok(
+        put(alloc, &mut cells, &key, &[(2, value)])?
+            && first_other(&cells, &key, rows)? == None
+            && **cells.newest(&key) == Value::Number(value),
+    )
+}
+
 fn no_cells(alloc: Global) -> Result<Cells<Tiny>, NoMemory> {
     let universe = Arc::new(alloc, Tiny::new(alloc)?)?;
     Ok(Cells::new(alloc, universe))
@@ -121,5 +145,13 @@ fn the_last_set_at_or_below_a_version_has_the_value(rt: HostRuntime) -> Result<(
     assert!(rt; set_all(alloc, &mut cells, &key)?);
     assert!(rt; are_as_set(&cells, &key)?);
     assert!(rt; is_unset(alloc, &cells)?);
+    Ok(())
+}
+
+#[test]
+fn a_key_that_is_set_once_has_two_values(rt: HostRuntime) -> Result<(), Fail> {
+    let alloc = rt.alloc();
+    assert!(rt; has_one_set(alloc, 5, &ONCE)?);
+    assert!(rt; has_one_set(alloc, 0, &ONCE_AS_UNSET)?);
     Ok(())
 }

@@ -13,6 +13,8 @@ mod epochs;
 #[cfg(test)]
 mod evaluation;
 #[cfg(test)]
+mod number_sets;
+#[cfg(test)]
 mod ranges;
 #[cfg(test)]
 mod recordings;

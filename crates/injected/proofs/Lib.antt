@@ -6,3 +6,4 @@ pub mod Rounds
 pub mod Maps
 pub mod Orders
 pub mod LogLemmas
+mod Singles

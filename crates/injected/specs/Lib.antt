@@ -1,4 +1,5 @@
 pub mod History
+pub mod Kept
 pub mod Numbers
 pub mod Seen
 pub mod Inputs

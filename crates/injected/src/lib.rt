@@ -3,6 +3,7 @@
 
 mod history;
 mod laws;
+mod sets;
 mod store;
 
 pub use laws::{cells_are_the_inputs, cells_in_order};

@@ -9,7 +9,8 @@ ghost use Rattle.injected.specs.History.{AllBelow, IsRising};
 ghost use Rattle.injected.specs.Rounds.{stays};
 ghost use Rattle.injected.specs.Seen.{named, sets_in, room_in, sets_at, room_at, cell_at, newest_at, Writes};
 
-use crate::history::{History, always};
+use crate::history::History;
+use crate::sets::always;
 use dice_key::{NoMemory, Seed, Universe, laws_of};
 use std::alloc::Global;
 use std::collections::HashMap;
@@ -225,6 +226,7 @@ fn make_room<K: Eq + Hash + Drop, V: Eq + Hash + Drop>(
     histories: &mut HashMap<Arc<K>, History<V>, Seed>,
     key: Arc<K>,
 ) -> Result<(), NoMemory>
+    requires laws { IsEquality V.eq }
     ensures ok { OnOk result ((room : ℕ) × (0 < room)
         × Writes K.eq (map named histories.old.entries) (map named histories.new.entries)
         (arc_value key) (record {
@@ -234,19 +236,21 @@ fn make_room<K: Eq + Hash + Drop, V: Eq + Hash + Drop>(
     ensures err { OnErr result (map named histories.new.entries ≡ map named histories.old.entries) }
 {
     if histories.contains_key(&key) {
-        return reserve_more(histories, &key);
+        return reserve_more(alloc, histories, &key);
     }
-    let history = History::with_room(alloc, *histories.hasher())?;
+    let history = History::new();
     histories.insert(key, history)?;
     Ok(())
 }
 
 /// Makes room for one more set of a key that is there.
 fn reserve_more<K: Eq + Hash + Drop, V: Eq + Hash + Drop>(
+    alloc: Global,
     histories: &mut HashMap<Arc<K>, History<V>, Seed>,
     key: &Arc<K>,
 ) -> Result<(), NoMemory>
-    requires { IsSome (lookup (K.eq (arc_value key.now)) (map named histories.old.entries)) }
+    requires laws { IsEquality V.eq }
+    requires there { IsSome (lookup (K.eq (arc_value key.now)) (map named histories.old.entries)) }
     ensures ok { OnOk result ((room : ℕ) × (0 < room)
         × Writes K.eq (map named histories.old.entries) (map named histories.new.entries)
         (arc_value key.now) (record {
@@ -255,8 +259,9 @@ fn reserve_more<K: Eq + Hash + Drop, V: Eq + Hash + Drop>(
         })) }
     ensures err { OnErr result (map named histories.new.entries ≡ map named histories.old.entries) }
 {
+    let seed = *histories.hasher();
     match histories.get_mut(key) {
-        Some(history) => history.reserve(),
+        Some(history) => history.reserve(alloc, seed),
         None => unreachable!(),
     }
 }

@@ -4,7 +4,6 @@ use Rattle.std.specs.Arc.{arc_value}
 use Rattle.std.specs.Map.{lookup, keys_of, values_of}
 use Rattle.std.specs.List.{list_any, sum_by, IsDistinct}
 use Rattle.std.specs.Option.{option_map}
-use Rattle.std.specs.HashSet.{spare}
 use Rattle.std.specs.declared.sync.Arc.{Arc}
 use Rattle.task_share.specs.Asked.{By, Tasked, is_by}
 pub use Rattle.task_share.specs.Seen.{IsMirrored}
@@ -20,7 +19,7 @@ share_of p = record {
   promises = p.promises.keys;
   askers = map arc_value (values_of p.askers.entries);
   waits = map arc_value (values_of p.waits.entries);
-  promise_room = spare p.promises;
+  promise_room = p.promises.room;
   asker_room = p.askers.room;
   wait_room = p.waits.room;
   name = option_map arc_value p.name;

@@ -5,8 +5,8 @@ ghost use Rattle.std.specs.Option.{option_to_list};
 ghost use Rattle.task_share.specs.Seen.{has_live};
 ghost use Rattle.task_share.specs.Listed.{share_of, settled, released, is_idle, IsVacant};
 
-use indexmap::IndexSet;
 use small_map::SmallMap;
+use small_set::NumberSet;
 use std::alloc::Global;
 use std::hash::Hash;
 use std::sync::Arc;
@@ -20,7 +20,7 @@ use std::sync::Arc;
 pub struct Place<K: Eq + Hash + Drop, T: Drop> {
     pub task: Option<T>,
     pub live: bool,
-    pub promises: IndexSet<u64>,
+    pub promises: NumberSet,
     pub askers: SmallMap<K>,
     pub waits: SmallMap<K>,
     pub name: Option<Arc<K>>,
@@ -101,7 +101,7 @@ pub fn vacant<K: Eq + Hash + Drop, T: Drop>(alloc: Global, name: Option<Arc<K>>)
     Place {
         task: None,
         live: false,
-        promises: IndexSet::new(alloc),
+        promises: NumberSet::new(alloc),
         askers: SmallMap::new(alloc),
         waits: SmallMap::new(alloc),
         name,

@@ -38,7 +38,7 @@ pub fn leave_promise<K: Eq + Hash + Drop, T: Drop>(
     let Some(place) = places.get_mut(key) else {
         return;
     };
-    place.promises.swap_remove(&number);
+    place.promises.swap_remove(number);
     settle(place, candidates);
 }
 

@@ -121,7 +121,7 @@ pub fn reserve_promise<K: Eq + Hash + Drop, T: Drop>(
     let Some(place) = places.get_mut(key) else {
         return Ok(());
     };
-    place.promises.reserve(1)?;
+    place.promises.reserve()?;
     Ok(())
 }
 

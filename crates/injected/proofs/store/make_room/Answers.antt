@@ -11,8 +11,8 @@ some_of : {X : Type 0} (o : Option X) → is_some o ≡ true → IsSome o
 some_of None e = cc
 some_of (Some x) e = refl
 
-pub reserve_more-requires : goal.reserve_more-requires
-reserve_more-requires g c =
+pub reserve_more-requires-clause-there : goal.reserve_more-requires-clause-there
+reserve_more-requires-clause-there g c =
     let eq = g.K.PartialEq.eq in
     let k = arc_value c.args.key in
     let found : is_some (lookup (λ y. eq k (arc_value y)) c.args.histories.now.entries) ≡ true = sym c.contains_key.ensures ∙ c.if-contains_key.true in
@@ -24,10 +24,10 @@ returns-clause-ok g c =
     let k = arc_value c.args.key in
     let es = c.args.histories.now.entries in
     let fs = c.insert.new.self.entries in
-    let f = c.in_ok-history.history in
+    let f = c.new-history.result in
     let none : lookup (λ y. eq k (arc_value y)) es ≡ None = is_missing (lookup (λ y. eq k (arc_value y)) es) (sym c.contains_key.ensures ∙ c.if-contains_key.false) in
-    let sets : f.sets ≡ sets_in (lookup (eq k) (map named es)) = c.in_ok-history.ensures.sets ∙ sym (sets_unknown eq k es none) in (
+    let sets : f.sets ≡ sets_in (lookup (eq k) (map named es)) = c.new-history.ensures.sets ∙ sym (sets_unknown eq k es none) in (
       f.room,
-      c.in_ok-history.ensures.room,
+      c.new-history.ensures.room,
       writes_as eq k (map named es) (map named fs) f _ (cell_is f f.room (sets_in (lookup (eq k) (map named es))) refl sets) (writes_at eq k c.args.key es fs f c.in_ok-insert.ensures.updates.0),
     )

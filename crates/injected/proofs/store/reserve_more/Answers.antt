@@ -9,7 +9,7 @@ use Rattle.injected.proofs.Maps.{writes_at, writes_as, cell_is, sets_known, same
 use Rattle.injected.proofs.store.reserve_more.Goals as goal
 
 pub unreachable-requires : goal.unreachable-requires
-unreachable-requires g c = is_known g.K.PartialEq.eq (arc_value c.args.key.now) c.args.histories.now.entries (sym c.get_mut.ensures.value ∙ ap option_copied_mut c.in-None.is) c.requires
+unreachable-requires g c = is_known g.K.PartialEq.eq (arc_value c.args.key.now) c.args.histories.now.entries (sym c.get_mut.ensures.value ∙ ap option_copied_mut c.in-None.is) c.requires.there
 
 pub returns-clause-err : goal.returns-clause-err
 returns-clause-err g c =

@@ -3,7 +3,6 @@ use Rattle.std.specs.Prelude.{IsSome}
 use Rattle.std.specs.Arc.{arc_value}
 use Rattle.std.specs.Map.{lookup}
 use Rattle.std.specs.List.{list_any}
-use Rattle.std.specs.HashSet.{spare}
 use Rattle.std.specs.Option.{option_map}
 use Rattle.std.specs.Option.{option_copied_mut}
 use Rattle.task_share.specs.Asked.{Promised}
@@ -35,9 +34,9 @@ returns-clause-listed g c =
     let u = o.3 (subst IsSome (sym known) refl) in
     let i : IsWritten eq key c.args.places.now.entries (c.get_mut.follows.lender w).entries h w = record { known = known; set = o.0; here = u.1; others = u.2 } in
     let found = lookup_shares (eq (arc_value key)) c.args.places.now.entries ∙ ap (option_map share_of) known in
-    let b : (list_any (nat_eq c.args.number) h.promises.keys ≡ true) ⊎ (0 < spare h.promises) = with_room (takes_task (share_of h)) _ (spare h.promises) (subst (λ o. (is_for (λ (p : Share g.row.K.Denot g.row.T.Denot). has_by eq p (Promised c.args.number)) o ≡ true) ⊎ (0 < number_for (room_in (λ (p : Share g.row.K.Denot g.row.T.Denot). p.promise_room)) o)) found c.requires.room) in
-    let d = inserted c.insert.result (list_any (nat_eq c.args.number) h.promises.keys) (spare h.promises) _ c.insert.ensures.updates c.insert.ensures.absent c.insert.ensures.succeeds b in
-    kept_listed eq c.requires.equality key c.args.places.now.entries (c.get_mut.follows.lender w).entries h w i refl refl (λ e. absurd (asked_busy eq c.requires.equality (share_of w) (Promised c.args.number) (d.0 c.args.number ∙ ap (λ t. cond t true (list_any (nat_eq c.args.number) h.promises.keys)) (eq-eqb c.args.number c.args.number refl)) e)) (λ r. r)
+    let b : (list_any (nat_eq c.args.number) h.promises.keys ≡ true) ⊎ (0 < h.promises.room) = with_room (takes_task (share_of h)) _ h.promises.room (subst (λ o. (is_for (λ (p : Share g.row.K.Denot g.row.T.Denot). has_by eq p (Promised c.args.number)) o ≡ true) ⊎ (0 < number_for (room_in (λ (p : Share g.row.K.Denot g.row.T.Denot). p.promise_room)) o)) found c.requires.room) in
+    let d = inserted c.insert.result (list_any (nat_eq c.args.number) h.promises.keys) h.promises.room _ c.insert.ensures.updates c.insert.ensures.absent c.insert.ensures.succeeds b in
+    kept_listed eq c.requires.equality key c.args.places.now.entries (c.get_mut.follows.lender w).entries h w i refl refl (λ e. absurd (asked_busy eq c.requires.equality (share_of w) (Promised c.args.number) (d c.args.number ∙ ap (λ t. cond t true (list_any (nat_eq c.args.number) h.promises.keys)) (eq-eqb c.args.number c.args.number refl)) e)) (λ r. r)
 
 pub returns-clause-changed : goal.returns-clause-changed
 returns-clause-changed g c =
@@ -50,9 +49,9 @@ returns-clause-changed g c =
     let u = o.3 (subst IsSome (sym known) refl) in
     let i : IsWritten eq key c.args.places.now.entries (c.get_mut.follows.lender w).entries h w = record { known = known; set = o.0; here = u.1; others = u.2 } in
     let found = lookup_shares (eq (arc_value key)) c.args.places.now.entries ∙ ap (option_map share_of) known in
-    let b : (list_any (nat_eq c.args.number) h.promises.keys ≡ true) ⊎ (0 < spare h.promises) = with_room (takes_task (share_of h)) _ (spare h.promises) (subst (λ o. (is_for (λ (p : Share g.row.K.Denot g.row.T.Denot). has_by eq p (Promised c.args.number)) o ≡ true) ⊎ (0 < number_for (room_in (λ (p : Share g.row.K.Denot g.row.T.Denot). p.promise_room)) o)) found c.requires.room) in
-    let d = inserted c.insert.result (list_any (nat_eq c.args.number) h.promises.keys) (spare h.promises) _ c.insert.ensures.updates c.insert.ensures.absent c.insert.ensures.succeeds b in
-    changed_written eq c.requires.equality key c.args.places.now.entries (c.get_mut.follows.lender w).entries h w _ i (record { task = refl; live = refl; asks = joined_promise eq (share_of h) (share_of w) c.args.number refl (λ q. d.0 q); waits = λ d. refl }, record { promises = omega (arith, c.insert.ensures.spare); askers = omega arith; waits = omega arith; count = omega arith; stays = λ t. t })
+    let b : (list_any (nat_eq c.args.number) h.promises.keys ≡ true) ⊎ (0 < h.promises.room) = with_room (takes_task (share_of h)) _ h.promises.room (subst (λ o. (is_for (λ (p : Share g.row.K.Denot g.row.T.Denot). has_by eq p (Promised c.args.number)) o ≡ true) ⊎ (0 < number_for (room_in (λ (p : Share g.row.K.Denot g.row.T.Denot). p.promise_room)) o)) found c.requires.room) in
+    let d = inserted c.insert.result (list_any (nat_eq c.args.number) h.promises.keys) h.promises.room _ c.insert.ensures.updates c.insert.ensures.absent c.insert.ensures.succeeds b in
+    changed_written eq c.requires.equality key c.args.places.now.entries (c.get_mut.follows.lender w).entries h w _ i (record { task = refl; live = refl; asks = joined_promise eq (share_of h) (share_of w) c.args.number refl (λ q. d q); waits = λ d. refl }, record { promises = omega (arith, c.insert.ensures.room); askers = omega arith; waits = omega arith; count = omega arith; stays = λ t. t })
 
 pub returns-clause-linked : goal.returns-clause-linked
 returns-clause-linked g c =

@@ -46,7 +46,7 @@ returns-clause-changed g c =
     let i : IsWritten eq key c.args.places.now.entries (c.get_mut.follows.lender w).entries h w = record { known = known; set = o.0; here = u.1; others = u.2 } in
     let mid : Place g.row.K.Denot g.row.T.Denot = record { task = h.task; live = h.live; promises = c.swap_remove.new.self; askers = h.askers; waits = h.waits; name = h.name } in
     changed_written eq c.requires.equality key c.args.places.now.entries (c.get_mut.follows.lender w).entries h w _ i
-    (rw c.settle.ensures.place (record { task = refl; live = refl; asks = left_promise eq (share_of h) (share_of mid) c.args.number refl (λ q. c.swap_remove.ensures.updates.0 q); waits = λ d. refl }, record { promises = omega (arith, c.swap_remove.ensures.room.0); askers = omega arith; waits = omega arith; count = omega arith; stays = settled_takes (share_of mid) (runs_at eq c.requires.equality key c.args.places.now.entries (map arc_value c.args.candidates.now.items) (vec_capacity c.args.candidates.now) h c.requires.listed known) }))
+    (rw c.settle.ensures.place (record { task = refl; live = refl; asks = left_promise eq (share_of h) (share_of mid) c.args.number refl (λ q. c.swap_remove.ensures.updates q); waits = λ d. refl }, record { promises = omega (arith, c.swap_remove.ensures.room); askers = omega arith; waits = omega arith; count = omega arith; stays = settled_takes (share_of mid) (runs_at eq c.requires.equality key c.args.places.now.entries (map arc_value c.args.candidates.now.items) (vec_capacity c.args.candidates.now) h c.requires.listed known) }))
 
 pub returns-clause-linked : goal.returns-clause-linked
 returns-clause-linked g c =

@@ -45,7 +45,7 @@ returns-in_err-reserve-clause-changed g c =
     let o = c.get_mut.follows.holds w in
     let u = o.3 (subst IsSome (sym known) refl) in
     let i : IsWritten eq key c.args.places.now.entries (c.get_mut.follows.lender w).entries h w = record { known = known; set = o.0; here = u.1; others = u.2 } in
-    changed_written eq c.requires.equality key c.args.places.now.entries (c.get_mut.follows.lender w).entries h w _ i (record { task = refl; live = refl; asks = same_asks eq (share_of h) (share_of w) (c.reserve.ensures.keys) refl; waits = λ d. refl }, record { promises = omega (arith, c.reserve.ensures.room.0); askers = omega arith; waits = omega arith; count = omega arith; stays = λ t. t })
+    changed_written eq c.requires.equality key c.args.places.now.entries (c.get_mut.follows.lender w).entries h w _ i (record { task = refl; live = refl; asks = same_asks eq (share_of h) (share_of w) (c.reserve.ensures.keys) refl; waits = λ d. refl }, record { promises = omega (arith, c.reserve.ensures.room); askers = omega arith; waits = omega arith; count = omega arith; stays = λ t. t })
 
 pub returns-clause-listed : goal.returns-clause-listed
 returns-clause-listed g c =
@@ -69,7 +69,7 @@ returns-clause-changed g c =
     let o = c.get_mut.follows.holds w in
     let u = o.3 (subst IsSome (sym known) refl) in
     let i : IsWritten eq key c.args.places.now.entries (c.get_mut.follows.lender w).entries h w = record { known = known; set = o.0; here = u.1; others = u.2 } in
-    changed_written eq c.requires.equality key c.args.places.now.entries (c.get_mut.follows.lender w).entries h w _ i (record { task = refl; live = refl; asks = same_asks eq (share_of h) (share_of w) (c.reserve.ensures.keys) refl; waits = λ d. refl }, record { promises = omega (arith, c.reserve.ensures.room.0); askers = omega arith; waits = omega arith; count = omega arith; stays = λ t. t })
+    changed_written eq c.requires.equality key c.args.places.now.entries (c.get_mut.follows.lender w).entries h w _ i (record { task = refl; live = refl; asks = same_asks eq (share_of h) (share_of w) (c.reserve.ensures.keys) refl; waits = λ d. refl }, record { promises = omega (arith, c.reserve.ensures.room); askers = omega arith; waits = omega arith; count = omega arith; stays = λ t. t })
 
 pub returns-clause-ok : goal.returns-clause-ok
 returns-clause-ok g c = λ e.

@@ -33,7 +33,7 @@ returns-in-None-clause-tasks g c = λ j.
     (sym (ap (is_for (λ (p : Share g.row.K.Denot g.row.T.Denot). has_by g.K.PartialEq.eq p (Tasked j))) (lookup_shares (g.K.PartialEq.eq (arc_value c.args.key.now)) c.self.inside.places.entries ∙ ap (option_map share_of) (sym c.get.ensures.value ∙ ap option_copied c.in-None.is))))
 
 pub returns-in-Some-clause-distinct_promises : goal.returns-in-Some-clause-distinct_promises
-returns-in-Some-clause-distinct_promises g c = subst AreDistinct (sym c.as_slice.ensures.keys) (distinct_numbers _ c.as_slice.ensures.unique)
+returns-in-Some-clause-distinct_promises g c = subst AreDistinct (sym c.as_slice.ensures.keys) (distinct_numbers _ c.as_slice.ensures.distinct)
 
 pub returns-in-Some-clause-numbers : goal.returns-in-Some-clause-numbers
 returns-in-Some-clause-numbers g c =

@@ -1,7 +1,7 @@
 use Rattle.std.proofs.Common.{◌≡◌, ◌≤◌, ◌<◌, ℕ, ◌-◌, true, length}
 use Rattle.std.specs.Prelude.{slice_index_or}
 use Rattle.injected.specs.Numbers.{names}
-use Rattle.injected.proofs.history.end_of_run.Given as goal
+use Rattle.injected.proofs.sets.end_of_run.Given as goal
 
 -- the sets up to the place that is reached name the number
 abbrev pub invariant-loop-end : goal.invariant-loop-end

@@ -3,7 +3,7 @@ use Rattle.std.proofs.Common.{◌-◌, leb, get_or, arith, rules}
 use Rattle.std.proofs.lemmas.Bool.{leb-true, leb-false}
 use Rattle.std.proofs.lemmas.List.Sorted.{IsPartitionPoint-from_clause, IsPartitionedBy-leb}
 use Rattle.injected.proofs.Histories.{versions_rise}
-use Rattle.injected.proofs.history.begun_by.Goals as goal
+use Rattle.injected.proofs.sets.begun_by.Goals as goal
 
 pub returns : goal.returns
 returns c =

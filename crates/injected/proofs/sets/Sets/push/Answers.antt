@@ -6,7 +6,7 @@ use Rattle.std.specs.declared.sync.Arc.{Arc}
 use Rattle.std.proofs.lemmas.Result.{IfOk-at_ok}
 use Rattle.injected.specs.Numbers.{sets_of, equal_at, AllNumbered}
 use Rattle.injected.proofs.Numbered.{all_push, pushed, values_stay}
-use Rattle.injected.proofs.history.History.push.Goals as goal
+use Rattle.injected.proofs.sets.Sets.push.Goals as goal
 
 pub invariant_of-self : goal.invariant_of-self
 invariant_of-self g c =

@@ -1,7 +1,7 @@
 use Rattle.std.proofs.Common.{◌≡◌, ◌≤◌, ◌<◌, ℕ, true}
 use Rattle.std.specs.Prelude.{slice_index_or}
 use Rattle.injected.specs.Numbers.{names}
-use Rattle.injected.proofs.history.begin_of_run.Given as goal
+use Rattle.injected.proofs.sets.begin_of_run.Given as goal
 
 -- the sets from the place that is reached on name the number
 abbrev pub invariant-loop-begin : goal.invariant-loop-begin

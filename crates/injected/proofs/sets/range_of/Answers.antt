@@ -1,7 +1,7 @@
 -- The run of sets to the number round a version has the versions up to which the number stays.
 use Rattle.injected.specs.Numbers.{tests}
 use Rattle.injected.proofs.Rounds.{run_of, begins_there, begins_of, ends_of, run_round}
-use Rattle.injected.proofs.history.range_of.Goals as goal
+use Rattle.injected.proofs.sets.range_of.Goals as goal
 
 pub first_version-requires : goal.first_version-requires
 first_version-requires c = begins_there c.args.first c.args.number c.args.sets.now c.args.begun c.begin_of_run-begin.result c.requires.bound c.requires.none c.requires.last c.begin_of_run-begin.ensures.bound c.begin_of_run-begin.ensures.before

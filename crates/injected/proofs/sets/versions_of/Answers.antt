@@ -5,7 +5,7 @@ use Rattle.std.proofs.lemmas.List.{drop_more, drop_all}
 use Rattle.injected.specs.Numbers.{tests}
 use Rattle.injected.proofs.Walks.{Walked, start, step, walked_members, walked_tail}
 use Rattle.injected.proofs.Numbered.{rising_tests}
-use Rattle.injected.proofs.history.versions_of.Goals as goal
+use Rattle.injected.proofs.sets.versions_of.Goals as goal
 
 pub loop-version-init : goal.loop-version-init
 loop-version-init c =

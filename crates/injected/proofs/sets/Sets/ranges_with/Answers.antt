@@ -7,7 +7,7 @@ use Rattle.injected.specs.History.{value_at, newest_of, IsRising}
 use Rattle.injected.specs.Numbers.{sets_of, tests}
 use Rattle.injected.proofs.Numbered.{rising_numbers, tests_value, tests_newest}
 use Rattle.injected.proofs.Lookups.{agrees}
-use Rattle.injected.proofs.history.History.ranges_with.Goals as goal
+use Rattle.injected.proofs.sets.Sets.ranges_with.Goals as goal
 
 pub versions_of-requires : goal.versions_of-requires
 versions_of-requires g c =

@@ -3,7 +3,7 @@ use Rattle.std.proofs.Common.{◌≡◌, ◌-◌, ◌<◌, ◌∙◌, ap, sym, s
 use Rattle.std.specs.Arc.{arc_value}
 use Rattle.injected.specs.History.{newest_of}
 use Rattle.injected.proofs.Numbered.{numbered_at, newest_of_last}
-use Rattle.injected.proofs.history.History.newest.Goals as goal
+use Rattle.injected.proofs.sets.Sets.newest.Goals as goal
 
 pub index-requires-2 : goal.index-requires-2
 index-requires-2 g c =

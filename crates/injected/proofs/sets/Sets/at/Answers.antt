@@ -4,7 +4,7 @@ use Rattle.std.specs.Arc.{arc_value}
 use Rattle.injected.specs.History.{value_at, IsRising}
 use Rattle.injected.specs.Numbers.{sets_of, AreBegun}
 use Rattle.injected.proofs.Numbered.{rising_numbers, numbered_at, value_of_begun, value_of_last}
-use Rattle.injected.proofs.history.History.at.Goals as goal
+use Rattle.injected.proofs.sets.Sets.at.Goals as goal
 
 pub begun_by-count-requires : goal.begun_by-count-requires
 begun_by-count-requires g c =
