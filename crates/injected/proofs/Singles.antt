@@ -1,9 +1,8 @@
 -- The versions round one up to which a value stays, if there is no set or one.
-use Rattle.std.proofs.Common.{◌≡◌, ◌≤◌, ◌<◌, ℕ, suc, Bool, true, false, cond, leb, [], ◌∷◌, Some, None, refl, ap, sym, ◌∙◌, subst, inl, inr, arith}
+use Rattle.std.proofs.Common.{◌≡◌, ◌≤◌, ◌<◌, ℕ, Bool, true, false, cond, leb, [], ◌∷◌, Some, None, refl, ap, sym, ◌∙◌, subst, inl, inr, arith}
 use Rattle.std.proofs.lemmas.Bool.{cases_Bool, le-leb, lt-leb}
 use Rattle.dice_key.specs.Lawful.{IsEquality}
 use Rattle.version_ranges.specs.Members.{is_in}
-use Rattle.version_ranges.specs.Rounds.{all_between}
 use Rattle.version_ranges.proofs.Ends.{in_from}
 use Rattle.version_ranges.proofs.Rounds.{from_between, in_to, is_open_in, is_closed_in, round_is}
 use Rattle.injected.specs.History.{value_at}

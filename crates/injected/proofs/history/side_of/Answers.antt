@@ -1,5 +1,5 @@
 -- The versions on one side of the only set.
-use Rattle.std.proofs.Common.{◌≡◌, ◌≤◌, ◌∙◌, true, false, sym, ap, arith}
+use Rattle.std.proofs.Common.{◌≡◌, ◌≤◌, true, false, arith}
 use Rattle.std.specs.Arc.{arc_value}
 use Rattle.injected.proofs.Singles.{all_sides, low_side, high_side}
 use Rattle.injected.proofs.history.side_of.Goals as goal
