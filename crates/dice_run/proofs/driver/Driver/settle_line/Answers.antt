@@ -1,4 +1,5 @@
-use Rattle.std.proofs.Common.{◌∷◌, Result, Ok, Err, OnOk, refl, subst}
+use Rattle.std.proofs.Common.{◌∷◌, refl, subst}
+use Rattle.std.proofs.lemmas.Result.{on_ok_weaker}
 use Rattle.script.specs.declared.line.Line.{Line}
 use Rattle.script.specs.declared.line.Line.TheVariants.{Put, Drop, Commit, Open, Ask, Action, Wait, Cancel, Close}
 use Rattle.script.specs.Past.{is_cancelled}
@@ -7,10 +8,6 @@ use Rattle.dice_run.specs.Driven.{Waiting}
 use Rattle.dice_run.proofs.Ending.{waiting_past, waiting_more, asked_now, settling_some}
 use Rattle.dice_run.proofs.driver.Driver.settle_line.Goals as goal
 use Rattle.lists.proofs.Members.{has_end}
-
-on_ok : {A E : Type 0} (r : Result A E) (P Q : Type 0) → (P → Q) → OnOk r P → OnOk r Q
-on_ok (Ok a) P Q f p = f p
-on_ok (Err e) P Q f p = p
 
 pub settle_one-requires-after_bounds : goal.settle_one-requires-after_bounds
 settle_one-requires-after_bounds g c κs within =
@@ -31,7 +28,7 @@ settle_one-requires-in-Action-after_bounds g c κs within =
     record { past = w.past; settling = w.settling; request = r; made = asked_now c.args.engine.now ls rest (Action q) c.args.self.now r w (has_end w.plan.requests r); named = refl }
 
 pub returns-in-Ask-clause-settles : goal.returns-in-Ask-clause-settles
-returns-in-Ask-clause-settles g c = on_ok c.settle_one.result _ _ (λ f rest v.
+returns-in-Ask-clause-settles g c = on_ok_weaker c.settle_one.result (λ f rest v.
     let ls = c.args.script.now in
     let q = c.in-Ask.request in
     let w = subst (λ (l : Line). Waiting c.args.engine.now ls (l ∷ rest) c.args.self.now) c.in-Ask.is v in
@@ -41,7 +38,7 @@ returns-in-Ask-clause-settles g c = on_ok c.settle_one.result _ _ (λ f rest v.
     c.settle_one.ensures.settles
 
 pub returns-in-Action-clause-settles : goal.returns-in-Action-clause-settles
-returns-in-Action-clause-settles g c = on_ok c.settle_one-in-Action.result _ _ (λ f rest v.
+returns-in-Action-clause-settles g c = on_ok_weaker c.settle_one-in-Action.result (λ f rest v.
     let ls = c.args.script.now in
     let q = c.in-Action.request in
     let w = subst (λ (l : Line). Waiting c.args.engine.now ls (l ∷ rest) c.args.self.now) c.in-Action.is v in

@@ -1,4 +1,5 @@
-use Rattle.std.proofs.Common.{◌≡◌, Bool, false, cond, Result, Ok, Err, OnOk, sym, subst}
+use Rattle.std.proofs.Common.{◌≡◌, Bool, false, cond, sym, subst}
+use Rattle.std.proofs.lemmas.Result.{on_ok_weaker}
 use Rattle.script.specs.declared.line.Line.TheVariants.{Wait}
 use Rattle.script.specs.Past.{after, is_cancelled}
 use Rattle.script.specs.Plan.{plan_of}
@@ -7,10 +8,6 @@ use Rattle.dice_run.proofs.Ending.{settling_some, settling_alive, settling_waite
 use Rattle.dice_run.proofs.Recorded.{wait_at_end}
 use Rattle.dice_run.proofs.Steps.{may_wait, wait_stands}
 use Rattle.dice_run.proofs.driver.Driver.settle_one.Goals as goal
-
-on_ok : {A E : Type 0} (r : Result A E) (P Q : Type 0) → (P → Q) → OnOk r P → OnOk r Q
-on_ok (Ok a) P Q f p = f p
-on_ok (Err e) P Q f p = p
 
 pub wait-requires-clause-open : goal.wait-requires-clause-open
 wait-requires-clause-open g c κs within =
@@ -24,7 +21,7 @@ pub wait-requires-clause-sees : goal.wait-requires-clause-sees
 wait-requires-clause-sees g c κs within = c.requires.settling.stands.looks.sees
 
 pub returns-clause-settles : goal.returns-clause-settles
-returns-clause-settles g c = on_ok c.wait.result _ _ (λ did past s.
+returns-clause-settles g c = on_ok_weaker c.wait.result (λ did past s.
     let n = c.requires in
     let d = c.args.self.now in
     let e = c.wait.new.self in

@@ -1,4 +1,5 @@
-use Rattle.std.proofs.Common.{◌≡◌, ◌∙◌, Bool, true, false, cond, Result, Ok, Err, OnOk, Option, Some, refl, sym, ap}
+use Rattle.std.proofs.Common.{◌≡◌, ◌∙◌, Bool, true, false, cond, Option, Some, refl, sym, ap}
+use Rattle.std.proofs.lemmas.Result.{on_ok_weaker}
 use Rattle.std.specs.Option.{option_map}
 use Rattle.std.specs.HashMap.{get}
 use Rattle.std.specs.Str.{bytes_eq}
@@ -9,10 +10,6 @@ use Rattle.dice_run.specs.Seats.{log_in}
 use Rattle.dice_run.specs.Driving.{is_told}
 use Rattle.dice_run.proofs.driver.Driver.wait.Goals as goal
 
-on_ok : {A E : Type 0} (r : Result A E) (P Q : Type 0) → (P → Q) → OnOk r P → OnOk r Q
-on_ok (Ok a) P Q f p = f p
-on_ok (Err e) P Q f p = p
-
 map_if : {X Y : Type 0} (f : X → Y) (b : Bool) (x : X) (o : Option X) → option_map f (cond b (Some x) o) ≡ cond b (Some (f x)) (option_map f o)
 map_if f true x o = refl
 map_if f false x o = refl
@@ -21,7 +18,7 @@ pub come-requires-clause-live : goal.come-requires-clause-live
 come-requires-clause-live g c κs within = c.requires.open c.in-Some.promise (sym c.take.ensures.value ∙ c.in-Some.is)
 
 pub returns-clause-did : goal.returns-clause-did
-returns-clause-did g c = on_ok c.note.result _ _
+returns-clause-did g c = on_ok_weaker c.note.result
     (λ noted.
     let p = c.in-Some.promise in
     let did = c.in_ok-came.ensures.did in
