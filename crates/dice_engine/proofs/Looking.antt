@@ -1,10 +1,9 @@
 -- What a look finds once the reader was told of a journal.
-use Rattle.std.proofs.Common.{◌≡◌, ◌≤◌, ℕ, Bool, true, false, cond, eqb, ◌&&◌, nat_eq, List, [], ◌∷◌, ◌++◌, length, map, Option, Some, None, inl, inr, refl, sym, ap, ◌∙◌, subst, arith, append_assoc, append-nil, length-append, eqb-true, if◌then◌else◌}
+use Rattle.std.proofs.Common.{◌≡◌, ◌≤◌, ℕ, Bool, true, false, cond, eqb, ◌&&◌, nat_eq, List, [], ◌∷◌, ◌++◌, length, map, Some, None, inl, inr, refl, sym, ap, ◌∙◌, subst, arith, append_assoc, length-append, eqb-true, if◌then◌else◌}
 use Rattle.std.specs.Prelude.{reverse}
 use Rattle.std.proofs.lemmas.Bool.{eq-eqb, and_parts}
 use Rattle.std.proofs.lemmas.List.{reverse-append, reverse-reverse}
 use Rattle.std.proofs.lemmas.Option.{none-some, same_Some}
-use mathlib.Core.List.{IsPrefix}
 use Rattle.dice_key.specs.Lawful.{IsEquality}
 use Rattle.dice_key.specs.Meaning.{Meaning}
 use Rattle.dice_model.specs.Eval.{eval, HasValue}
@@ -19,7 +18,7 @@ use Rattle.shelf.specs.declared.op.Plain.{Plain}
 use Rattle.shelf.specs.declared.op.Plain.TheVariants as bare
 use Rattle.shelf.specs.Ops.{commits_in, row_at, SoundAfter, IsSound}
 use Rattle.dice_engine.specs.Turns.{log_of}
-use Rattle.dice_engine.specs.Rows.{Item, Finished, item_of, items_of, ShelfHas, BeginsWithRows}
+use Rattle.dice_engine.specs.Rows.{Item, Finished, item_of, items_of, BeginsWithRows}
 use Rattle.dice_engine.proofs.Shelved.{items_of-append, same_commits}
 use Rattle.lists.proofs.Members.{has_left, has_end}
 use Rattle.lists.specs.Lists.{Has}

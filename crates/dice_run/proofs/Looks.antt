@@ -1,5 +1,5 @@
 -- What a look of the driver's reader tells and leaves.
-use Rattle.std.proofs.Common.{Bool, true, false, ◌≡◌, ◌≤◌, ℕ, Option, Result, Ok, Err, Some, None, List, [], ◌∷◌, ◌++◌, length, refl, sym, ap, ◌∙◌, subst, arith, append-nil, append_assoc}
+use Rattle.std.proofs.Common.{Bool, true, false, ◌≡◌, ◌≤◌, ℕ, Option, Result, Ok, Err, Some, None, List, [], ◌++◌, length, refl, sym, ap, ◌∙◌, subst, arith, append-nil, append_assoc}
 use Rattle.std.specs.Prelude.{IfSome}
 use Rattle.std.specs.Option.{option_map}
 use Rattle.atomic_table.specs.Seated.{TableId}
@@ -19,7 +19,7 @@ use Rattle.action_digest.specs.declared.value.Value.{Value}
 use Rattle.action_digest.specs.Buck.{buck}
 use Rattle.action_digest.specs.Same.{key_equal}
 use Rattle.script_trace.specs.Events.{Events}
-use Rattle.dice_run.specs.Seats.{Place, log_in, IsOurs, Goes}
+use Rattle.dice_run.specs.Seats.{Place, log_in, Goes}
 use Rattle.dice_run.specs.Looking.{SeesWith, Sees}
 use Rattle.dice_run.specs.declared.outlook.Outlook.{Outlook}
 use Rattle.dice_run.proofs.Seating.{begins_itself}

@@ -1,18 +1,16 @@
 -- Turns after one another, and promises that are polled in turn.
-use Rattle.std.proofs.Common.{Bool, true, false, ◌≡◌, ◌≢◌, ◌≤◌, ◌<◌, ◌⊎◌, inl, inr, ℕ, Option, Result, Ok, Err, Some, None, List, [], ◌∷◌, ◌++◌, length, take, drop, refl, sym, ap, ◌∙◌, subst, arith, append-nil, append_assoc}
+use Rattle.std.proofs.Common.{◌≡◌, ◌≢◌, ◌⊎◌, inl, inr, ℕ, List, [], ◌∷◌, ◌++◌, take, drop, refl, sym, ap, ◌∙◌, subst, arith, append-nil}
 use Rattle.std.proofs.lemmas.List.{take-append-drop}
 use Rattle.std.specs.Arc.{arc_value}
 use Rattle.atomic_table.specs.Seated.{TableId}
 use Rattle.dice_key.specs.declared.universe.Kind.TheVariants.{Injected}
 use Rattle.journal.specs.declared.event.Told.TheVariants.{Open}
 use Rattle.journal.specs.Tell.{event_by}
-use Rattle.turnstile.specs.Events.{events_by, StartsWith}
-use Rattle.action_digest.specs.declared.key.Key.{Key}
-use Rattle.action_digest.specs.declared.value.Value.{Value}
+use Rattle.turnstile.specs.Events.{events_by}
 use Rattle.action_digest.specs.Buck.{buck}
 use Rattle.script_trace.specs.Events.{Events, IsDecidedIn}
-use Rattle.dice_run.specs.Seats.{Place, log_in, IsOurs, Goes, Opens}
-use Rattle.dice_run.specs.Looking.{Pledge, SeesWith, Sees, IsLive, AreLive, WasDecided, WereDecided}
+use Rattle.dice_run.specs.Seats.{Place, IsOurs, Goes, Opens}
+use Rattle.dice_run.specs.Looking.{Pledge, IsLive, WasDecided, WereDecided}
 use Rattle.dice_run.proofs.Seating.{onward, still_open, open_below, begins_on, begins_itself}
 use Rattle.dice_run.proofs.Viewing.{live_on}
 use Rattle.dice_run.proofs.Recorded.{take_longer, decided_on, decided_live}

@@ -1,12 +1,7 @@
 -- What the driver sees without a turn, from one step to the next.
-use Rattle.std.proofs.Common.{◌≡◌, ◌≢◌, ◌≤◌, ◌<◌, ◌⊎◌, inl, inr, ℕ, List, [], ◌∷◌, ◌++◌, length, Option, Some, None, refl, sym, ap, ◌∙◌, subst, arith, append_assoc, append-nil}
+use Rattle.std.proofs.Common.{◌≡◌, ◌≤◌, ◌⊎◌, inl, inr, ℕ, List, [], ◌∷◌, ◌++◌, length, Option, Some, refl, sym, ap, ◌∙◌, subst, arith}
 use Rattle.std.specs.Option.{ForSome}
 use Rattle.std.specs.Arc.{arc_value}
-use Rattle.std.specs.HashMap.{get}
-use Rattle.std.proofs.Common.{nat_eq}
-use Rattle.std.specs.Cmp.Lexicographic.{pointwise}
-use Rattle.atomic_table.specs.Seated.{TableId}
-use Rattle.journal.specs.declared.event.Told.{Told}
 use Rattle.journal.specs.Events.{NotClosed, NotLeft}
 use Rattle.turnstile.specs.Events.{StartsWith}
 use Rattle.shelf.specs.Ends.{ReaderView}
@@ -14,14 +9,13 @@ use Rattle.dice_engine.proofs.Callers.{closed_both}
 use Rattle.action_digest.specs.declared.key.Key.{Key}
 use Rattle.action_digest.specs.declared.value.Value.{Value}
 use Rattle.script_trace.specs.Events.{Events}
-use Rattle.dice_run.specs.Seats.{Place, Goes}
-use Rattle.dice_run.specs.Looking.{Pledge, SeesWith, Sees, IsLive, AreLive, WasDecided}
-use Rattle.dice_run.specs.Driving.{pledge_of, Looks, Confirms}
+use Rattle.dice_run.specs.Seats.{Place}
+use Rattle.dice_run.specs.Looking.{Pledge, SeesWith, Sees, IsLive}
+use Rattle.dice_run.specs.Driving.{pledge_of, Looks}
 use Rattle.dice_run.specs.declared.driver.Driver.{Driver}
 use Rattle.dice_run.specs.declared.outlook.Outlook.{Outlook}
-use Rattle.dice_run.proofs.Seating.{Onward, onward, still_asks, ask_below, begins_on}
+use Rattle.dice_run.proofs.Seating.{Onward, still_asks, ask_below, begins_on}
 use Rattle.lists.proofs.Members.{has_last}
-use Rattle.lists.proofs.Options.{none_some}
 use Rattle.lists.specs.Lists.{Has}
 
 for_some : {X : Type 0} (o : Option X) (P Q : X → Type 0) → ((x : X) → P x → Q x) → ForSome o P → ForSome o Q
