@@ -11,7 +11,7 @@ use Rattle.journal.specs.Law.{IsLawfulJournal}
 use Rattle.journal.specs.Tell.{event_by}
 use Rattle.journal.proofs.Lawful.{lawful_front}
 use Rattle.turnstile.specs.Events.{events_by}
-use Rattle.turnstile.specs.Seats.{SeatView}
+use Rattle.dice_engine.specs.Seats.{SeatView}
 use Rattle.dice_engine.specs.Turns.{newest_in, Adds, Turn}
 use Rattle.dice_engine.specs.Conditions.{HasOpen, HasAsk}
 use Rattle.dice_engine.specs.Calls.{Opens, Closes, Asks}

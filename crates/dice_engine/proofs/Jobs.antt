@@ -12,7 +12,7 @@ use Rattle.dice_tasks.specs.Endings.{GivesUpAll}
 use Rattle.dice_core.specs.Cores.{CoreSeen, events_of, table_at, Turned, IsAsBefore, IsJobOut, IsNameOut, TakesOut, GivesUpOnly}
 use Rattle.dice_core.specs.Givings.{Gives, IsTakenUp}
 use Rattle.dice_core.proofs.CoreLemmas.{table_put}
-use Rattle.turnstile.specs.Seats.{SeatView}
+use Rattle.dice_engine.specs.Seats.{SeatView}
 use Rattle.dice_engine.specs.Turns.{left_of, Adds}
 use Rattle.dice_engine.specs.Jobs.{GivesUpJob, gives_up, not_out, TakesUpStep, taken, stale, lost, GoesOut, ComesHome, CameOf}
 use Rattle.dice_engine.specs.declared.promise.Promise.{Promise}

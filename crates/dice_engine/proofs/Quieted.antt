@@ -11,7 +11,7 @@ use Rattle.journal.specs.Events.{Asking, decided, open_at, live_at, lost_in_epoc
 use Rattle.journal.proofs.Indices.{still_live}
 use Rattle.dice_core.specs.Cores.{CoreSeen, Came, ToValue, ToCycle, ToNothing, Pending, Absent, events_of, poll_of}
 use Rattle.dice_core.proofs.EventLemmas.{along}
-use Rattle.turnstile.specs.Seats.{SeatView}
+use Rattle.dice_engine.specs.Seats.{SeatView}
 use Rattle.dice_engine.specs.Turns.{left_of}
 use Rattle.dice_engine.specs.Calls.{AddsNothing, AreDrops, Closes, Leaves}
 use Rattle.dice_engine.specs.Replies.{Reply, TheValue, TheCycle, NoRoom, NotYet, NotLive, Tells, IsReply, IsLiveIn}

@@ -1,5 +1,5 @@
 -- What turns do to the core. A seat sees of a core its journal and its counts.
-use Rattle.std.specs.Prelude.{◌≡◌, ℕ, Bool, [], Some, None, Result}
+use Rattle.std.specs.Prelude.{◌≡◌, ◌+◌, ◌-◌, ◌^◌, ◌<◌, ℕ, min, Bool, List, [], ◌∷◌, Some, None, Result}
 use Rattle.std.specs.Arc.{arc_value}
 use Rattle.dice_key.specs.Meaning.{Meaning}
 use Rattle.dice_key.specs.declared.universe.NoMemory.{NoMemory}
@@ -9,10 +9,10 @@ use Rattle.dice_jobs.specs.Jobs.{Name, Assigned, Stepped}
 use Rattle.core_laws.specs.Stands.{IsAtRest}
 use Rattle.dice_tasks.specs.Hands.{tasks_of}
 use Rattle.dice_core.specs.Cores.{CoreSeen, events_of, past_of, table_at, poll_of, IsJobOut}
-use Rattle.turnstile.specs.Seats.{SeatView}
+use Rattle.dice_engine.specs.Seats.{SeatView}
 use Rattle.dice_engine.specs.Turns.{left_of, Turn}
 use Rattle.dice_engine.specs.Replies.{Reply, settled_of, Tells, IsLiveIn}
-use Rattle.dice_engine.specs.Jobs.{GoesOut, ComesHome, CameOf}
+use Rattle.dice_engine.specs.Jobs.{GoesOut, LinesUp, ComesHome, CameOf}
 use Rattle.dice_engine.specs.declared.promise.Promise.{Promise}
 use Rattle.dice_engine.specs.declared.promise.Settled.{Settled}
 
@@ -24,7 +24,7 @@ module _ {K V : Type 0} (eq : K → K → Bool) (m : Meaning K V) where
 
   -- one turn, which found one core and left another: their journals are what the turn found and
   -- what the seat sees then, and the seat's counts are those of the core left; R says what became
-  -- of it
+  -- of it, before the ready jobs went on the line
   pub record TurnOver (old new : SeatView (Told K V))
       (R : CoreSeen K V → CoreSeen K V → Type 0) : Type 0 where
     pub turn : Turn eq m old new (λ found own work. own ≡ [])
@@ -34,15 +34,23 @@ module _ {K V : Type 0} (eq : K → K → Bool) (m : Meaning K V) where
     pub ends : events_of left ≡ new.seen
     pub counts : left_of new.left.2 left ≡ new.left
     pub rests : RestsByJournal left
-    pub did : R found left
+    pub done : CoreSeen K V
+    pub did : R found done
+    pub puts : List (Assigned K V)
+    pub more : List (Assigned K V)
+    pub lines_up : LinesUp eq puts more done left
 
-  -- a turn that changed nothing
+  -- a turn that changed nothing, but that ready jobs went on the line
   abbrev pub Looks : SeatView (Told K V) → SeatView (Told K V) → Type 0
   Looks old new = TurnOver old new (λ c d. d ≡ c)
 
-  -- such a turn, in which no task was ready
+  -- the seat once its pass found the line empty: the count stands still at its type's end
+  abbrev pub found_empty : SeatView (Told K V) → SeatView (Told K V)
+  found_empty s = record s { empties = min (s.empties + 1) (2 ^ 64 - 1) }
+
+  -- the line was empty, and then there was such a turn, in which no task was ready
   abbrev pub FindsNothing : SeatView (Told K V) → SeatView (Told K V) → Type 0
-  FindsNothing old new = TurnOver old new (GoesOut eq None)
+  FindsNothing old new = TurnOver (found_empty old) new (GoesOut eq None)
 
 module _ {U K V R : Type 0} (eq : K → K → Bool) (m : Meaning K V) (p : Promise U K V R) where
   -- a turn that changed nothing; and if the promise's ask is live, the reply is what its key has
@@ -57,14 +65,20 @@ module _ {K V : Type 0} (eq : K → K → Bool) (m : Meaning K V) (veq : V → V
       → Type 0
   TakesIn came old new = TurnOver eq m old new (ComesHome eq m veq came)
 
-  -- a job whose task was ready is done: in one turn it goes out; in the next one what came of it
-  -- outside comes home; and it is out no more in the core that this one leaves
+  -- how a seat gets a job: its pass gains a place, above all those that it had; or it found the line
+  -- empty, and then the job goes out in a turn
+  pub data GetsJob (job : Assigned K V) (old mid : SeatView (Told K V)) : Type 0 where
+    from_line : (place : ℕ) → AllBelow place old.places → mid ≡ record old { places = place ∷ old.places } → GetsJob job old mid
+    from_core : TurnOver eq m (found_empty old) mid (GoesOut eq (Some job)) → GetsJob job old mid
+
+  -- a job is done: a seat gets it; in a turn what came of it outside comes home; and then, before
+  -- ready jobs go on the line, it is out no more
   pub record DoesJob (old new : SeatView (Told K V)) : Type 0 where
     pub mid : SeatView (Told K V)
     pub job : Assigned K V
     pub came : Result (Stepped K V) (Name K)
     pub comes : CameOf eq m veq job came
-    pub out : TurnOver eq m old mid (GoesOut eq (Some job))
+    pub gets : GetsJob job old mid
     pub home : TurnOver eq m mid new
         (λ c d. ComesHome eq m veq came c d × (IsJobOut eq d job → ⊥))
 

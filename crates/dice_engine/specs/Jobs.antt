@@ -1,9 +1,9 @@
--- What becomes of a job in the core: it goes out, and what came of it outside is taken up.
-use Rattle.std.specs.Prelude.{◌≡◌, Bool, [], Option, Some, None, Result, Ok, Err}
+-- What becomes of a job in the core: it goes out, onto the line of jobs or into a hand, and what came of it outside is taken up.
+use Rattle.std.specs.Prelude.{◌≡◌, ◌≤◌, ◌^◌, ℕ, Bool, List, [], ◌∷◌, ◌++◌, length, Option, Some, None, Result, Ok, Err}
 use Rattle.dice_key.specs.Meaning.{Meaning}
 use Rattle.dice_jobs.specs.Jobs.{Name, Assigned, Stepped, IsStepOf}
 use Rattle.dice_tasks.specs.Endings.{GivesUpAll}
-use Rattle.dice_core.specs.Cores.{CoreSeen, Turned, IsAsBefore, IsJobOut, IsNameOut, TakesOut, GivesUpOnly}
+use Rattle.dice_core.specs.Cores.{CoreSeen, events_of, Turned, IsAsBefore, IsJobOut, IsNameOut, TakesOut, GivesUpOnly}
 use Rattle.dice_core.specs.Givings.{GivesStep, DoesStep}
 
 module _ {K V : Type 0} (eq : K → K → Bool) where
@@ -11,6 +11,30 @@ module _ {K V : Type 0} (eq : K → K → Bool) where
   abbrev pub GoesOut : Option (Assigned K V) → CoreSeen K V → CoreSeen K V → Type 0
   GoesOut None c d = (c.desk.ready ≡ []) × (d ≡ c)
   GoesOut (Some j) c d = TakesOut eq j c d
+
+  -- all that a core has beside its tasks is as before
+  abbrev pub KeepsRest : CoreSeen K V → CoreSeen K V → Type 0
+  KeepsRest c d = (events_of d ≡ events_of c) × (d.entries ≡ c.entries) × (d.cells ≡ c.cells) × (d.sessions ≡ c.sessions)
+
+  -- these jobs, which were ready, went out one after another, and nothing else changed
+  pub data GoOut (c : CoreSeen K V) (js : List (Assigned K V)) (e : CoreSeen K V) : Type 0 where
+    none_goes : js ≡ [] → e ≡ c → GoOut c js e
+    goes_too : (is : List (Assigned K V)) (d : CoreSeen K V) (j : Assigned K V) → GoOut c is d → js ≡ is ++ j ∷ [] → TakesOut eq j d e → KeepsRest d e → GoOut c js e
+
+  -- why no more jobs go on the line: no task is ready; so many were put that it takes no more; or
+  -- there was no memory for one, which had gone out and is back
+  pub data StopsAt (puts : ℕ) (c d : CoreSeen K V) : Type 0 where
+    all_out : c.desk.ready ≡ [] → d ≡ c → StopsAt puts c d
+    full : 2 ^ 62 ≤ puts → d ≡ c → StopsAt puts c d
+    is_back : (j : Assigned K V) (e : CoreSeen K V) → TakesOut eq j c e → TakesOut eq j d e → KeepsRest c d → StopsAt puts c d
+
+  -- ready jobs go out and onto the line of jobs, in this order, until it stops
+  pub record LinesUp (old new : List (Assigned K V)) (c d : CoreSeen K V) : Type 0 where
+    pub jobs : List (Assigned K V)
+    pub put : new ≡ old ++ jobs
+    pub mid : CoreSeen K V
+    pub out : GoOut c jobs mid
+    pub stops : StopsAt (length new) mid d
 
 module _ {K V : Type 0} (eq : K → K → Bool) (m : Meaning K V) where
   -- the job of this name, which was out, is given up: its task ends as lost, and with it each that

@@ -1,3 +1,4 @@
+pub mod Seats
 pub mod Turns
 pub mod Rises
 pub mod Conditions

@@ -10,6 +10,7 @@ mod ledge;
 mod lines;
 mod promise;
 mod readers;
+mod seat;
 mod settling;
 mod state;
 mod updater;
@@ -17,7 +18,7 @@ mod workers;
 mod working;
 
 pub use dice_core::CommitRefusal;
-pub use engine::{Ended, Engine, Seat};
+pub use engine::{Ended, Engine};
 pub use gate::{Gate, Open};
 pub use journal::{Cause, Changes, Event};
 pub use laws::{
@@ -25,6 +26,7 @@ pub use laws::{
     own_asks_are_live, replies_are_exact, turns_go_on,
 };
 pub use promise::{Answer, Promise, Settled, Transaction, Worked};
+pub use seat::Seat;
 pub use settling::{leaving_decides_nothing, nothing_hangs, pending_is_exact};
 pub use shelf::{LookRefusal, Reader};
 pub use state::State;

@@ -4,7 +4,7 @@ ghost use Rattle.std.specs.Prelude.{◌≡◌, ◌↔◌, ◌⊎◌, ◌+◌, �
 ghost use Rattle.std.specs.Arc.{arc_value};
 ghost use Rattle.journal.specs.declared.event.Told.{Told};
 ghost use Rattle.dice_core.specs.Cores.{CoreSeen, ToNothing, Pending, events_of, poll_of};
-ghost use Rattle.turnstile.specs.Seats.{SeatView};
+ghost use Rattle.dice_engine.specs.Seats.{SeatView};
 ghost use Rattle.dice_engine.specs.Turns.{left_of};
 ghost use Rattle.dice_engine.specs.Calls.{Closes, Leaves};
 ghost use Rattle.dice_engine.specs.Replies.{Reply, TheValue, TheCycle, NoRoom, NotYet, IsReply, IsLiveIn};

@@ -5,7 +5,6 @@ ghost use Rattle.std.specs.Prelude.{◌≡◌, ◌≢◌, IsSome, is_some, ℕ, 
 ghost use Rattle.std.specs.Arc.{arc_value};
 ghost use Rattle.std.specs.Map.{keys_of};
 ghost use Rattle.journal.specs.Events.{Opened, Asking, open_at, live_at};
-ghost use Rattle.dice_jobs.specs.Alike.{AnsweredTruly, IsAnsweredIn};
 ghost use Rattle.dice_core.specs.Commits.{Fault, fault_of, AreSettable, IsFirstFault};
 ghost use Rattle.journal.specs.declared.event.Told.{Told};
 ghost use Rattle.journal.specs.declared.event.Told.TheVariants.{Ask};
@@ -16,7 +15,8 @@ ghost use Rattle.dice_engine.specs.Turns.{newest_in, log_of, left_of, Adds, Work
 ghost use Rattle.dice_engine.specs.Calls.{AddsNothing, Opens, Closes, Asks, Leaves, Commits};
 ghost use Rattle.dice_engine.specs.Replies.{reply_of, Tells, IsLiveIn, IsReply};
 ghost use Rattle.dice_engine.specs.Lines.{AreLines, AreEventsFrom};
-ghost use Rattle.dice_engine.specs.Jobs.{GoesOut, GivesUpJob, TakesUpStep, ComesHome};
+ghost use Rattle.job_line.specs.Ends.{first_pass};
+ghost use Rattle.dice_engine.specs.Jobs.{GoesOut, KeepsRest, LinesUp, GivesUpJob, TakesUpStep, ComesHome};
 ghost use Rattle.dice_engine.specs.Doings.{RestsByJournal};
 ghost use Rattle.dice_engine.specs.Rows.{Keeps, Follows, IsBare, ShelfHas};
 
@@ -28,21 +28,28 @@ use crate::updater::Updater;
 use dice_core::{CommitRefusal, Core, Job, JobName, Polled, Step};
 use dice_key::{KeyRef, Line, NoMemory, Universe, Version};
 use injected::cells_are_the_inputs;
+use job_line::{JobLine, Pass, Putter};
 use journal::{Event, Told};
 use shelf::Told as News;
 use std::alloc::Global;
 use std::sync::{Arc, Wait};
 use turnstile::Tale;
 
-/// The state that the seats of an engine have in turns: its core, its shelf, if it has readers, and
-/// what it tells of itself between two turns. The last number that it tells is 0 exactly if all its
+/// So many jobs are put on the line of an engine, and no more.
+const MOST_PUTS: u64 = 1 << 62;
+
+/// The state that the seats of an engine have in turns: its core, its line of jobs and who puts jobs
+/// on it, its shelf, if it has readers, and what it tells of itself between two turns. The last number that it tells is 0 exactly if all its
 /// rows are on a shelf, and readers can see them.
 #[derive(Drop)]
 pub struct State<U: Universe> {
     core: Box<Core<U>>,
+    line: Arc<JobLine<Job<U>>>,
+    putter: Putter<Job<U>>,
     shelf: Option<Box<Ledge<U>>>,
     left: (u64, u64, u64),
     newest: u64,
+    ghost own: { putter.line ≡ arc_value line },
     ghost counted: { left ≡ left_of left.2 core.value },
     ghost numbered: { newest ≡ newest_in (events_of core.value) },
     ghost shelved: { ForSome shelf (λ b. Keeps (events_of core.value) left.2 b.value) },
@@ -109,19 +116,31 @@ fn settled<U: Universe, R: Wait>(
 }
 
 impl<U: Universe> State<U> {
-    /// A state with this core. The core lies on the heap, so that a turn moves no more than its
-    /// address.
-    pub(crate) fn new(alloc: Global, core: Core<U>) -> Result<State<U>, NoMemory>
-        ensures { IfOk result (λ s. s.core.value ≡ core) }
+    /// A state with this core, its line of jobs, and the first pass to it. The core lies on the
+    /// heap, so that a turn moves no more than its address.
+    pub(crate) fn new(
+        alloc: Global,
+        core: Core<U>,
+    ) -> Result<(State<U>, Arc<JobLine<Job<U>>>, Pass<Job<U>>), NoMemory>
+        ensures core { IfOk result (λ t. t.0.core.value ≡ core) }
+        ensures pass { IfOk result (λ t. t.2 ≡ first_pass (arc_value t.1)) }
     {
         let (left, newest) = standing(&core, 1);
         let core = Box::new(alloc, core)?;
-        Ok(State {
+        let Ok((line, putter, pass)) = JobLine::new(alloc) else {
+            return Err(NoMemory);
+        };
+        let line = Arc::new(alloc, line)?;
+        let shared = Arc::try_clone(&line)?;
+        let state = State {
             core,
+            line,
+            putter,
             shelf: None,
             left,
             newest,
-        })
+        };
+        Ok((state, shared, pass))
     }
 
     /// The state with a shelf on which nothing is yet.
@@ -132,12 +151,16 @@ impl<U: Universe> State<U> {
     {
         let State {
             core,
+            line,
+            putter,
             shelf: _none,
             left: (ready, out, _),
             newest,
         } = self;
         State {
             core,
+            line,
+            putter,
             shelf: Some(shelf),
             left: (ready, out, 0),
             newest,
@@ -148,6 +171,8 @@ impl<U: Universe> State<U> {
     pub(crate) fn end<R: Wait>(self, rt: &R) -> Box<Core<U>> {
         let State {
             core,
+            line: _line,
+            putter: _putter,
             shelf,
             left: _,
             newest: _,
@@ -378,8 +403,6 @@ impl<U: Universe> State<U> {
             (events_of self.new.core.value) AddsNothing }
         ensures goes { GoesOut U.Key.eq result self.old.core.value self.new.core.value }
         ensures none { IfNone result (self.new.core.value.desk.ready ≡ []) }
-        ensures answered { IfSome result
-            (IsAnsweredIn U.Key.eq U.meaning (log_of (events_of self.new.core.value))) }
         ensures rests { RestsByJournal U.Key.eq U.meaning self.new.core.value }
     {
         let core = &mut *self.core;
@@ -390,11 +413,27 @@ impl<U: Universe> State<U> {
         job
     }
 
+    /// Puts the ready jobs on the line, in order, as the last of a turn. It stops if the line had as
+    /// many puts as it may have, or if there is no memory; then the jobs that are left stay ready.
+    pub(crate) fn line_up<R: Wait>(&mut self, rt: &R)
+        ensures lines_up { LinesUp U.Key.eq self.old.putter.puts self.new.putter.puts
+            self.old.core.value self.new.core.value }
+        ensures none { self.old.core.value.desk.ready ≡ []
+            → self.new.core.value ≡ self.old.core.value }
+        ensures events { events_of self.new.core.value ≡ events_of self.old.core.value }
+        ensures rests { RestsByJournal U.Key.eq U.meaning self.new.core.value }
+        ensures mark { self.new.left.2 ≡ self.old.left.2 }
+    {
+        let core = &mut *self.core;
+        put_ready(rt, core, &*self.line, &mut self.putter);
+        let (left, newest) = standing(core, self.left.2);
+        self.left = left;
+        self.newest = newest;
+    }
+
     /// Takes up what came of a job that was taken here: a step, or the name of the job, if there
     /// was no memory for it. The job is out no more then.
     pub(crate) fn take_up<R: Wait>(&mut self, rt: &R, came: Result<Step<U>, JobName<U>>)
-        requires { IfOk came
-            (λ s. AnsweredTruly U.Key.eq U.meaning (log_of (events_of self.old.core.value)) s.job) }
         ensures adds { Adds U.Key.eq U.meaning 0 (events_of self.old.core.value)
             (events_of self.new.core.value) (λ own work. own ≡ []) }
         ensures home { ComesHome U.Key.eq U.meaning U.Value.eq came self.old.core.value
@@ -406,6 +445,33 @@ impl<U: Universe> State<U> {
         let (left, newest) = settled(rt, &mut self.shelf, self.left.2, core);
         self.left = left;
         self.newest = newest;
+    }
+}
+
+/// Puts ready jobs on the line, until it stops.
+fn put_ready<U: Universe, R: Wait>(
+    rt: &R,
+    core: &mut Core<U>,
+    line: &JobLine<Job<U>>,
+    putter: &mut Putter<Job<U>>,
+)
+    requires own { putter.old.line ≡ line.now }
+    ensures lines_up { LinesUp U.Key.eq putter.old.puts putter.new.puts core.old core.new }
+    ensures rest { KeepsRest core.old core.new }
+    ensures none { core.old.desk.ready ≡ [] → core.new ≡ core.old }
+    ensures own { putter.new.line ≡ putter.old.line }
+{
+    for _ in 0..core.ready() {
+        if putter.puts() >= MOST_PUTS {
+            return;
+        }
+        let Some(job) = core.take_job() else {
+            unreachable!()
+        };
+        if let Err(job) = line.put(rt, putter, job) {
+            drop(core.back(job));
+            return;
+        }
     }
 }
 
@@ -443,8 +509,6 @@ fn answer_of<U: Universe>(polled: Polled<'_, U>) -> Result<Answer<U>, NoMemory>
 
 /// Takes up what came of a job.
 fn take_in<U: Universe>(core: &mut Core<U>, came: Result<Step<U>, JobName<U>>)
-    requires { IfOk came
-        (λ s. AnsweredTruly U.Key.eq U.meaning (log_of (events_of core.old)) s.job) }
     ensures works { WorksOn (events_of core.old) (events_of core.new) }
     ensures home { ComesHome U.Key.eq U.meaning U.Value.eq came core.old core.new }
 {
@@ -457,12 +521,11 @@ fn take_in<U: Universe>(core: &mut Core<U>, came: Result<Step<U>, JobName<U>>)
 /// Gives a step: it is taken; or its job is not out, and nothing changes; or there is no memory for
 /// it, and its job is given up.
 fn give<U: Universe>(core: &mut Core<U>, step: Step<U>)
-    requires { AnsweredTruly U.Key.eq U.meaning (log_of (events_of core.old)) step.job }
     ensures works { WorksOn (events_of core.old) (events_of core.new) }
     ensures takes { TakesUpStep U.Key.eq U.meaning U.Value.eq step core.old core.new }
     ensures home { IsJobOut U.Key.eq core.new step.job → ⊥ }
 {
-    match core.give_own(step) {
+    match core.give(step) {
         Ok(gave) => drop(gave),
         Err((NoMemory, step)) => fail(core, step.assignment().name()),
     }

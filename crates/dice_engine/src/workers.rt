@@ -1,9 +1,10 @@
 //! Workers beside a caller: each on a seat of its own, in a thread of its own.
 ghost use Rattle.std.specs.Prelude.{◌≡◌, ◌≤◌, All, IfOk, length};
-ghost use Rattle.turnstile.specs.Seats.{IsSeatOf, spare};
+ghost use Rattle.dice_engine.specs.Seats.{IsSeatOf, spare};
 ghost use Rattle.dice_engine.specs.Seating.{GivesSeats};
 
-use crate::engine::{Engine, Seat};
+use crate::engine::Engine;
+use crate::seat::Seat;
 use crate::gate::Gate;
 use crate::promise::Worked;
 use dice_key::{NoMemory, Universe};

@@ -1,28 +1,27 @@
 //! The calls of an engine that do jobs.
 ghost use Rattle.std.specs.Prelude.{◌≡◌, ◌+◌, [], IfOk, IfSome, IfNone};
 ghost use Rattle.std.specs.Arc.{arc_value};
-ghost use Rattle.turnstile.specs.Seats.{IsSeatOf};
-ghost use Rattle.dice_jobs.specs.Alike.{IsAnsweredIn};
+ghost use Rattle.dice_engine.specs.Seats.{IsSeatOf};
 ghost use Rattle.dice_engine.specs.declared.promise.Worked.TheVariants as worked;
-ghost use Rattle.dice_engine.specs.Turns.{log_of, Turn, Works, Later};
+ghost use Rattle.dice_engine.specs.Turns.{Turn, Works, Later};
 ghost use Rattle.dice_engine.specs.Conditions.{SawAsk};
 ghost use Rattle.dice_engine.specs.Calls.{AddsNothing};
 ghost use Rattle.dice_engine.specs.Replies.{reply_of, settled_of, IsReply};
 ghost use Rattle.dice_engine.specs.Jobs.{GoesOut};
-ghost use Rattle.dice_engine.specs.Doings.{TurnOver, TakesIn, FindsNothing, DoesJob, WaitsFor};
+ghost use Rattle.dice_engine.specs.Doings.{TurnOver, TakesIn, FindsNothing, found_empty, GetsJob, DoesJob, WaitsFor};
 
-use crate::engine::{Engine, Seat};
+use crate::engine::Engine;
+use crate::seat::Seat;
 use crate::gate::Gate;
 use crate::promise::{Answer, Promise, Settled, Worked};
 use crossbeam_utils::Backoff;
 use dice_core::{Job, JobName, Step};
-use dice_jobs::true_jobs_are_one;
 use dice_key::{NoMemory, Universe};
 use std::sync::Wait;
 
 impl<U: Universe> Engine<U> {
-    /// Does one job, if a task is ready: it is taken in one turn, done outside, and given in
-    /// another one. If there is no memory for it, it is given up.
+    /// Does one job, if there is one: it is taken from the line or, if that is empty, in a turn; it is
+    /// done outside, and given in another turn. If there is no memory for it, it is given up.
     pub fn work<R: Wait, G: Gate>(
         &self,
         rt: &R,
@@ -35,16 +34,17 @@ impl<U: Universe> Engine<U> {
         ensures later { Later U.Key.eq U.meaning seat.old seat.new
             × (seat.new.mine ≡ seat.old.mine) }
         ensures idle { result ≡ worked.Idle → seat.new.left.0 ≡ 0 }
-        ensures did { result ≡ worked.Did → seat.new.turns ≡ seat.old.turns + 2 }
+        ensures empty { result ≡ worked.Idle → seat.new.empties ≡ (found_empty seat.old).empties }
 
-        // A job went out and what came of it came home; or no task was ready, and nothing changed.
+        // A job was got and what came of it came home; or the line was empty, no task was ready, and
+        // nothing changed.
         ensures job { result ≡ worked.Did
             → DoesJob U.Key.eq U.meaning U.Value.eq seat.old seat.new }
         ensures none { result ≡ worked.Idle → FindsNothing U.Key.eq U.meaning seat.old seat.new }
         ensures seat { IsSeatOf self.now seat.new }
         ensures same { (seat.new.number ≡ seat.old.number) × (seat.new.writers ≡ seat.old.writers) }
     {
-        let Some(job) = self.take_job(rt, seat) else {
+        let Some(job) = self.next_job(rt, seat) else {
             return Worked::Idle;
         };
         gate.at(worker);
@@ -53,31 +53,45 @@ impl<U: Universe> Engine<U> {
         Worked::Did
     }
 
+    // Takes a job from the line or, if that is empty, the job of a task that is ready, in a turn.
+    fn next_job<R: Wait>(&self, rt: &R, seat: &mut Seat<U>) -> Option<Job<U>>
+        requires { IsSeatOf self.now seat.old }
+        ensures none { IfNone result (FindsNothing U.Key.eq U.meaning seat.old seat.new) }
+        ensures some { IfSome result (λ j. GetsJob U.Key.eq U.meaning U.Value.eq j seat.old seat.new) }
+        ensures idle { IfNone result (seat.new.left.0 ≡ 0) }
+        ensures seat { IsSeatOf self.now seat.new }
+    {
+        match self.line.take(rt, &mut seat.pass) {
+            Some(job) => Some(job),
+            None => self.take_job(rt, seat),
+        }
+    }
+
     // Takes the job of a task that is ready, in one turn.
     fn take_job<R: Wait>(&self, rt: &R, seat: &mut Seat<U>) -> Option<Job<U>>
         requires { IsSeatOf self.now seat.old }
         ensures turn { Turn U.Key.eq U.meaning seat.old seat.new (λ found. AddsNothing) }
         ensures none { IfNone result (seat.new.left.0 ≡ 0) }
-        ensures answered { IfSome result (IsAnsweredIn U.Key.eq U.meaning (log_of seat.new.seen)) }
         ensures goes { TurnOver U.Key.eq U.meaning seat.old seat.new (GoesOut U.Key.eq result) }
     {
-        let mut turn = self.stile.enter(rt, seat);
-        let job = turn.state().take_job();
+        let mut turn = self.stile.enter(rt, &mut seat.place);
+        let state = turn.state();
+        let job = state.take_job();
+        state.line_up(rt);
         self.stile.leave(turn);
         job
     }
 
     // Gives what came of a job that was taken, in one turn.
     fn take_up<R: Wait>(&self, rt: &R, seat: &mut Seat<U>, came: Result<Step<U>, JobName<U>>)
-        requires seat { IsSeatOf self.now seat.old }
-        requires answered { IfOk came
-            (λ s. IsAnsweredIn U.Key.eq U.meaning (log_of seat.old.seen) s.job) }
+        requires { IsSeatOf self.now seat.old }
         ensures turn { Turn U.Key.eq U.meaning seat.old seat.new (λ found own work. own ≡ []) }
         ensures home { TakesIn U.Key.eq U.meaning U.Value.eq came seat.old seat.new }
     {
-        true_jobs_are_one::<U>();
-        let mut turn = self.stile.enter(rt, seat);
-        turn.state().take_up(rt, came);
+        let mut turn = self.stile.enter(rt, &mut seat.place);
+        let state = turn.state();
+        state.take_up(rt, came);
+        state.line_up(rt);
         self.stile.leave(turn);
     }
 

@@ -2,7 +2,7 @@ use Rattle.std.proofs.Common.{◌≡◌, ℕ, rules, ap, sym, ◌∙◌, subst}
 use Rattle.dice_core.specs.Cores.{events_of}
 use Rattle.journal.specs.declared.event.Told.{Told}
 use Rattle.turnstile.specs.InTurn.{seat_in}
-use Rattle.turnstile.specs.Seats.{SeatView}
+use Rattle.dice_engine.specs.Seats.{SeatView}
 use Rattle.dice_engine.specs.Turns.{Turn}
 use Rattle.dice_engine.specs.Calls.{AddsNothing}
 use Rattle.dice_engine.proofs.Turned.{entered, may_leave_tasks, turned_any}
