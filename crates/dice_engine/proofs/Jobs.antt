@@ -1,5 +1,5 @@
 -- What becomes of a job: from what the core says of its calls.
-use Rattle.std.proofs.Common.{◌≡◌, ◌↔◌, IsTrue, ℕ, Bool, true, false, cond, [], Option, Some, None, refl, sym, ap, ◌∙◌, subst}
+use Rattle.std.proofs.Common.{◌≡◌, ◌↔◌, IsTrue, ℕ, Bool, true, false, cond, List, [], Option, Some, None, refl, sym, ap, ◌∙◌, subst}
 use Rattle.std.specs.Prelude.{Result, Ok, Err, IfOk, IfErr, IfSome, IfNone}
 use Rattle.std.proofs.lemmas.Bool.{eq-eqb}
 use Rattle.dice_key.specs.Meaning.{Meaning}
@@ -12,13 +12,15 @@ use Rattle.dice_tasks.specs.Endings.{GivesUpAll}
 use Rattle.dice_core.specs.Cores.{CoreSeen, events_of, table_at, Turned, IsAsBefore, IsJobOut, IsNameOut, TakesOut, GivesUpOnly}
 use Rattle.dice_core.specs.Givings.{Gives, IsTakenUp}
 use Rattle.dice_core.proofs.CoreLemmas.{table_put}
-use Rattle.dice_engine.specs.Seats.{SeatView}
+use Rattle.turnstile.specs.Seats.{SeatView as Place}
+use Rattle.job_line.specs.Ends.{PassView}
+use Rattle.dice_engine.specs.Seats.{SeatView, seated}
 use Rattle.dice_engine.specs.Turns.{left_of, Adds}
-use Rattle.dice_engine.specs.Jobs.{GivesUpJob, gives_up, not_out, TakesUpStep, taken, stale, lost, GoesOut, ComesHome, CameOf}
+use Rattle.dice_engine.specs.Jobs.{LinesUp, GivesUpJob, gives_up, not_out, TakesUpStep, taken, stale, lost, GoesOut, ComesHome, CameOf}
 use Rattle.dice_engine.specs.declared.promise.Promise.{Promise}
 use Rattle.dice_engine.specs.Replies.{Reply}
-use Rattle.dice_engine.specs.Doings.{RestsByJournal, TurnOver, Looks, FindsNothing, TellsOfCore}
-use Rattle.dice_engine.proofs.Turned.{Entered, Ended, turned_any, any_found}
+use Rattle.dice_engine.specs.Doings.{RestsByJournal, TurnOver, Looks, found_empty, FindsNothing, TellsOfCore}
+use Rattle.dice_engine.proofs.Turned.{Entered, Ended, turned_any, any_found, turn_of_pass}
 
 module _ {K V : Type 0} (eq : K → K → Bool) where
   pub goes_out : (o : Option (Assigned K V)) (c d : CoreSeen K V) → IfSome o (λ j. TakesOut eq j c d) → IfNone o ((c.desk.ready ≡ []) × (d ≡ c)) → GoesOut eq o c d
@@ -81,28 +83,79 @@ module _ {K V : Type 0} (eq : K → K → Bool) (m : Meaning K V) (veq : V → V
   came_of_job (Ok s) j o e = o
   came_of_job (Err n) j o e = e
 
-module _ {K V : Type 0} (eq : K → K → Bool) (m : Meaning K V) (old mid new : SeatView (Told K V)) (c d : CoreSeen K V) where
-  -- the turn in which the core c became the core d
-  pub turned_over : (R : CoreSeen K V → CoreSeen K V → Type 0) (w mark : ℕ) → Entered eq m old mid (events_of c) → Ended eq m mid new (events_of d)
-      → Adds eq m w (events_of c) (events_of d) (λ own work. own ≡ []) → new.left ≡ left_of mark d → RestsByJournal eq m d → R c d → TurnOver eq m old new R
-  turned_over R w mark e z a counts rests did = record {
-    turn = turned_any eq m old mid (events_of c) (events_of d) new (λ found own work. own ≡ []) w e z a a.did;
-    found = c;
-    left = d;
-    begins = sym (any_found eq m old mid (events_of c) (events_of d) new (λ found own work. own ≡ []) w e z a a.did);
-    ends = sym z.seen;
-    counts = ap (λ n. left_of n d) (ap (λ (l : ℕ × ℕ × ℕ). l.2) counts) ∙ sym counts;
-    rests = rests;
-    did = did;
-  }
+module _ {K V : Type 0} (eq : K → K → Bool) (m : Meaning K V) (old mid new : Place (Told K V)) (c d e : CoreSeen K V) where
+  -- the turn in which the core c became the core d, and then, when ready jobs had gone on the line, e
+  pub turned_over : {H : Type 0} (p : PassView H) (R : CoreSeen K V → CoreSeen K V → Type 0) (w mark : ℕ) (xs ys : List (Assigned K V)) → Entered eq m old mid (events_of c) → Ended eq m mid new (events_of e)
+      → Adds eq m w (events_of c) (events_of d) (λ own work. own ≡ []) → events_of e ≡ events_of d → new.left ≡ left_of mark e → RestsByJournal eq m e → R c d → LinesUp eq xs ys d e → TurnOver eq m (seated p old) (seated p new) R
+  turned_over p R w mark xs ys n z b same counts rests did lines_up =
+      let a = subst (λ I. Adds eq m w (events_of c) I (λ own work. own ≡ [])) (sym same) b in record {
+        turn = turned_any eq m old mid (events_of c) (events_of e) p new (λ found own work. own ≡ []) w n z a a.did;
+        found = c;
+        left = e;
+        begins = sym (any_found eq m old mid (events_of c) (events_of e) p new (λ found own work. own ≡ []) w n z a a.did);
+        ends = sym z.seen;
+        counts = ap (λ n. left_of n e) (ap (λ (l : ℕ × ℕ × ℕ). l.2) counts) ∙ sym counts;
+        rests = rests;
+        done = d;
+        did = did;
+        puts = xs;
+        more = ys;
+        lines_up = lines_up;
+      }
 
 module _ {K V : Type 0} (eq : K → K → Bool) (m : Meaning K V) (old new : SeatView (Told K V)) where
   -- what became of the core says what may be said of it
   pub over_so : (R S : CoreSeen K V → CoreSeen K V → Type 0) → TurnOver eq m old new R → ((c d : CoreSeen K V) → R c d → S c d) → TurnOver eq m old new S
-  over_so R S t f = record { turn = t.turn; found = t.found; left = t.left; begins = t.begins; ends = t.ends; counts = t.counts; rests = t.rests; did = f t.found t.left t.did }
+  over_so R S t f = record {
+    turn = t.turn;
+    found = t.found;
+    left = t.left;
+    begins = t.begins;
+    ends = t.ends;
+    counts = t.counts;
+    rests = t.rests;
+    done = t.done;
+    did = f t.found t.done t.did;
+    puts = t.puts;
+    more = t.more;
+    lines_up = t.lines_up;
+  }
+
+  -- what the pass of a seat does before its turn does not matter
+  pub over_of_pass : (places : List ℕ) (empties : ℕ) (R : CoreSeen K V → CoreSeen K V → Type 0) → TurnOver eq m (record old { places = places; empties = empties }) new R → TurnOver eq m old new R
+  over_of_pass places empties R t = record {
+    turn = turn_of_pass eq m old new places empties (λ found own work. own ≡ []) t.turn;
+    found = t.found;
+    left = t.left;
+    begins = t.begins;
+    ends = t.ends;
+    counts = t.counts;
+    rests = t.rests;
+    done = t.done;
+    did = t.did;
+    puts = t.puts;
+    more = t.more;
+    lines_up = t.lines_up;
+  }
 
   pub looked : {U R : Type 0} (p : Promise U K V R) (r : Reply K V) → TellsOfCore eq m p r old new → Looks eq m old new
   looked p r t = over_so _ _ t (λ c d h. h.0)
 
   pub found_nothing : FindsNothing eq m old new → Looks eq m old new
-  found_nothing t = over_so _ _ t (λ c d h. h.1)
+  found_nothing t = over_of_pass _ _ _ (over_so_found t)
+    where
+      over_so_found : FindsNothing eq m old new → Looks eq m (found_empty old) new
+      over_so_found t = record {
+        turn = t.turn;
+        found = t.found;
+        left = t.left;
+        begins = t.begins;
+        ends = t.ends;
+        counts = t.counts;
+        rests = t.rests;
+        done = t.done;
+        did = t.did.1;
+        puts = t.puts;
+        more = t.more;
+        lines_up = t.lines_up;
+      }

@@ -26,7 +26,7 @@ module _ {K V : Type 0} (eq : K → K → Bool) where
   pub data StopsAt (puts : ℕ) (c d : CoreSeen K V) : Type 0 where
     all_out : c.desk.ready ≡ [] → d ≡ c → StopsAt puts c d
     full : 2 ^ 62 ≤ puts → d ≡ c → StopsAt puts c d
-    is_back : (j : Assigned K V) (e : CoreSeen K V) → TakesOut eq j c e → TakesOut eq j d e → KeepsRest c d → StopsAt puts c d
+    is_back : (j : Assigned K V) (e : CoreSeen K V) → TakesOut eq j c e → TakesOut eq j d e → KeepsRest c d → KeepsRest d e → StopsAt puts c d
 
   -- ready jobs go out and onto the line of jobs, in this order, until it stops
   pub record LinesUp (old new : List (Assigned K V)) (c d : CoreSeen K V) : Type 0 where

@@ -12,7 +12,7 @@ impl<'a, S: Tale> Turn<'a, S> {
     /// The state. What is written through it is what `leave` gives back.
     pub fn state(&mut self) -> &mut S
         ensures* writes_back { sem 𝓛 (Lends
-            (the_row (record { mir = named 1; lft = [] }) S.row S.Event.row) S.row self.entry result
+            (the_row (record { mir = named 1; lft = [] }) S.row S.Event.row S.Mark.row) S.row self.entry result
             (turn_with self.old)) }
         ensures value { result.now ≡ self.old.state }
     {

@@ -12,7 +12,13 @@ use atomic_table::{Refused, Table};
 use std::alloc::{AllocFailed, Global};
 use std::sync::Wait;
 
-type Held<S> = Table<Option<S>, View<<S as Tale>::Event>, u64, InTurns, Global>;
+type Held<S> = Table<
+    Option<S>,
+    View<<S as Tale>::Event>,
+    (u64, <S as Tale>::Mark),
+    InTurns,
+    Global,
+>;
 
 const FIRST: Numbers = Numbers {
     own: 0,
@@ -40,9 +46,13 @@ impl<S: Tale> Turnstile<S> {
         writers: u64,
     ) -> Result<(Turnstile<S>, Seat<S::Event>), (NoMemory, S)>
         requires { S.list state ≡ [] }
-        ensures made { IfOk result (λ t. t.1 ≡ first_seat t.0 writers) }
+        ensures made { IfOk result (λ t. t.1 ≡ first_seat t.0 writers (S.mark state)) }
         ensures refused { IfErr result (λ e. e.1 ≡ state) }
     {
+        let Ok(mark) = state.marked() else {
+            return Err((NoMemory, state));
+        };
+        let key = (writers, mark);
         let version = state.list_version();
         let mut slots = Vec::new(alloc);
         if let Err(failed) = slots.push(Some(state)) {
@@ -54,7 +64,7 @@ impl<S: Tale> Turnstile<S> {
             alloc,
             &[0, 0, version],
             slots,
-            &writers,
+            &key,
         );
         match made {
             Ok((table, raw)) => Ok((Turnstile { table }, Seat::settle(raw, FIRST, (0, 0, 0)))),
@@ -69,6 +79,7 @@ impl<S: Tale> Turnstile<S> {
         requires away { IsAway seat }
         ensures seen { StartsWith (S.list result) seat.seen }
         ensures below { AllBelow S.by seat.writers (S.list result) }
+        ensures mark { S.mark result ≡ seat.mark }
         ensures mine { events_by S.by seat.number (S.list result) ≡ seat.mine }
         ensures noted { EachNote (NotedIn S.by (S.list result)) seat.ended }
         ensures floor { seat.floor ≤ S.version (S.list result) }

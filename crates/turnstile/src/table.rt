@@ -8,19 +8,19 @@ use std::marker::Model;
 /// The rule that holds between any two steps: `specs/Rule.antt`.
 pub struct InTurns;
 
-impl<S: Tale> TableRule<Option<S>, View<S::Event>, u64> for InTurns {
+impl<S: Tale> TableRule<Option<S>, View<S::Event>, (u64, S::Mark)> for InTurns {
     ghost use Rattle.turnstile.specs.Rule.{Turns, first_view};
 
-    ghost holds = { λ writers. Turns S.list S.by S.version writers };
+    ghost holds = { λ key. Turns S.list S.by S.version S.mark key.0 (S.mark_of key.1) };
 
-    ghost first = { first_view };
+    ghost first = { λ key. first_view key.0 (S.mark_of key.1) };
 }
 
 /// Turns on a state `S`. It may be shared by threads, each with a seat of its own. Contracts see it
 /// as the identity of its table.
 #[derive(Drop)]
 pub struct Turnstile<S: Tale> {
-    pub(crate) table: Table<Option<S>, View<S::Event>, u64, InTurns, Global>,
+    pub(crate) table: Table<Option<S>, View<S::Event>, (u64, S::Mark), InTurns, Global>,
 }
 
 impl<S: Tale> Model for Turnstile<S> {
