@@ -9,6 +9,7 @@ use Rattle.dice_jobs.specs.Jobs.{Name, Assigned, Stepped}
 use Rattle.core_laws.specs.Stands.{IsAtRest}
 use Rattle.dice_tasks.specs.Hands.{tasks_of}
 use Rattle.dice_core.specs.Cores.{CoreSeen, events_of, past_of, table_at, poll_of, IsJobOut}
+use Rattle.job_line.specs.Ends.{AllBelow}
 use Rattle.dice_engine.specs.Seats.{SeatView}
 use Rattle.dice_engine.specs.Turns.{left_of, Turn}
 use Rattle.dice_engine.specs.Replies.{Reply, settled_of, Tells, IsLiveIn}
@@ -52,6 +53,12 @@ module _ {K V : Type 0} (eq : K → K → Bool) (m : Meaning K V) where
   abbrev pub FindsNothing : SeatView (Told K V) → SeatView (Told K V) → Type 0
   FindsNothing old new = TurnOver (found_empty old) new (GoesOut eq None)
 
+  -- how a seat gets a job: its pass gains a place, above all those that it had; or it found the line
+  -- empty, and then the job goes out in a turn
+  pub data GetsJob (old mid : SeatView (Told K V)) (job : Assigned K V) : Type 0 where
+    from_line : (place : ℕ) → AllBelow place old.places → mid ≡ record old { places = place ∷ old.places } → GetsJob old mid job
+    from_core : TurnOver (found_empty old) mid (GoesOut eq (Some job)) → GetsJob old mid job
+
 module _ {U K V R : Type 0} (eq : K → K → Bool) (m : Meaning K V) (p : Promise U K V R) where
   -- a turn that changed nothing; and if the promise's ask is live, the reply is what its key has
   -- come to in the core
@@ -65,12 +72,6 @@ module _ {K V : Type 0} (eq : K → K → Bool) (m : Meaning K V) (veq : V → V
       → Type 0
   TakesIn came old new = TurnOver eq m old new (ComesHome eq m veq came)
 
-  -- how a seat gets a job: its pass gains a place, above all those that it had; or it found the line
-  -- empty, and then the job goes out in a turn
-  pub data GetsJob (job : Assigned K V) (old mid : SeatView (Told K V)) : Type 0 where
-    from_line : (place : ℕ) → AllBelow place old.places → mid ≡ record old { places = place ∷ old.places } → GetsJob job old mid
-    from_core : TurnOver eq m (found_empty old) mid (GoesOut eq (Some job)) → GetsJob job old mid
-
   -- a job is done: a seat gets it; in a turn what came of it outside comes home; and then, before
   -- ready jobs go on the line, it is out no more
   pub record DoesJob (old new : SeatView (Told K V)) : Type 0 where
@@ -78,7 +79,7 @@ module _ {K V : Type 0} (eq : K → K → Bool) (m : Meaning K V) (veq : V → V
     pub job : Assigned K V
     pub came : Result (Stepped K V) (Name K)
     pub comes : CameOf eq m veq job came
-    pub gets : GetsJob job old mid
+    pub gets : GetsJob eq m old mid job
     pub home : TurnOver eq m mid new
         (λ c d. ComesHome eq m veq came c d × (IsJobOut eq d job → ⊥))
 

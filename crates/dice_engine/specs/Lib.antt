@@ -6,6 +6,7 @@ pub mod Calls
 pub mod Replies
 pub mod Lines
 pub mod Jobs
+pub mod Benches
 pub mod Doings
 pub mod Leaving
 pub mod Rows

@@ -1,6 +1,7 @@
 -- What a seat of an engine sees: what its seat of the turnstile sees, and how often its pass found the line of jobs empty.
 use Rattle.std.specs.Prelude.{◌≡◌, ℕ, ◌-◌, ◌^◌, ◌<◌, List, [], Bool, true}
-use Rattle.atomic_table.specs.Seated.{TableId}
+use base.Stored.{Coded, coded×, coded_ℕ, coded_via}
+use Rattle.atomic_table.specs.Seated.{TableId, table_id_coded}
 use Rattle.job_line.specs.Ends.{LineId, PassView}
 use Rattle.turnstile.specs.declared.view.Note.{Note}
 use Rattle.turnstile.specs.Seats.{SeatView as Place}
@@ -9,6 +10,9 @@ use Rattle.turnstile.specs.Seats.{SeatView as Place}
 pub record EngineId : Type 0 where
   pub turnstile : TableId
   pub line : LineId
+
+abbrev pub engine_id_coded : Coded EngineId
+engine_id_coded = coded_via (coded× table_id_coded (coded× coded_ℕ coded_ℕ)) (λ (e : EngineId). (e.turnstile, e.line.web)) (λ x y e i. record { turnstile = (e i).0; line = record { web = (e i).1; heap = y.line.heap } })
 
 -- A seat of an engine as its holder sees it: a seat of its turnstile and a pass to its line of jobs. `places` are those of the jobs that it
 -- took from the line, the latest first, and `empties` counts how often it found the line empty. All else is as of a seat of the turnstile.
@@ -47,6 +51,10 @@ module _ {E : Type 0} where
     places = p.places;
     empties = p.empties;
   }
+
+  -- the pass and the place are of that engine, and outside a turn
+  abbrev pub AreOf : {J : Type 0} → EngineId → PassView J → Place E → Type 0
+  AreOf engine p s = (s.turnstile ≡ engine.turnstile) × (s.away ≡ true) × (p.line ≡ engine.line) × (s.mark ≡ p.line.web)
 
   -- the seat is outside a turn
   abbrev pub IsAway : SeatView E → Type 0
@@ -94,6 +102,3 @@ module _ {E : Type 0} where
   -- what is noted of the seat t when s takes it in
   abbrev pub note_of : SeatView E → SeatView E → Note E
   note_of s t = record { number = t.number; mine = t.mine; seen = s.seen; theirs = t.seen }
-
-abbrev pub engine_id_coded : Coded EngineId
-engine_id_coded = coded_via (coded× table_id_coded (seg_id_coded global_coded)) (λ (e : EngineId). (e.turnstile, e.line)) (λ x y e i. record { turnstile = (e i).0; line = (e i).1 })

@@ -12,8 +12,8 @@ ghost use Rattle.dice_engine.specs.Lines.{AreLines, AreEventsFrom};
 ghost use Rattle.dice_engine.specs.Doings.{TellsOfCore};
 
 use crate::engine::Engine;
-use crate::seat::Seat;
 use crate::promise::{Answer, Promise, Transaction};
+use crate::seat::Seat;
 use crate::updater::Updater;
 use dice_core::CommitRefusal;
 use dice_key::{KeyRef, Line, NoMemory, Universe, Version};

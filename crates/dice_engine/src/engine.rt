@@ -4,6 +4,7 @@ ghost use Rattle.turnstile.specs.Events.{longer};
 ghost use Rattle.dice_engine.specs.Seats.{first_seat, spare, split_off, note_of, IsSeatOf};
 ghost use Rattle.dice_engine.specs.Turns.{newest_in};
 
+use crate::bench::Bench;
 use crate::seat::Seat;
 use crate::state::State;
 use dice_core::{Core, Job};
@@ -36,7 +37,7 @@ impl<U: Universe> Drop for Engine<U> {
 /// What an engine held that has ended. It goes when this is dropped. A process that ends may forget
 /// it.
 pub struct Ended<U: Universe> {
-    core: Box<Core<U>>,
+    bench: Box<Bench<U>>,
     universe: Arc<U>,
 }
 
@@ -44,7 +45,7 @@ pub struct Ended<U: Universe> {
 impl<U: Universe> Drop for Ended<U> {
     fn drop(self) {
         let Ended {
-            core: _core,
+            bench: _bench,
             universe: _universe,
         } = self;
     }
@@ -117,9 +118,12 @@ impl<U: Universe> Engine<U> {
         ensures ended { seat.new.ended ≡ note_of seat.old other ∷ (seat.old.ended ++ other.ended) }
         ensures places { seat.new.places ≡ seat.old.places ++ other.places }
         ensures same { seat.new
-            ≡ record seat.old
-            { seen = seat.new.seen; floor = seat.new.floor; ended = seat.new.ended;
-            places = seat.new.places } }
+            ≡ record seat.old {
+              seen = seat.new.seen;
+              floor = seat.new.floor;
+              ended = seat.new.ended;
+              places = seat.new.places;
+            } }
     {
         let Seat { place, pass } = other;
         self.line.join(&mut seat.pass, pass);
@@ -149,8 +153,8 @@ impl<U: Universe> Engine<U> {
             universe,
         } = self;
         let Seat { place, pass: _pass } = seat;
-        let core = stile.end(rt, place).end(rt);
-        Ended { core, universe }
+        let bench = stile.end(rt, place).end(rt);
+        Ended { bench, universe }
     }
 
     /// Whether a seat has a turn or waits for one just now. It is a hint, by which a seat that can

@@ -1,6 +1,7 @@
 //! The engine: one core, whose calls many threads take in turns.
 #![tactic(auto)]
 
+mod bench;
 mod calls;
 mod engine;
 mod events;

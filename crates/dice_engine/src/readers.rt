@@ -11,9 +11,9 @@ ghost use Rattle.dice_engine.specs.Calls.{AddsNothing};
 ghost use Rattle.dice_engine.specs.Rows.{ShelfHas};
 
 use crate::engine::Engine;
-use crate::seat::Seat;
 use crate::ledge::Ledge;
 use crate::promise::Transaction;
+use crate::seat::Seat;
 use crate::state::State;
 use dice_core::Core;
 use dice_key::{NoMemory, Universe, ValueRef};

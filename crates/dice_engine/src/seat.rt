@@ -26,6 +26,10 @@ impl<U: Universe> Model for Seat<U> {
     ghost Value = { SeatView (Told U.Key U.Value) };
 
     ghost view = { λ s. seated s.pass s.place };
+
+    ghost use Rattle.std.specs.Prelude.{◌≡◌};
+
+    ghost invariant = { λ s. s.place.mark ≡ s.pass.line.web };
 }
 
 impl<U: Universe> Seat<U> {

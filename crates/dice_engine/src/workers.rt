@@ -4,9 +4,9 @@ ghost use Rattle.dice_engine.specs.Seats.{IsSeatOf, spare};
 ghost use Rattle.dice_engine.specs.Seating.{GivesSeats};
 
 use crate::engine::Engine;
-use crate::seat::Seat;
 use crate::gate::Gate;
 use crate::promise::Worked;
+use crate::seat::Seat;
 use dice_key::{NoMemory, Universe};
 use std::alloc::Global;
 use std::sync::Wait;

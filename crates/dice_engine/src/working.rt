@@ -1,22 +1,24 @@
 //! The calls of an engine that do jobs.
 ghost use Rattle.std.specs.Prelude.{◌≡◌, ◌+◌, [], IfOk, IfSome, IfNone};
 ghost use Rattle.std.specs.Arc.{arc_value};
-ghost use Rattle.dice_engine.specs.Seats.{IsSeatOf};
+ghost use Rattle.dice_jobs.specs.Alike.{IsAnsweredIn};
+ghost use Rattle.dice_engine.specs.Seats.{IsSeatOf, AreOf, seated};
 ghost use Rattle.dice_engine.specs.declared.promise.Worked.TheVariants as worked;
-ghost use Rattle.dice_engine.specs.Turns.{Turn, Works, Later};
+ghost use Rattle.dice_engine.specs.Turns.{log_of, Works, Later};
 ghost use Rattle.dice_engine.specs.Conditions.{SawAsk};
-ghost use Rattle.dice_engine.specs.Calls.{AddsNothing};
 ghost use Rattle.dice_engine.specs.Replies.{reply_of, settled_of, IsReply};
-ghost use Rattle.dice_engine.specs.Jobs.{GoesOut};
+ghost use Rattle.dice_engine.specs.Jobs.{GoesOut, IsKnown};
 ghost use Rattle.dice_engine.specs.Doings.{TurnOver, TakesIn, FindsNothing, found_empty, GetsJob, DoesJob, WaitsFor};
 
 use crate::engine::Engine;
-use crate::seat::Seat;
 use crate::gate::Gate;
 use crate::promise::{Answer, Promise, Settled, Worked};
+use crate::seat::{Place, Seat};
 use crossbeam_utils::Backoff;
 use dice_core::{Job, JobName, Step};
+use dice_jobs::true_jobs_are_one;
 use dice_key::{NoMemory, Universe};
+use job_line::Pass;
 use std::sync::Wait;
 
 impl<U: Universe> Engine<U> {
@@ -44,37 +46,49 @@ impl<U: Universe> Engine<U> {
         ensures seat { IsSeatOf self.now seat.new }
         ensures same { (seat.new.number ≡ seat.old.number) × (seat.new.writers ≡ seat.old.writers) }
     {
-        let Some(job) = self.next_job(rt, seat) else {
+        let Some(job) = self.next_job(rt, &mut seat.place, &mut seat.pass) else {
             return Worked::Idle;
         };
         gate.at(worker);
         let came = job.advance(&*self.universe);
-        self.take_up(rt, seat, came);
+        self.take_up(rt, &mut seat.place, &mut seat.pass, came);
         Worked::Did
     }
 
     // Takes a job from the line or, if that is empty, the job of a task that is ready, in a turn.
-    fn next_job<R: Wait>(&self, rt: &R, seat: &mut Seat<U>) -> Option<Job<U>>
-        requires { IsSeatOf self.now seat.old }
-        ensures none { IfNone result (FindsNothing U.Key.eq U.meaning seat.old seat.new) }
-        ensures some { IfSome result (λ j. GetsJob U.Key.eq U.meaning U.Value.eq j seat.old seat.new) }
-        ensures idle { IfNone result (seat.new.left.0 ≡ 0) }
-        ensures seat { IsSeatOf self.now seat.new }
+    fn next_job<R: Wait>(
+        &self,
+        rt: &R,
+        place: &mut Place<U>,
+        pass: &mut Pass<Job<U>>,
+    ) -> Option<Job<U>>
+        requires { AreOf self.now pass.old place.old }
+        ensures none { IfNone result (FindsNothing U.Key.eq U.meaning (seated pass.old place.old)
+            (seated pass.new place.new)) }
+        ensures some { IfSome result (GetsJob U.Key.eq U.meaning (seated pass.old place.old)
+            (seated pass.new place.new)) }
+        ensures idle { IfNone result (place.new.left.0 ≡ 0) }
+        ensures known { IfSome result
+            (IsKnown U.Key.eq U.meaning (log_of place.new.seen) pass.new.seen) }
+        ensures of { AreOf self.now pass.new place.new }
     {
-        match self.line.take(rt, &mut seat.pass) {
+        match self.line.take(rt, pass) {
             Some(job) => Some(job),
-            None => self.take_job(rt, seat),
+            None => self.take_job(rt, place, pass),
         }
     }
 
     // Takes the job of a task that is ready, in one turn.
-    fn take_job<R: Wait>(&self, rt: &R, seat: &mut Seat<U>) -> Option<Job<U>>
-        requires { IsSeatOf self.now seat.old }
-        ensures turn { Turn U.Key.eq U.meaning seat.old seat.new (λ found. AddsNothing) }
-        ensures none { IfNone result (seat.new.left.0 ≡ 0) }
-        ensures goes { TurnOver U.Key.eq U.meaning seat.old seat.new (GoesOut U.Key.eq result) }
+    fn take_job<R: Wait>(&self, rt: &R, place: &mut Place<U>, pass: &Pass<Job<U>>) -> Option<Job<U>>
+        requires { AreOf self.now pass.now place.old }
+        ensures none { IfNone result (place.new.left.0 ≡ 0) }
+        ensures answered { IfSome result (IsAnsweredIn U.Key.eq U.meaning (log_of place.new.seen)) }
+        ensures goes { TurnOver U.Key.eq U.meaning (seated pass.now place.old)
+            (seated pass.now place.new) (GoesOut U.Key.eq result) }
+        ensures of { AreOf self.now pass.now place.new }
     {
-        let mut turn = self.stile.enter(rt, &mut seat.place);
+        let _ = pass;
+        let mut turn = self.stile.enter(rt, place);
         let state = turn.state();
         let job = state.take_job();
         state.line_up(rt);
@@ -83,14 +97,24 @@ impl<U: Universe> Engine<U> {
     }
 
     // Gives what came of a job that was taken, in one turn.
-    fn take_up<R: Wait>(&self, rt: &R, seat: &mut Seat<U>, came: Result<Step<U>, JobName<U>>)
-        requires { IsSeatOf self.now seat.old }
-        ensures turn { Turn U.Key.eq U.meaning seat.old seat.new (λ found own work. own ≡ []) }
-        ensures home { TakesIn U.Key.eq U.meaning U.Value.eq came seat.old seat.new }
+    fn take_up<R: Wait>(
+        &self,
+        rt: &R,
+        place: &mut Place<U>,
+        pass: &mut Pass<Job<U>>,
+        came: Result<Step<U>, JobName<U>>,
+    )
+        requires of { AreOf self.now pass.old place.old }
+        requires known { IfOk came (λ s. IsKnown U.Key.eq U.meaning (log_of place.old.seen)
+            pass.old.seen s.job) }
+        ensures home { TakesIn U.Key.eq U.meaning U.Value.eq came (seated pass.old place.old)
+            (seated pass.new place.new) }
+        ensures of { AreOf self.now pass.new place.new }
     {
-        let mut turn = self.stile.enter(rt, &mut seat.place);
+        true_jobs_are_one::<U>();
+        let mut turn = self.stile.enter(rt, place);
         let state = turn.state();
-        state.take_up(rt, came);
+        state.take_up(rt, pass, came);
         state.line_up(rt);
         self.stile.leave(turn);
     }

@@ -14,8 +14,8 @@ close-requires-after_bounds g c κs within = λ lawful.
     let m = g.U.Universe.meaning in
     let old = c.args.seat.now in
     let mid = seat_in c.enter-turn.result in
-    let J = events_of c.state.result.now.core.value in
-    let e = entered eq m old mid (events_of c.enter-turn.result.state.core.value) J (ap (λ s. events_of s.core.value) c.state.ensures.value) c.enter-turn.ensures.turn c.enter-turn.ensures.seen c.enter-turn.ensures.mine c.enter-turn.ensures.floor in
+    let J = events_of c.state.result.now.bench.value.core in
+    let e = entered eq m old mid (events_of c.enter-turn.result.state.bench.value.core) J (ap (λ s. events_of s.bench.value.core) c.state.ensures.value) c.enter-turn.ensures.turn c.enter-turn.ensures.seen c.enter-turn.ensures.mine c.enter-turn.ensures.floor in
     let t = c.args.transaction in
     (record { by = old.number; version = t.version }, has_open eq m old J e.begins lawful e.found t.opened t.version c.requires.open)
 
@@ -25,9 +25,9 @@ leave-requires-clause-grows g c =
     let m = g.U.Universe.meaning in
     let old = c.args.seat.now in
     let mid = seat_in c.enter-turn.result in
-    let J = events_of c.state.result.now.core.value in
-    let e = entered eq m old mid (events_of c.enter-turn.result.state.core.value) J (ap (λ s. events_of s.core.value) c.state.ensures.value) c.enter-turn.ensures.turn c.enter-turn.ensures.seen c.enter-turn.ensures.mine c.enter-turn.ensures.floor in
-    let I = events_of c.close.new.self.core.value in
+    let J = events_of c.state.result.now.bench.value.core in
+    let e = entered eq m old mid (events_of c.enter-turn.result.state.bench.value.core) J (ap (λ s. events_of s.bench.value.core) c.state.ensures.value) c.enter-turn.ensures.turn c.enter-turn.ensures.seen c.enter-turn.ensures.mine c.enter-turn.ensures.floor in
+    let I = events_of c.close.new.self.bench.value.core in
     let t = c.args.transaction in
     let r = c.close.ensures in
     may_leave eq m old mid J I old.number (Closes old.number t.opened t.version) e c.requires.seat.1 refl (closes_own eq m old mid J I t.opened t.version e c.requires.open r.0 r.1 r.2)
@@ -38,9 +38,9 @@ returns-clause-turn g c =
     let m = g.U.Universe.meaning in
     let old = c.args.seat.now in
     let mid = seat_in c.enter-turn.result in
-    let J = events_of c.state.result.now.core.value in
-    let e = entered eq m old mid (events_of c.enter-turn.result.state.core.value) J (ap (λ s. events_of s.core.value) c.state.ensures.value) c.enter-turn.ensures.turn c.enter-turn.ensures.seen c.enter-turn.ensures.mine c.enter-turn.ensures.floor in
-    let I = events_of c.close.new.self.core.value in
+    let J = events_of c.state.result.now.bench.value.core in
+    let e = entered eq m old mid (events_of c.enter-turn.result.state.bench.value.core) J (ap (λ s. events_of s.bench.value.core) c.state.ensures.value) c.enter-turn.ensures.turn c.enter-turn.ensures.seen c.enter-turn.ensures.mine c.enter-turn.ensures.floor in
+    let I = events_of c.close.new.self.bench.value.core in
     let t = c.args.transaction in
     let r = c.close.ensures in
     subst (λ s. Turn eq m old s (λ found. Closes old.number t.opened t.version)) (search rules)

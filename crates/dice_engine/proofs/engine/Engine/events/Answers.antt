@@ -13,8 +13,8 @@ leave-requires-clause-grows g c =
     let m = g.U.Universe.meaning in
     let old = c.args.seat.now in
     let mid = seat_in c.enter-turn.result in
-    let J = events_of c.state.result.now.core.value in
-    let e = entered eq m old mid (events_of c.enter-turn.result.state.core.value) J (ap (λ s. events_of s.core.value) c.state.ensures.value) c.enter-turn.ensures.turn c.enter-turn.ensures.seen c.enter-turn.ensures.mine c.enter-turn.ensures.floor in
+    let J = events_of c.state.result.now.bench.value.core in
+    let e = entered eq m old mid (events_of c.enter-turn.result.state.bench.value.core) J (ap (λ s. events_of s.bench.value.core) c.state.ensures.value) c.enter-turn.ensures.turn c.enter-turn.ensures.seen c.enter-turn.ensures.mine c.enter-turn.ensures.floor in
     let a = nothing eq m J J c.events-events.ensures.lawful 0 refl in
     may_leave_tasks eq m old mid J J 0 AddsNothing e a a.did.0
 
@@ -24,8 +24,8 @@ returns-clause-turn g c =
     let m = g.U.Universe.meaning in
     let old = c.args.seat.now in
     let mid = seat_in c.enter-turn.result in
-    let J = events_of c.state.result.now.core.value in
-    let e = entered eq m old mid (events_of c.enter-turn.result.state.core.value) J (ap (λ s. events_of s.core.value) c.state.ensures.value) c.enter-turn.ensures.turn c.enter-turn.ensures.seen c.enter-turn.ensures.mine c.enter-turn.ensures.floor in
+    let J = events_of c.state.result.now.bench.value.core in
+    let e = entered eq m old mid (events_of c.enter-turn.result.state.bench.value.core) J (ap (λ s. events_of s.bench.value.core) c.state.ensures.value) c.enter-turn.ensures.turn c.enter-turn.ensures.seen c.enter-turn.ensures.mine c.enter-turn.ensures.floor in
     let a = nothing eq m J J c.events-events.ensures.lawful 0 refl in
     subst (λ s. Turn eq m old s (λ found. AddsNothing)) (search rules)
     (turned_any eq m old mid J J c.leave.new.turn.0 (λ found. AddsNothing) 0 e (record { seen = c.leave.ensures.seen; mine = c.leave.ensures.mine; turns = c.leave.ensures.turns; floor = c.leave.ensures.floor; below = c.leave.ensures.below; noted = c.leave.ensures.noted; same = c.leave.ensures.same }) a a.did.0)

@@ -14,8 +14,8 @@ leave-requires-clause-open g c = λ κs within lawful o at.
     let m = g.U.Universe.meaning in
     let old = c.args.seat.now in
     let mid = seat_in c.enter-turn.result in
-    let J = events_of c.state.result.now.core.value in
-    let e = entered eq m old mid (events_of c.enter-turn.result.state.core.value) J (ap (λ s. events_of s.core.value) c.state.ensures.value) c.enter-turn.ensures.turn c.enter-turn.ensures.seen c.enter-turn.ensures.mine c.enter-turn.ensures.floor in
+    let J = events_of c.state.result.now.bench.value.core in
+    let e = entered eq m old mid (events_of c.enter-turn.result.state.bench.value.core) J (ap (λ s. events_of s.bench.value.core) c.state.ensures.value) c.enter-turn.ensures.turn c.enter-turn.ensures.seen c.enter-turn.ensures.mine c.enter-turn.ensures.floor in
     let p = c.args.promise in
     leaves_open eq m old J e.begins lawful e.found p.ask p.opened p.version (arc_value p.key) c.requires.ask o at
 
@@ -25,8 +25,8 @@ leave-requires-clause-closed g c = λ κs within lawful a live.
     let m = g.U.Universe.meaning in
     let old = c.args.seat.now in
     let mid = seat_in c.enter-turn.result in
-    let J = events_of c.state.result.now.core.value in
-    let e = entered eq m old mid (events_of c.enter-turn.result.state.core.value) J (ap (λ s. events_of s.core.value) c.state.ensures.value) c.enter-turn.ensures.turn c.enter-turn.ensures.seen c.enter-turn.ensures.mine c.enter-turn.ensures.floor in
+    let J = events_of c.state.result.now.bench.value.core in
+    let e = entered eq m old mid (events_of c.enter-turn.result.state.bench.value.core) J (ap (λ s. events_of s.bench.value.core) c.state.ensures.value) c.enter-turn.ensures.turn c.enter-turn.ensures.seen c.enter-turn.ensures.mine c.enter-turn.ensures.floor in
     let p = c.args.promise in
     let r = leaves_closed eq m old J e.begins lawful e.found p.ask p.opened p.version (arc_value p.key) c.requires.ask a live in
     (r.0, (r.1, r.2))
@@ -37,9 +37,9 @@ leave-requires-2-clause-grows g c =
     let m = g.U.Universe.meaning in
     let old = c.args.seat.now in
     let mid = seat_in c.enter-turn.result in
-    let J = events_of c.state.result.now.core.value in
-    let e = entered eq m old mid (events_of c.enter-turn.result.state.core.value) J (ap (λ s. events_of s.core.value) c.state.ensures.value) c.enter-turn.ensures.turn c.enter-turn.ensures.seen c.enter-turn.ensures.mine c.enter-turn.ensures.floor in
-    let I = events_of c.leave.new.self.core.value in
+    let J = events_of c.state.result.now.bench.value.core in
+    let e = entered eq m old mid (events_of c.enter-turn.result.state.bench.value.core) J (ap (λ s. events_of s.bench.value.core) c.state.ensures.value) c.enter-turn.ensures.turn c.enter-turn.ensures.seen c.enter-turn.ensures.mine c.enter-turn.ensures.floor in
+    let I = events_of c.leave.new.self.bench.value.core in
     let p = c.args.promise in
     may_leave eq m old mid J I old.number (Leaves old.number p.ask p.opened p.version J) e c.requires.seat.1 refl
     (c.leave.ensures old.number (λ lawful a live. left_by eq m old J e.begins lawful e.found p.ask p.opened p.version (arc_value p.key) c.requires.ask a live))
@@ -50,9 +50,9 @@ returns-clause-turn g c =
     let m = g.U.Universe.meaning in
     let old = c.args.seat.now in
     let mid = seat_in c.enter-turn.result in
-    let J = events_of c.state.result.now.core.value in
-    let e = entered eq m old mid (events_of c.enter-turn.result.state.core.value) J (ap (λ s. events_of s.core.value) c.state.ensures.value) c.enter-turn.ensures.turn c.enter-turn.ensures.seen c.enter-turn.ensures.mine c.enter-turn.ensures.floor in
-    let I = events_of c.leave.new.self.core.value in
+    let J = events_of c.state.result.now.bench.value.core in
+    let e = entered eq m old mid (events_of c.enter-turn.result.state.bench.value.core) J (ap (λ s. events_of s.bench.value.core) c.state.ensures.value) c.enter-turn.ensures.turn c.enter-turn.ensures.seen c.enter-turn.ensures.mine c.enter-turn.ensures.floor in
+    let I = events_of c.leave.new.self.bench.value.core in
     let p = c.args.promise in
     subst (λ s. Turn eq m old s (λ found. Leaves old.number p.ask p.opened p.version found)) (search rules)
     (turned eq m old mid J I c.leave-2.new.turn.0 (λ found. Leaves old.number p.ask p.opened p.version found) old.number e (record { seen = c.leave-2.ensures.seen; mine = c.leave-2.ensures.mine; turns = c.leave-2.ensures.turns; floor = c.leave-2.ensures.floor; below = c.leave-2.ensures.below; noted = c.leave-2.ensures.noted; same = c.leave-2.ensures.same }) refl

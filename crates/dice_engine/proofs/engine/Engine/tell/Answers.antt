@@ -17,9 +17,9 @@ leave-requires-clause-grows g c =
     let m = g.U.Universe.meaning in
     let old = c.args.seat.now in
     let mid = seat_in c.enter-turn.result in
-    let J = events_of c.state.result.now.core.value in
-    let e = entered eq m old mid (events_of c.enter-turn.result.state.core.value) J (ap (λ s. events_of s.core.value) c.state.ensures.value) c.enter-turn.ensures.turn c.enter-turn.ensures.seen c.enter-turn.ensures.mine c.enter-turn.ensures.floor in
-    let I = events_of c.tell-told.new.self.core.value in
+    let J = events_of c.state.result.now.bench.value.core in
+    let e = entered eq m old mid (events_of c.enter-turn.result.state.bench.value.core) J (ap (λ s. events_of s.bench.value.core) c.state.ensures.value) c.enter-turn.ensures.turn c.enter-turn.ensures.seen c.enter-turn.ensures.mine c.enter-turn.ensures.floor in
+    let I = events_of c.tell-told.new.self.bench.value.core in
     let a = nothing eq m J I c.tell-told.ensures.lawful 0 (ap events_of c.tell-told.ensures.core) in
     may_leave_tasks eq m old mid J I 0 AddsNothing e a a.did.0
 
@@ -29,18 +29,18 @@ returns-clause-turn g c =
     let m = g.U.Universe.meaning in
     let old = c.args.seat.now in
     let mid = seat_in c.enter-turn.result in
-    let J = events_of c.state.result.now.core.value in
-    let e = entered eq m old mid (events_of c.enter-turn.result.state.core.value) J (ap (λ s. events_of s.core.value) c.state.ensures.value) c.enter-turn.ensures.turn c.enter-turn.ensures.seen c.enter-turn.ensures.mine c.enter-turn.ensures.floor in
-    let I = events_of c.tell-told.new.self.core.value in
+    let J = events_of c.state.result.now.bench.value.core in
+    let e = entered eq m old mid (events_of c.enter-turn.result.state.bench.value.core) J (ap (λ s. events_of s.bench.value.core) c.state.ensures.value) c.enter-turn.ensures.turn c.enter-turn.ensures.seen c.enter-turn.ensures.mine c.enter-turn.ensures.floor in
+    let I = events_of c.tell-told.new.self.bench.value.core in
     let a = nothing eq m J I c.tell-told.ensures.lawful 0 (ap events_of c.tell-told.ensures.core) in
     subst (λ s. Turn eq m old s (λ found. AddsNothing)) (search rules)
     (turned_any eq m old mid J I c.leave.new.turn.0 (λ found. AddsNothing) 0 e (record { seen = c.leave.ensures.seen; mine = c.leave.ensures.mine; turns = c.leave.ensures.turns; floor = c.leave.ensures.floor; below = c.leave.ensures.below; noted = c.leave.ensures.noted; same = c.leave.ensures.same }) a a.did.0)
 
 pub returns-clause-told : goal.returns-clause-told
 returns-clause-told g c = λ yes free.
-    let I = events_of c.tell-told.new.self.core.value in
+    let I = events_of c.tell-told.new.self.bench.value.core in
     let zero : c.leave.new.turn.0.left.2 ≡ 0 = search rules in
-    let mark : c.tell-told.new.self.left.2 ≡ 0 = sym (mark_is c.leave.new.turn.0.left c.tell-told.new.self.left.2 c.tell-told.new.self.core.value c.leave.ensures.left) ∙ zero in
+    let mark : c.tell-told.new.self.left.2 ≡ 0 = sym (mark_is c.leave.new.turn.0.left c.tell-told.new.self.left.2 c.tell-told.new.self.bench.value.core c.leave.ensures.left) ∙ zero in
     let p = told_so I (c.tell-told.new.self.left.2 ≡ 0) mark c.tell-told.result c.args.reader.now c.learned.new.reader c.learned.ensures c.tell-told.ensures.told (c.tell-told.ensures.some mark) free in
     let seen : ShelfHas c.leave.new.turn.0.seen c.learned.new.reader.seen = subst (λ J. ShelfHas J c.learned.new.reader.seen) (sym c.leave.ensures.seen) p in
     subst (λ (s : SeatView (Told g.row.U-Key.Denot g.row.U-Value.Denot)). ShelfHas s.seen c.learned.new.reader.seen) {x = c.leave.new.turn.0} {y = c.seat-1.given.0} (search rules) seen
