@@ -1,5 +1,5 @@
 -- What becomes of a core if ready jobs go on the line.
-use Rattle.std.proofs.Common.{◌≡◌, ◌≤◌, ◌<◌, ℕ, ◌+◌, ◌^◌, Bool, true, false, cond, eqb, eqb-true, ◌&&◌, List, [], ◌∷◌, ◌++◌, length, Option, Some, None, eq-eqb, refl, sym, ap, ◌∙◌, subst, arith, append-nil, append_assoc}
+use Rattle.std.proofs.Common.{◌≡◌, ◌≤◌, ◌<◌, ℕ, zero, suc, ◌+◌, ◌^◌, Bool, true, false, cond, eqb, eqb-true, ◌&&◌, List, [], ◌∷◌, ◌++◌, length, Option, Some, None, eq-eqb, refl, sym, ap, ◌∙◌, subst, arith, append-nil, append_assoc}
 use Rattle.std.specs.Prelude.{IfSome, IfNone}
 use Rattle.std.specs.Cmp.{first_so, second_so}
 use Rattle.dice_key.specs.Meaning.{Meaning}
@@ -13,8 +13,15 @@ use Rattle.dice_core.specs.Cores.{CoreSeen, Came, IsAsBefore, IsJobOut, events_o
 use Rattle.std.specs.List.{AllByRecursion}
 use Rattle.dice_jobs.specs.Alike.{IsAnsweredIn}
 use Rattle.job_line.specs.Ends.{PutterView, with_job}
-use Rattle.dice_engine.specs.Turns.{log_of}
-use Rattle.dice_engine.specs.Benches.{IsLinedUp}
+use mathlib.Core.List.{IsPrefix}
+use Rattle.std.specs.List.{slice_get}
+use Rattle.std.proofs.lemmas.Option.{none-some, same_Some}
+use Rattle.lists.proofs.Places.{get_longer}
+use Rattle.journal.specs.declared.event.Told.{Told}
+use Rattle.turnstile.specs.Events.{StartsWith}
+use Rattle.dice_engine.proofs.Callers.{answered_later}
+use Rattle.dice_engine.specs.Turns.{log_of, Adds}
+use Rattle.dice_engine.specs.Benches.{BenchView, IsLinedUp}
 use Rattle.dice_engine.specs.Jobs.{AreAnswered, KeepsRest, GoOut, none_goes, goes_too, StopsAt, all_out, full, is_back, LinesUp}
 
 module _ {K V : Type 0} (eq : K → K → Bool) where
@@ -71,6 +78,36 @@ module _ {K V : Type 0} (eq : K → K → Bool) where
 
     pub lined_poll : (xs ys : List (Assigned K V)) (c d : CoreSeen K V) → LinesUp eq xs ys c d → (v : ℕ) (k : K) → poll_of eq m d v k ≡ poll_of eq m c v k
     lined_poll xs ys c d l v k = stop_poll (length ys) l.mid d l.stops v k ∙ outs_poll c l.mid l.jobs l.out v k
+
+-- the parts of two benches that are the same
+module _ {K V : Type 0} {a b : BenchView K V} where
+  pub core_same : a ≡ b → a.core ≡ b.core
+  core_same e = ap (λ (x : BenchView K V). x.core) e
+
+  pub puts_same : a ≡ b → a.puts ≡ b.puts
+  puts_same e = ap (λ (x : BenchView K V). x.puts) e
+
+  pub line_same : a ≡ b → a.line ≡ b.line
+  line_same e = ap (λ (x : BenchView K V). x.line) e
+
+module _ {K V : Type 0} (eq : K → K → Bool) (m : Meaning K V) (longer : (C D : List (List (K × V))) (a : Assigned K V) → IsAnsweredIn eq m C a → IsAnsweredIn eq m (C ++ D) a) where
+  -- jobs that are truly answered stay so as the journal grows
+  pub all_later : (J I : List (Told K V)) (js : List (Assigned K V)) → StartsWith I J → AreAnswered eq m (log_of J) js → AreAnswered eq m (log_of I) js
+  all_later J I [] p a = tt
+  all_later J I (j ∷ js) p a = (answered_later eq m longer J I j p a.0, all_later J I js p a.1)
+
+  pub added_later : (n : ℕ) (J I : List (Told K V)) (P : List (Told K V) → List (Told K V) → Type 0) (js : List (Assigned K V)) → Adds eq m n J I P → AreAnswered eq m (log_of J) js → AreAnswered eq m (log_of I) js
+  added_later n J I P js a h = all_later J I js (a.own ++ a.work, a.journal) h
+
+-- a job that was put is truly answered
+module _ {K V : Type 0} (P : Assigned K V → Type 0) where
+  pub one_of_all : (js : List (Assigned K V)) (n : ℕ) (j : Assigned K V) → AllByRecursion P js → slice_get js n ≡ Some j → P j
+  one_of_all [] n j a e = absurd (none-some j e)
+  one_of_all (x ∷ js) zero j a e = subst P (same_Some x j e) a.0
+  one_of_all (x ∷ js) (suc n) j a e = one_of_all js n j a.1 e
+
+  pub known_put : (seen puts : List (Assigned K V)) (n : ℕ) (j : Assigned K V) → IsPrefix seen puts → AllByRecursion P puts → slice_get seen n ≡ Some j → P j
+  known_put seen puts n j p a e = one_of_all puts n j a (subst (λ xs. slice_get xs n ≡ Some j) p.1 (get_longer seen p.0 n j e))
 
 -- While ready jobs go on the line: how many went, and what is known of them.
 module _ {K V : Type 0} (eq : K → K → Bool) (m : Meaning K V) (p : PutterView (Assigned K V)) (c : CoreSeen K V) where

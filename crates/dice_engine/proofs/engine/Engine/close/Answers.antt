@@ -29,7 +29,7 @@ leave-requires-clause-grows g c =
     let e = entered eq m old mid (events_of c.enter-turn.result.state.bench.value.core) J (ap (λ s. events_of s.bench.value.core) c.state.ensures.value) c.enter-turn.ensures.turn c.enter-turn.ensures.seen c.enter-turn.ensures.mine c.enter-turn.ensures.floor in
     let I = events_of c.close.new.self.bench.value.core in
     let t = c.args.transaction in
-    let r = c.close.ensures in
+    let r = c.close.ensures.closes in
     may_leave eq m old mid J I old.number (Closes old.number t.opened t.version) e c.requires.seat.1 refl (closes_own eq m old mid J I t.opened t.version e c.requires.open r.0 r.1 r.2)
 
 pub returns-clause-turn : goal.returns-clause-turn
@@ -42,6 +42,6 @@ returns-clause-turn g c =
     let e = entered eq m old mid (events_of c.enter-turn.result.state.bench.value.core) J (ap (λ s. events_of s.bench.value.core) c.state.ensures.value) c.enter-turn.ensures.turn c.enter-turn.ensures.seen c.enter-turn.ensures.mine c.enter-turn.ensures.floor in
     let I = events_of c.close.new.self.bench.value.core in
     let t = c.args.transaction in
-    let r = c.close.ensures in
+    let r = c.close.ensures.closes in
     subst (λ s. Turn eq m old s (λ found. Closes old.number t.opened t.version)) (search rules)
     (turned eq m old mid J I c.leave.new.turn.0 (λ found. Closes old.number t.opened t.version) old.number e (record { seen = c.leave.ensures.seen; mine = c.leave.ensures.mine; turns = c.leave.ensures.turns; floor = c.leave.ensures.floor; below = c.leave.ensures.below; noted = c.leave.ensures.noted; same = c.leave.ensures.same }) refl (closes_own eq m old mid J I t.opened t.version e c.requires.open r.0 r.1 r.2))

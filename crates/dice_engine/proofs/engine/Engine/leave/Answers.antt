@@ -42,7 +42,7 @@ leave-requires-2-clause-grows g c =
     let I = events_of c.leave.new.self.bench.value.core in
     let p = c.args.promise in
     may_leave eq m old mid J I old.number (Leaves old.number p.ask p.opened p.version J) e c.requires.seat.1 refl
-    (c.leave.ensures old.number (λ lawful a live. left_by eq m old J e.begins lawful e.found p.ask p.opened p.version (arc_value p.key) c.requires.ask a live))
+    (c.leave.ensures.leaves old.number (λ lawful a live. left_by eq m old J e.begins lawful e.found p.ask p.opened p.version (arc_value p.key) c.requires.ask a live))
 
 pub returns-clause-turn : goal.returns-clause-turn
 returns-clause-turn g c =
@@ -56,4 +56,4 @@ returns-clause-turn g c =
     let p = c.args.promise in
     subst (λ s. Turn eq m old s (λ found. Leaves old.number p.ask p.opened p.version found)) (search rules)
     (turned eq m old mid J I c.leave-2.new.turn.0 (λ found. Leaves old.number p.ask p.opened p.version found) old.number e (record { seen = c.leave-2.ensures.seen; mine = c.leave-2.ensures.mine; turns = c.leave-2.ensures.turns; floor = c.leave-2.ensures.floor; below = c.leave-2.ensures.below; noted = c.leave-2.ensures.noted; same = c.leave-2.ensures.same }) refl
-    (c.leave.ensures old.number (λ lawful a live. left_by eq m old J e.begins lawful e.found p.ask p.opened p.version (arc_value p.key) c.requires.ask a live)))
+    (c.leave.ensures.leaves old.number (λ lawful a live. left_by eq m old J e.begins lawful e.found p.ask p.opened p.version (arc_value p.key) c.requires.ask a live)))
