@@ -1,5 +1,5 @@
 -- What becomes of a core if ready jobs go on the line.
-use Rattle.std.proofs.Common.{◌≡◌, ◌≤◌, ◌<◌, ℕ, zero, suc, ◌+◌, ◌^◌, Bool, true, false, cond, eqb, eqb-true, ◌&&◌, List, [], ◌∷◌, ◌++◌, length, Option, Some, None, eq-eqb, refl, sym, ap, ◌∙◌, subst, arith, append-nil, append_assoc}
+use Rattle.std.proofs.Common.{◌≡◌, ◌⊎◌, ◌≤◌, ◌<◌, inl, inr, ℕ, zero, suc, ◌+◌, ◌^◌, Bool, true, false, cond, eqb, eqb-true, ◌&&◌, List, [], ◌∷◌, ◌++◌, length, Option, Some, None, eq-eqb, refl, sym, ap, ◌∙◌, subst, arith, append-nil, append_assoc}
 use Rattle.std.specs.Prelude.{IfSome, IfNone}
 use Rattle.std.specs.Cmp.{first_so, second_so}
 use Rattle.dice_key.specs.Meaning.{Meaning}
@@ -20,9 +20,10 @@ use Rattle.lists.proofs.Places.{get_longer}
 use Rattle.journal.specs.declared.event.Told.{Told}
 use Rattle.turnstile.specs.Events.{StartsWith}
 use Rattle.dice_engine.proofs.Callers.{answered_later}
-use Rattle.dice_engine.specs.Turns.{log_of, Adds}
+use Rattle.dice_engine.specs.Turns.{log_of}
+use Rattle.dice_engine.specs.Rows.{Grows}
 use Rattle.dice_engine.specs.Benches.{BenchView, IsLinedUp}
-use Rattle.dice_engine.specs.Jobs.{AreAnswered, KeepsRest, GoOut, none_goes, goes_too, StopsAt, all_out, full, is_back, LinesUp}
+use Rattle.dice_engine.specs.Jobs.{AreAnswered, IsKnown, KeepsRest, GoOut, none_goes, goes_too, StopsAt, all_out, full, is_back, LinesUp}
 
 module _ {K V : Type 0} (eq : K → K → Bool) where
   pub rests_on : (c d e : CoreSeen K V) → KeepsRest c d → KeepsRest d e → KeepsRest c e
@@ -96,8 +97,12 @@ module _ {K V : Type 0} (eq : K → K → Bool) (m : Meaning K V) (longer : (C D
   all_later J I [] p a = tt
   all_later J I (j ∷ js) p a = (answered_later eq m longer J I j p a.0, all_later J I js p a.1)
 
-  pub added_later : (n : ℕ) (J I : List (Told K V)) (P : List (Told K V) → List (Told K V) → Type 0) (js : List (Assigned K V)) → Adds eq m n J I P → AreAnswered eq m (log_of J) js → AreAnswered eq m (log_of I) js
-  added_later n J I P js a h = all_later J I js (a.own ++ a.work, a.journal) h
+  pub grown_later : (J I : List (Told K V)) (js : List (Assigned K V)) → Grows J I → AreAnswered eq m (log_of J) js → AreAnswered eq m (log_of I) js
+  grown_later J I js a h = all_later J I js (a.own ++ a.work, a.journal) h
+
+  pub known_later : (J I : List (Told K V)) (seen : List (Assigned K V)) (j : Assigned K V) → StartsWith I J → IsKnown eq m (log_of J) seen j → IsKnown eq m (log_of I) seen j
+  known_later J I seen j p (inl a) = inl (answered_later eq m longer J I j p a)
+  known_later J I seen j p (inr l) = inr l
 
 -- a job that was put is truly answered
 module _ {K V : Type 0} (P : Assigned K V → Type 0) where
@@ -108,6 +113,10 @@ module _ {K V : Type 0} (P : Assigned K V → Type 0) where
 
   pub known_put : (seen puts : List (Assigned K V)) (n : ℕ) (j : Assigned K V) → IsPrefix seen puts → AllByRecursion P puts → slice_get seen n ≡ Some j → P j
   known_put seen puts n j p a e = one_of_all puts n j a (subst (λ xs. slice_get xs n ≡ Some j) p.1 (get_longer seen p.0 n j e))
+
+  pub known_one : (seen puts : List (Assigned K V)) (j : Assigned K V) → IsPrefix seen puts → AllByRecursion P puts → P j ⊎ ((n : ℕ) × (slice_get seen n ≡ Some j)) → P j
+  known_one seen puts j p a (inl h) = h
+  known_one seen puts j p a (inr l) = known_put seen puts l.0 j p a l.1
 
 -- While ready jobs go on the line: how many went, and what is known of them.
 module _ {K V : Type 0} (eq : K → K → Bool) (m : Meaning K V) (p : PutterView (Assigned K V)) (c : CoreSeen K V) where

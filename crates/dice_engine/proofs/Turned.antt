@@ -85,6 +85,18 @@ module _ {K V : Type 0} (eq : K → K → Bool) (m : Meaning K V) where
     did = f a.own a.work a.did;
   }
 
+  -- the same, of a journal that stayed
+  abbrev pub lined_adds : (n : ℕ) (J I H : List (Told K V)) (P : List (Told K V) → List (Told K V) → Type 0) → H ≡ I → Adds eq m n J I P → Adds eq m n J H P
+  lined_adds n J I H P e a = record {
+    own = a.own;
+    work = a.work;
+    journal = e ∙ a.journal;
+    by = a.by;
+    of_tasks = a.of_tasks;
+    lawful = subst (IsLawfulJournal eq m) (sym e) a.lawful;
+    did = a.did;
+  }
+
   -- a turn was begun, and the journal J was found
   pub record Entered (old mid : Place (Told K V)) (J : List (Told K V)) : Type 0 where
     pub is : mid ≡ in_turn old J

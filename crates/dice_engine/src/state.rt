@@ -191,7 +191,8 @@ impl<U: Universe> State<U> {
         ensures lawful { IsLawfulJournal U.Key.eq U.meaning (events_of self.new.bench.value.core) }
         ensures line { self.new.bench.value.line ≡ self.old.bench.value.line }
     {
-        self.bench.core.in_order();
+        let bench = &*self.bench;
+        bench.core.in_order();
         let Some(shelf) = &mut self.shelf else {
             return None;
         };
@@ -367,7 +368,8 @@ impl<U: Universe> State<U> {
         ensures lawful { IsLawfulJournal U.Key.eq U.meaning (events_of self.now.bench.value.core) }
         ensures rests { RestsByJournal U.Key.eq U.meaning self.now.bench.value.core }
     {
-        let core = &self.bench.core;
+        let bench = &*self.bench;
+        let core = &bench.core;
         core.in_order();
         if !core.stands(promise.ask) {
             return Ok(Answer::Gone);
@@ -381,7 +383,8 @@ impl<U: Universe> State<U> {
             (λ ls. AreLines U.meaning (events_of self.now.bench.value.core) ls.items) }
         ensures lawful { IsLawfulJournal U.Key.eq U.meaning (events_of self.now.bench.value.core) }
     {
-        let core = &self.bench.core;
+        let bench = &*self.bench;
+        let core = &bench.core;
         core.in_order();
         lines_of(alloc, universe, core.journal())
     }
@@ -391,7 +394,8 @@ impl<U: Universe> State<U> {
         ensures count { result ≡ length (events_of self.now.bench.value.core) }
         ensures lawful { IsLawfulJournal U.Key.eq U.meaning (events_of self.now.bench.value.core) }
     {
-        let core = &self.bench.core;
+        let bench = &*self.bench;
+        let core = &bench.core;
         core.in_order();
         core.journal().len()
     }
@@ -406,7 +410,8 @@ impl<U: Universe> State<U> {
             (λ es. AreEventsFrom start (events_of self.now.bench.value.core) es.items) }
         ensures lawful { IsLawfulJournal U.Key.eq U.meaning (events_of self.now.bench.value.core) }
     {
-        let core = &self.bench.core;
+        let bench = &*self.bench;
+        let core = &bench.core;
         core.in_order();
         events_since(alloc, core.journal(), start)
     }

@@ -16,10 +16,10 @@ pub ask-promise-requires-after_bounds : goal.ask-promise-requires-after_bounds
 ask-promise-requires-after_bounds g c κs within = λ lawful.
     let eq = g.U.Key.PartialEq.eq in
     let m = g.U.Universe.meaning in
-    let old = c.args.seat.now in
+    let old = c.seat.inside.place in
     let mid = seat_in c.enter-turn.result in
-    let J = events_of c.state.result.now.bench.value.core in
-    let e = entered eq m old mid (events_of c.enter-turn.result.state.bench.value.core) J (ap (λ s. events_of s.bench.value.core) c.state.ensures.value) c.enter-turn.ensures.turn c.enter-turn.ensures.seen c.enter-turn.ensures.mine c.enter-turn.ensures.floor in
+    let J = events_of c.state-state.result.now.bench.value.core in
+    let e = entered eq m old mid (events_of c.enter-turn.result.state.bench.value.core) J (ap (λ s. events_of s.bench.value.core) c.state-state.ensures.value) c.enter-turn.ensures.turn c.enter-turn.ensures.seen c.enter-turn.ensures.mine c.enter-turn.ensures.floor in
     let t = c.args.transaction.now in
     (record { by = old.number; version = t.version }, has_open eq m old J e.begins lawful e.found t.opened t.version c.requires.open, refl)
 
@@ -27,10 +27,10 @@ pub leave-requires-clause-grows : goal.leave-requires-clause-grows
 leave-requires-clause-grows g c =
     let eq = g.U.Key.PartialEq.eq in
     let m = g.U.Universe.meaning in
-    let old = c.args.seat.now in
+    let old = c.seat.inside.place in
     let mid = seat_in c.enter-turn.result in
-    let J = events_of c.state.result.now.bench.value.core in
-    let e = entered eq m old mid (events_of c.enter-turn.result.state.bench.value.core) J (ap (λ s. events_of s.bench.value.core) c.state.ensures.value) c.enter-turn.ensures.turn c.enter-turn.ensures.seen c.enter-turn.ensures.mine c.enter-turn.ensures.floor in
+    let J = events_of c.state-state.result.now.bench.value.core in
+    let e = entered eq m old mid (events_of c.enter-turn.result.state.bench.value.core) J (ap (λ s. events_of s.bench.value.core) c.state-state.ensures.value) c.enter-turn.ensures.turn c.enter-turn.ensures.seen c.enter-turn.ensures.mine c.enter-turn.ensures.floor in
     let I = events_of c.ask-promise.new.self.bench.value.core in
     on_either c.ask-promise.result _ _ _ c.ask-promise.ensures.ok c.ask-promise.ensures.err
     (λ a. may_leave eq m old mid J I _ _ e c.requires.seat.1 c.number-number.ensures a)
@@ -40,10 +40,10 @@ pub returns-clause-ok : goal.returns-clause-ok
 returns-clause-ok g c =
     let eq = g.U.Key.PartialEq.eq in
     let m = g.U.Universe.meaning in
-    let old = c.args.seat.now in
+    let old = c.seat.inside.place in
     let mid = seat_in c.enter-turn.result in
-    let J = events_of c.state.result.now.bench.value.core in
-    let e = entered eq m old mid (events_of c.enter-turn.result.state.bench.value.core) J (ap (λ s. events_of s.bench.value.core) c.state.ensures.value) c.enter-turn.ensures.turn c.enter-turn.ensures.seen c.enter-turn.ensures.mine c.enter-turn.ensures.floor in
+    let J = events_of c.state-state.result.now.bench.value.core in
+    let e = entered eq m old mid (events_of c.enter-turn.result.state.bench.value.core) J (ap (λ s. events_of s.bench.value.core) c.state-state.ensures.value) c.enter-turn.ensures.turn c.enter-turn.ensures.seen c.enter-turn.ensures.mine c.enter-turn.ensures.floor in
     let I = events_of c.ask-promise.new.self.bench.value.core in
     let t = c.args.transaction.now in
     let n = c.number-number.ensures in
@@ -56,10 +56,10 @@ pub returns-clause-has : goal.returns-clause-has
 returns-clause-has g c =
     let eq = g.U.Key.PartialEq.eq in
     let m = g.U.Universe.meaning in
-    let old = c.args.seat.now in
+    let old = c.seat.inside.place in
     let mid = seat_in c.enter-turn.result in
-    let J = events_of c.state.result.now.bench.value.core in
-    let e = entered eq m old mid (events_of c.enter-turn.result.state.bench.value.core) J (ap (λ s. events_of s.bench.value.core) c.state.ensures.value) c.enter-turn.ensures.turn c.enter-turn.ensures.seen c.enter-turn.ensures.mine c.enter-turn.ensures.floor in
+    let J = events_of c.state-state.result.now.bench.value.core in
+    let e = entered eq m old mid (events_of c.enter-turn.result.state.bench.value.core) J (ap (λ s. events_of s.bench.value.core) c.state-state.ensures.value) c.enter-turn.ensures.turn c.enter-turn.ensures.seen c.enter-turn.ensures.mine c.enter-turn.ensures.floor in
     let I = events_of c.ask-promise.new.self.bench.value.core in
     let t = c.args.transaction.now in
     let n = c.number-number.ensures in
@@ -75,10 +75,10 @@ pub returns-clause-err : goal.returns-clause-err
 returns-clause-err g c =
     let eq = g.U.Key.PartialEq.eq in
     let m = g.U.Universe.meaning in
-    let old = c.args.seat.now in
+    let old = c.seat.inside.place in
     let mid = seat_in c.enter-turn.result in
-    let J = events_of c.state.result.now.bench.value.core in
-    let e = entered eq m old mid (events_of c.enter-turn.result.state.bench.value.core) J (ap (λ s. events_of s.bench.value.core) c.state.ensures.value) c.enter-turn.ensures.turn c.enter-turn.ensures.seen c.enter-turn.ensures.mine c.enter-turn.ensures.floor in
+    let J = events_of c.state-state.result.now.bench.value.core in
+    let e = entered eq m old mid (events_of c.enter-turn.result.state.bench.value.core) J (ap (λ s. events_of s.bench.value.core) c.state-state.ensures.value) c.enter-turn.ensures.turn c.enter-turn.ensures.seen c.enter-turn.ensures.mine c.enter-turn.ensures.floor in
     let I = events_of c.ask-promise.new.self.bench.value.core in
     subst (λ s. OnErr c.ask-promise.result (Turn eq m old s (λ found. AddsNothing))) (search rules)
     (map_err c.ask-promise.result _ _ c.ask-promise.ensures.err (λ a. turned eq m old mid J I c.leave.new.turn.0 (λ found. AddsNothing) _ e (record { seen = c.leave.ensures.seen; mine = c.leave.ensures.mine; turns = c.leave.ensures.turns; floor = c.leave.ensures.floor; below = c.leave.ensures.below; noted = c.leave.ensures.noted; same = c.leave.ensures.same }) c.number-number.ensures a))

@@ -12,10 +12,10 @@ pub close-requires-after_bounds : goal.close-requires-after_bounds
 close-requires-after_bounds g c κs within = λ lawful.
     let eq = g.U.Key.PartialEq.eq in
     let m = g.U.Universe.meaning in
-    let old = c.args.seat.now in
+    let old = c.seat.inside.place in
     let mid = seat_in c.enter-turn.result in
-    let J = events_of c.state.result.now.bench.value.core in
-    let e = entered eq m old mid (events_of c.enter-turn.result.state.bench.value.core) J (ap (λ s. events_of s.bench.value.core) c.state.ensures.value) c.enter-turn.ensures.turn c.enter-turn.ensures.seen c.enter-turn.ensures.mine c.enter-turn.ensures.floor in
+    let J = events_of c.state-state.result.now.bench.value.core in
+    let e = entered eq m old mid (events_of c.enter-turn.result.state.bench.value.core) J (ap (λ s. events_of s.bench.value.core) c.state-state.ensures.value) c.enter-turn.ensures.turn c.enter-turn.ensures.seen c.enter-turn.ensures.mine c.enter-turn.ensures.floor in
     let t = c.args.transaction in
     (record { by = old.number; version = t.version }, has_open eq m old J e.begins lawful e.found t.opened t.version c.requires.open)
 
@@ -23,10 +23,10 @@ pub leave-requires-clause-grows : goal.leave-requires-clause-grows
 leave-requires-clause-grows g c =
     let eq = g.U.Key.PartialEq.eq in
     let m = g.U.Universe.meaning in
-    let old = c.args.seat.now in
+    let old = c.seat.inside.place in
     let mid = seat_in c.enter-turn.result in
-    let J = events_of c.state.result.now.bench.value.core in
-    let e = entered eq m old mid (events_of c.enter-turn.result.state.bench.value.core) J (ap (λ s. events_of s.bench.value.core) c.state.ensures.value) c.enter-turn.ensures.turn c.enter-turn.ensures.seen c.enter-turn.ensures.mine c.enter-turn.ensures.floor in
+    let J = events_of c.state-state.result.now.bench.value.core in
+    let e = entered eq m old mid (events_of c.enter-turn.result.state.bench.value.core) J (ap (λ s. events_of s.bench.value.core) c.state-state.ensures.value) c.enter-turn.ensures.turn c.enter-turn.ensures.seen c.enter-turn.ensures.mine c.enter-turn.ensures.floor in
     let I = events_of c.close.new.self.bench.value.core in
     let t = c.args.transaction in
     let r = c.close.ensures.closes in
@@ -36,10 +36,10 @@ pub returns-clause-turn : goal.returns-clause-turn
 returns-clause-turn g c =
     let eq = g.U.Key.PartialEq.eq in
     let m = g.U.Universe.meaning in
-    let old = c.args.seat.now in
+    let old = c.seat.inside.place in
     let mid = seat_in c.enter-turn.result in
-    let J = events_of c.state.result.now.bench.value.core in
-    let e = entered eq m old mid (events_of c.enter-turn.result.state.bench.value.core) J (ap (λ s. events_of s.bench.value.core) c.state.ensures.value) c.enter-turn.ensures.turn c.enter-turn.ensures.seen c.enter-turn.ensures.mine c.enter-turn.ensures.floor in
+    let J = events_of c.state-state.result.now.bench.value.core in
+    let e = entered eq m old mid (events_of c.enter-turn.result.state.bench.value.core) J (ap (λ s. events_of s.bench.value.core) c.state-state.ensures.value) c.enter-turn.ensures.turn c.enter-turn.ensures.seen c.enter-turn.ensures.mine c.enter-turn.ensures.floor in
     let I = events_of c.close.new.self.bench.value.core in
     let t = c.args.transaction in
     let r = c.close.ensures.closes in

@@ -12,10 +12,10 @@ pub leave-requires-clause-open : goal.leave-requires-clause-open
 leave-requires-clause-open g c = λ κs within lawful o at.
     let eq = g.U.Key.PartialEq.eq in
     let m = g.U.Universe.meaning in
-    let old = c.args.seat.now in
+    let old = c.seat.inside.place in
     let mid = seat_in c.enter-turn.result in
-    let J = events_of c.state.result.now.bench.value.core in
-    let e = entered eq m old mid (events_of c.enter-turn.result.state.bench.value.core) J (ap (λ s. events_of s.bench.value.core) c.state.ensures.value) c.enter-turn.ensures.turn c.enter-turn.ensures.seen c.enter-turn.ensures.mine c.enter-turn.ensures.floor in
+    let J = events_of c.state-state.result.now.bench.value.core in
+    let e = entered eq m old mid (events_of c.enter-turn.result.state.bench.value.core) J (ap (λ s. events_of s.bench.value.core) c.state-state.ensures.value) c.enter-turn.ensures.turn c.enter-turn.ensures.seen c.enter-turn.ensures.mine c.enter-turn.ensures.floor in
     let p = c.args.promise in
     leaves_open eq m old J e.begins lawful e.found p.ask p.opened p.version (arc_value p.key) c.requires.ask o at
 
@@ -23,10 +23,10 @@ pub leave-requires-clause-closed : goal.leave-requires-clause-closed
 leave-requires-clause-closed g c = λ κs within lawful a live.
     let eq = g.U.Key.PartialEq.eq in
     let m = g.U.Universe.meaning in
-    let old = c.args.seat.now in
+    let old = c.seat.inside.place in
     let mid = seat_in c.enter-turn.result in
-    let J = events_of c.state.result.now.bench.value.core in
-    let e = entered eq m old mid (events_of c.enter-turn.result.state.bench.value.core) J (ap (λ s. events_of s.bench.value.core) c.state.ensures.value) c.enter-turn.ensures.turn c.enter-turn.ensures.seen c.enter-turn.ensures.mine c.enter-turn.ensures.floor in
+    let J = events_of c.state-state.result.now.bench.value.core in
+    let e = entered eq m old mid (events_of c.enter-turn.result.state.bench.value.core) J (ap (λ s. events_of s.bench.value.core) c.state-state.ensures.value) c.enter-turn.ensures.turn c.enter-turn.ensures.seen c.enter-turn.ensures.mine c.enter-turn.ensures.floor in
     let p = c.args.promise in
     let r = leaves_closed eq m old J e.begins lawful e.found p.ask p.opened p.version (arc_value p.key) c.requires.ask a live in
     (r.0, (r.1, r.2))
@@ -35,10 +35,10 @@ pub leave-requires-2-clause-grows : goal.leave-requires-2-clause-grows
 leave-requires-2-clause-grows g c =
     let eq = g.U.Key.PartialEq.eq in
     let m = g.U.Universe.meaning in
-    let old = c.args.seat.now in
+    let old = c.seat.inside.place in
     let mid = seat_in c.enter-turn.result in
-    let J = events_of c.state.result.now.bench.value.core in
-    let e = entered eq m old mid (events_of c.enter-turn.result.state.bench.value.core) J (ap (λ s. events_of s.bench.value.core) c.state.ensures.value) c.enter-turn.ensures.turn c.enter-turn.ensures.seen c.enter-turn.ensures.mine c.enter-turn.ensures.floor in
+    let J = events_of c.state-state.result.now.bench.value.core in
+    let e = entered eq m old mid (events_of c.enter-turn.result.state.bench.value.core) J (ap (λ s. events_of s.bench.value.core) c.state-state.ensures.value) c.enter-turn.ensures.turn c.enter-turn.ensures.seen c.enter-turn.ensures.mine c.enter-turn.ensures.floor in
     let I = events_of c.leave.new.self.bench.value.core in
     let p = c.args.promise in
     may_leave eq m old mid J I old.number (Leaves old.number p.ask p.opened p.version J) e c.requires.seat.1 refl
@@ -48,10 +48,10 @@ pub returns-clause-turn : goal.returns-clause-turn
 returns-clause-turn g c =
     let eq = g.U.Key.PartialEq.eq in
     let m = g.U.Universe.meaning in
-    let old = c.args.seat.now in
+    let old = c.seat.inside.place in
     let mid = seat_in c.enter-turn.result in
-    let J = events_of c.state.result.now.bench.value.core in
-    let e = entered eq m old mid (events_of c.enter-turn.result.state.bench.value.core) J (ap (λ s. events_of s.bench.value.core) c.state.ensures.value) c.enter-turn.ensures.turn c.enter-turn.ensures.seen c.enter-turn.ensures.mine c.enter-turn.ensures.floor in
+    let J = events_of c.state-state.result.now.bench.value.core in
+    let e = entered eq m old mid (events_of c.enter-turn.result.state.bench.value.core) J (ap (λ s. events_of s.bench.value.core) c.state-state.ensures.value) c.enter-turn.ensures.turn c.enter-turn.ensures.seen c.enter-turn.ensures.mine c.enter-turn.ensures.floor in
     let I = events_of c.leave.new.self.bench.value.core in
     let p = c.args.promise in
     subst (λ s. Turn eq m old s (λ found. Leaves old.number p.ask p.opened p.version found)) (search rules)

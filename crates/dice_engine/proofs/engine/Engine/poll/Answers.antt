@@ -16,10 +16,10 @@ pub poll-answer-requires-after_bounds : goal.poll-answer-requires-after_bounds
 poll-answer-requires-after_bounds g c κs within = λ lawful a live.
     let eq = g.U.Key.PartialEq.eq in
     let m = g.U.Universe.meaning in
-    let old = c.args.seat.now in
+    let old = c.seat.inside.place in
     let mid = seat_in c.enter-turn.result in
-    let J = events_of c.state.result.now.bench.value.core in
-    let e = entered eq m old mid (events_of c.enter-turn.result.state.bench.value.core) J (ap (λ s. events_of s.bench.value.core) c.state.ensures.value) c.enter-turn.ensures.turn c.enter-turn.ensures.seen c.enter-turn.ensures.mine c.enter-turn.ensures.floor in
+    let J = events_of c.state-state.result.now.bench.value.core in
+    let e = entered eq m old mid (events_of c.enter-turn.result.state.bench.value.core) J (ap (λ s. events_of s.bench.value.core) c.state-state.ensures.value) c.enter-turn.ensures.turn c.enter-turn.ensures.seen c.enter-turn.ensures.mine c.enter-turn.ensures.floor in
     let p = c.args.promise.now in
     saw eq m old J e.begins lawful p.ask p.opened p.version (arc_value p.key) c.requires.ask a live
 
@@ -27,10 +27,10 @@ pub leave-requires-clause-grows : goal.leave-requires-clause-grows
 leave-requires-clause-grows g c =
     let eq = g.U.Key.PartialEq.eq in
     let m = g.U.Universe.meaning in
-    let old = c.args.seat.now in
+    let old = c.seat.inside.place in
     let mid = seat_in c.enter-turn.result in
-    let J = events_of c.state.result.now.bench.value.core in
-    let e = entered eq m old mid (events_of c.enter-turn.result.state.bench.value.core) J (ap (λ s. events_of s.bench.value.core) c.state.ensures.value) c.enter-turn.ensures.turn c.enter-turn.ensures.seen c.enter-turn.ensures.mine c.enter-turn.ensures.floor in
+    let J = events_of c.state-state.result.now.bench.value.core in
+    let e = entered eq m old mid (events_of c.enter-turn.result.state.bench.value.core) J (ap (λ s. events_of s.bench.value.core) c.state-state.ensures.value) c.enter-turn.ensures.turn c.enter-turn.ensures.seen c.enter-turn.ensures.mine c.enter-turn.ensures.floor in
     let a = nothing eq m J J c.poll-answer.ensures.lawful 0 refl in
     may_leave_tasks eq m old mid J J 0 AddsNothing e a a.did.0
 
@@ -38,10 +38,10 @@ pub returns-clause-turn : goal.returns-clause-turn
 returns-clause-turn g c =
     let eq = g.U.Key.PartialEq.eq in
     let m = g.U.Universe.meaning in
-    let old = c.args.seat.now in
+    let old = c.seat.inside.place in
     let mid = seat_in c.enter-turn.result in
-    let J = events_of c.state.result.now.bench.value.core in
-    let e = entered eq m old mid (events_of c.enter-turn.result.state.bench.value.core) J (ap (λ s. events_of s.bench.value.core) c.state.ensures.value) c.enter-turn.ensures.turn c.enter-turn.ensures.seen c.enter-turn.ensures.mine c.enter-turn.ensures.floor in
+    let J = events_of c.state-state.result.now.bench.value.core in
+    let e = entered eq m old mid (events_of c.enter-turn.result.state.bench.value.core) J (ap (λ s. events_of s.bench.value.core) c.state-state.ensures.value) c.enter-turn.ensures.turn c.enter-turn.ensures.seen c.enter-turn.ensures.mine c.enter-turn.ensures.floor in
     let a = nothing eq m J J c.poll-answer.ensures.lawful 0 refl in
     subst (λ s. Turn eq m old s (λ found. AddsNothing)) (search rules)
     (turned_any eq m old mid J J c.leave.new.turn.0 (λ found. AddsNothing) 0 e (record { seen = c.leave.ensures.seen; mine = c.leave.ensures.mine; turns = c.leave.ensures.turns; floor = c.leave.ensures.floor; below = c.leave.ensures.below; noted = c.leave.ensures.noted; same = c.leave.ensures.same }) a a.did.0)
@@ -50,13 +50,13 @@ pub returns-clause-exact : goal.returns-clause-exact
 returns-clause-exact g c =
     let eq = g.U.Key.PartialEq.eq in
     let m = g.U.Universe.meaning in
-    let old = c.args.seat.now in
+    let old = c.seat.inside.place in
     let mid = seat_in c.enter-turn.result in
-    let core = c.state.result.now.bench.value.core in
+    let core = c.state-state.result.now.bench.value.core in
     let J = events_of core in
     let p = c.args.promise.now in
     let r = reply_of c.poll-answer.result in
-    let e = entered eq m old mid (events_of c.enter-turn.result.state.bench.value.core) J (ap (λ s. events_of s.bench.value.core) c.state.ensures.value) c.enter-turn.ensures.turn c.enter-turn.ensures.seen c.enter-turn.ensures.mine c.enter-turn.ensures.floor in
+    let e = entered eq m old mid (events_of c.enter-turn.result.state.bench.value.core) J (ap (λ s. events_of s.bench.value.core) c.state-state.ensures.value) c.enter-turn.ensures.turn c.enter-turn.ensures.seen c.enter-turn.ensures.mine c.enter-turn.ensures.floor in
     let a = did_so eq m 0 J J AddsNothing (λ own work. own ≡ []) (nothing eq m J J c.poll-answer.ensures.lawful 0 refl) (λ own work d. d.0) in
     subst (TellsOfCore eq m p r old) (search rules)
     (turned_over eq m old mid c.leave.new.turn.0 core core _ 0 _ e (record { seen = c.leave.ensures.seen; mine = c.leave.ensures.mine; turns = c.leave.ensures.turns; floor = c.leave.ensures.floor; below = c.leave.ensures.below; noted = c.leave.ensures.noted; same = c.leave.ensures.same }) a c.leave.ensures.left c.poll-answer.ensures.rests (refl, c.poll-answer.ensures.exact))

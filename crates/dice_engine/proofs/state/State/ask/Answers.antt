@@ -13,7 +13,7 @@ use Rattle.std.proofs.Common.{refl}
 use Rattle.dice_engine.specs.Rows.{Keeps}
 use Rattle.dice_engine.proofs.Adding.{on_either, are_made}
 use Rattle.dice_engine.proofs.Shelved.{follows, grew_one, grew_nothing}
-use Rattle.dice_engine.proofs.Lining.{core_same}
+use Rattle.dice_engine.proofs.Lining.{core_same, grown_later}
 use Rattle.dice_engine.proofs.state.State.ask.Goals as goal
 
 pub returns-in_err-ask-clause-err : goal.returns-in_err-ask-clause-err
@@ -45,3 +45,9 @@ settled-newest-requires-after_bounds g c κs within = λ b e.
     let J = events_of c.bench.inside.core in
     follows J _ _ b.value (subst (λ (s : CoreSeen g.row.U-Key.Denot g.row.U-Value.Denot). Keeps (events_of s) c.args.self.now.left.2 b.value) (sym (core_same (c.bench.view_is ∙ c.deref_mut-bench.ensures.value))) (c.args.self.now.shelved b e))
     (on_either c.ask_again-ask.result _ _ _ c.ask_again-ask.ensures.ok c.ask_again-ask.ensures.err (λ l. grew_one J _ c.args.by l.0.version _ _ refl (are_made l.0.version (arc_value c.args.key) l.1 l.3) l.4) (λ h. grew_nothing J _ h))
+
+pub invariant_of-bench : goal.invariant_of-bench
+invariant_of-bench g c =
+    let J = events_of c.bench.inside.core in
+    (c.bench.invariant.0, grown_later g.U.Key.PartialEq.eq g.U.Universe.meaning c.true_jobs_are_one.ensures.longer J _ _
+    (on_either c.ask_again-ask.result _ _ _ c.ask_again-ask.ensures.ok c.ask_again-ask.ensures.err (λ l. grew_one J _ c.args.by l.0.version _ _ refl (are_made l.0.version (arc_value c.args.key) l.1 l.3) l.4) (λ h. grew_nothing J _ h)) c.bench.invariant.1)

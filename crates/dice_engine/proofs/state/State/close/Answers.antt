@@ -9,7 +9,7 @@ use Rattle.std.proofs.Common.{sym, refl}
 use Rattle.dice_engine.specs.Rows.{Keeps}
 use Rattle.dice_engine.proofs.Adding.{are_dropped}
 use Rattle.dice_engine.proofs.Shelved.{follows, grew_one}
-use Rattle.dice_engine.proofs.Lining.{core_same}
+use Rattle.dice_engine.proofs.Lining.{core_same, grown_later}
 use Rattle.dice_engine.proofs.state.State.close.Goals as goal
 
 pub returns-clause-closes : goal.returns-clause-closes
@@ -28,3 +28,9 @@ settled-newest-requires-after_bounds g c κs within = λ b e.
     let J = events_of c.bench.inside.core in
     follows J _ _ b.value (subst (λ (s : CoreSeen g.row.U-Key.Denot g.row.U-Value.Denot). Keeps (events_of s) c.args.self.now.left.2 b.value) (sym (core_same (c.bench.view_is ∙ c.deref_mut-bench.ensures.value))) (c.args.self.now.shelved b e))
     (let l = c.close.ensures.log in grew_one J _ l.0.by l.0.version _ _ refl (are_dropped g.row.U-Value.Denot l.0.version l.1) l.3)
+
+pub invariant_of-bench : goal.invariant_of-bench
+invariant_of-bench g c =
+    let J = events_of c.bench.inside.core in
+    (c.bench.invariant.0, grown_later g.U.Key.PartialEq.eq g.U.Universe.meaning c.true_jobs_are_one.ensures.longer J _ _
+    (let l = c.close.ensures.log in grew_one J _ l.0.by l.0.version _ _ refl (are_dropped g.row.U-Value.Denot l.0.version l.1) l.3) c.bench.invariant.1)

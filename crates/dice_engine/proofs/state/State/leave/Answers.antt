@@ -10,7 +10,7 @@ use Rattle.std.proofs.Common.{refl}
 use Rattle.dice_engine.specs.Rows.{Keeps}
 use Rattle.dice_engine.proofs.Adding.{are_dropped}
 use Rattle.dice_engine.proofs.Shelved.{follows, grew_one, grew_nothing}
-use Rattle.dice_engine.proofs.Lining.{core_same}
+use Rattle.dice_engine.proofs.Lining.{core_same, grown_later}
 use Rattle.dice_engine.proofs.state.State.leave.Goals as goal
 use Rattle.dice_engine.proofs.state.State.leave.Goals.{then-stands, else-stands}
 
@@ -47,3 +47,12 @@ settled-newest-requires-after_bounds g c κs within = λ b e.
       | then-stands w ↦ (let l = w.leave.ensures.log in grew_one J _ l.0.by l.1.version _ _ refl (are_dropped g.row.U-Value.Denot l.1.version l.2) (ap events_of w.core-is ∙ l.5))
       | else-stands w ↦ grew_nothing J _ (ap events_of w.core-is)
     ])
+
+pub invariant_of-bench : goal.invariant_of-bench
+invariant_of-bench g c =
+    let J = events_of c.bench.inside.core in
+    (c.bench.invariant.0, grown_later g.U.Key.PartialEq.eq g.U.Universe.meaning c.true_jobs_are_one.ensures.longer J _ _
+    (elim c.if-stands.branch [
+      | then-stands w ↦ (let l = w.leave.ensures.log in grew_one J _ l.0.by l.1.version _ _ refl (are_dropped g.row.U-Value.Denot l.1.version l.2) (ap events_of w.core-is ∙ l.5))
+      | else-stands w ↦ grew_nothing J _ (ap events_of w.core-is)
+    ]) c.bench.invariant.1)
