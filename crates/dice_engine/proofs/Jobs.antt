@@ -1,5 +1,5 @@
 -- What becomes of a job: from what the core says of its calls.
-use Rattle.std.proofs.Common.{◌≡◌, ◌↔◌, IsTrue, ℕ, Bool, true, false, cond, List, [], Option, Some, None, refl, sym, ap, ◌∙◌, subst}
+use Rattle.std.proofs.Common.{◌≡◌, ◌↔◌, IsTrue, ℕ, Bool, true, false, cond, List, [], ◌∷◌, Option, Some, None, refl, sym, ap, ◌∙◌, subst}
 use Rattle.std.specs.Prelude.{Result, Ok, Err, IfOk, IfErr, IfSome, IfNone}
 use Rattle.std.proofs.lemmas.Bool.{eq-eqb}
 use Rattle.dice_key.specs.Meaning.{Meaning}
@@ -14,13 +14,13 @@ use Rattle.dice_core.specs.Givings.{Gives, IsTakenUp}
 use Rattle.dice_core.proofs.CoreLemmas.{table_put}
 use Rattle.turnstile.specs.Seats.{SeatView as Place}
 use Rattle.job_line.specs.Ends.{PassView}
-use Rattle.dice_engine.specs.Seats.{SeatView, seated}
-use Rattle.dice_engine.specs.Turns.{left_of, Adds}
+use Rattle.dice_engine.specs.Seats.{SeatView, seated, found_empty}
+use Rattle.dice_engine.specs.Turns.{left_of, Adds, Turn, Later, Works, rests, works}
 use Rattle.dice_engine.specs.Jobs.{LinesUp, GivesUpJob, gives_up, not_out, TakesUpStep, taken, stale, lost, GoesOut, ComesHome, CameOf}
 use Rattle.dice_engine.specs.declared.promise.Promise.{Promise}
 use Rattle.dice_engine.specs.Replies.{Reply}
-use Rattle.dice_engine.specs.Doings.{RestsByJournal, TurnOver, Looks, found_empty, FindsNothing, TellsOfCore}
-use Rattle.dice_engine.proofs.Turned.{Entered, Ended, turned_any, any_found, turn_of_pass}
+use Rattle.dice_engine.specs.Doings.{RestsByJournal, TurnOver, GetsJob, from_line, from_core, Looks, FindsNothing, TellsOfCore}
+use Rattle.dice_engine.proofs.Turned.{Entered, Ended, turned_any, any_found, turn_of_pass, work_later}
 
 module _ {K V : Type 0} (eq : K → K → Bool) where
   pub goes_out : (o : Option (Assigned K V)) (c d : CoreSeen K V) → IfSome o (λ j. TakesOut eq j c d) → IfNone o ((c.desk.ready ≡ []) × (d ≡ c)) → GoesOut eq o c d
@@ -159,3 +159,13 @@ module _ {K V : Type 0} (eq : K → K → Bool) (m : Meaning K V) (old new : Sea
         more = t.more;
         lines_up = t.lines_up;
       }
+
+module _ {K V : Type 0} (eq : K → K → Bool) (m : Meaning K V) (old mid new : SeatView (Told K V)) where
+  -- a seat got a job, and then had a turn in which it was given
+  pub got_works : (j : Assigned K V) → GetsJob eq m old mid j → Turn eq m mid new (λ found own work. own ≡ []) → Works eq m old new
+  got_works j (from_line place below is) t = works rests (turn_of_pass eq m old new (place ∷ old.places) old.empties (λ found own work. own ≡ []) (subst (λ z. Turn eq m z new (λ found own work. own ≡ [])) is t))
+  got_works j (from_core o) t = works (works rests (turn_of_pass eq m old mid old.places (found_empty old).empties (λ found own work. own ≡ []) o.turn)) t
+
+  pub got_later : (j : Assigned K V) → GetsJob eq m old mid j → Turn eq m mid new (λ found own work. own ≡ []) → Later eq m old new × (new.mine ≡ old.mine)
+  got_later j (from_line place below is) t = work_later eq m old old new rests (turn_of_pass eq m old new (place ∷ old.places) old.empties (λ found own work. own ≡ []) (subst (λ z. Turn eq m z new (λ found own work. own ≡ [])) is t))
+  got_later j (from_core o) t = work_later eq m old mid new (works rests (turn_of_pass eq m old mid old.places (found_empty old).empties (λ found own work. own ≡ []) o.turn)) t

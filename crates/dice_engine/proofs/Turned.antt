@@ -171,6 +171,10 @@ module _ {K V : Type 0} (eq : K → K → Bool) (m : Meaning K V) where
       unfolding turned_any turned
       any_found w e z a none = refl
 
+-- the number of two seats that are the same
+pub number_of : {E : Type 0} {s u : SeatView E} → s ≡ u → s.number ≡ u.number
+number_of {E} e = ap (λ (x : SeatView E). x.number) e
+
 module _ {K V : Type 0} (eq : K → K → Bool) (m : Meaning K V) where
   pub turn_so : (old new : SeatView (Told K V)) (P Q : List (Told K V) → List (Told K V) → List (Told K V) → Type 0) → Turn eq m old new P
       → ((found own work : List (Told K V)) → P found own work → Q found own work) → Turn eq m old new Q
@@ -194,7 +198,7 @@ module _ {K V : Type 0} (eq : K → K → Bool) (m : Meaning K V) where
   }
 
   -- what the pass of a seat does before its turn does not matter
-  pub turn_of_pass : (old new : SeatView (Told K V)) (places : List ℕ) (empties : ℕ) (P : List (Told K V) → List (Told K V) → List (Told K V) → Type 0)
+  abbrev pub turn_of_pass : (old new : SeatView (Told K V)) (places : List ℕ) (empties : ℕ) (P : List (Told K V) → List (Told K V) → List (Told K V) → Type 0)
       → Turn eq m (record old { places = places; empties = empties }) new P → Turn eq m old new P
   turn_of_pass old new places empties P t = record {
     found = t.found;

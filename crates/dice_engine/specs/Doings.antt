@@ -1,5 +1,5 @@
 -- What turns do to the core. A seat sees of a core its journal and its counts.
-use Rattle.std.specs.Prelude.{◌≡◌, ◌+◌, ◌-◌, ◌^◌, ◌<◌, ℕ, min, Bool, List, [], ◌∷◌, Some, None, Result}
+use Rattle.std.specs.Prelude.{◌≡◌, ℕ, Bool, List, [], ◌∷◌, Some, None, Result}
 use Rattle.std.specs.Arc.{arc_value}
 use Rattle.dice_key.specs.Meaning.{Meaning}
 use Rattle.dice_key.specs.declared.universe.NoMemory.{NoMemory}
@@ -10,7 +10,7 @@ use Rattle.core_laws.specs.Stands.{IsAtRest}
 use Rattle.dice_tasks.specs.Hands.{tasks_of}
 use Rattle.dice_core.specs.Cores.{CoreSeen, events_of, past_of, table_at, poll_of, IsJobOut}
 use Rattle.job_line.specs.Ends.{AllBelow}
-use Rattle.dice_engine.specs.Seats.{SeatView}
+use Rattle.dice_engine.specs.Seats.{SeatView, found_empty}
 use Rattle.dice_engine.specs.Turns.{left_of, Turn}
 use Rattle.dice_engine.specs.Replies.{Reply, settled_of, Tells, IsLiveIn}
 use Rattle.dice_engine.specs.Jobs.{GoesOut, LinesUp, ComesHome, CameOf}
@@ -44,10 +44,6 @@ module _ {K V : Type 0} (eq : K → K → Bool) (m : Meaning K V) where
   -- a turn that changed nothing, but that ready jobs went on the line
   abbrev pub Looks : SeatView (Told K V) → SeatView (Told K V) → Type 0
   Looks old new = TurnOver old new (λ c d. d ≡ c)
-
-  -- the seat once its pass found the line empty: the count stands still at its type's end
-  abbrev pub found_empty : SeatView (Told K V) → SeatView (Told K V)
-  found_empty s = record s { empties = min (s.empties + 1) (2 ^ 64 - 1) }
 
   -- the line was empty, and then there was such a turn, in which no task was ready
   abbrev pub FindsNothing : SeatView (Told K V) → SeatView (Told K V) → Type 0

@@ -1,5 +1,5 @@
 -- What a seat of an engine sees: what its seat of the turnstile sees, and how often its pass found the line of jobs empty.
-use Rattle.std.specs.Prelude.{◌≡◌, ℕ, ◌-◌, ◌^◌, ◌<◌, List, [], Bool, true}
+use Rattle.std.specs.Prelude.{◌≡◌, ℕ, min, ◌+◌, ◌-◌, ◌^◌, ◌<◌, List, [], Bool, true}
 use base.Stored.{Coded, coded×, coded_ℕ, coded_via}
 use Rattle.atomic_table.specs.Seated.{TableId, table_id_coded}
 use Rattle.job_line.specs.Ends.{LineId, PassView}
@@ -98,6 +98,10 @@ module _ {E : Type 0} where
   -- the seat that is split off: it has the least spare number, and has seen what the other has
   abbrev pub split_off : SeatView E → SeatView E
   split_off s = record s { number = s.spare_start; spare_start = 0; spare_end = 0; mine = []; ended = []; left = (0, 0, 0); turns = 0; places = []; empties = 0 }
+
+  -- the seat once its pass found the line empty: the count stands still at its type's end
+  abbrev pub found_empty : SeatView E → SeatView E
+  found_empty s = record s { empties = min (s.empties + 1) (2 ^ 64 - 1) }
 
   -- what is noted of the seat t when s takes it in
   abbrev pub note_of : SeatView E → SeatView E → Note E

@@ -1,14 +1,15 @@
 //! The calls of an engine that do jobs.
 ghost use Rattle.std.specs.Prelude.{◌≡◌, ◌+◌, [], IfOk, IfSome, IfNone};
 ghost use Rattle.std.specs.Arc.{arc_value};
+ghost use Rattle.job_line.specs.Ends.{after_empty};
 ghost use Rattle.dice_jobs.specs.Alike.{IsAnsweredIn};
-ghost use Rattle.dice_engine.specs.Seats.{IsSeatOf, AreOf, seated};
+ghost use Rattle.dice_engine.specs.Seats.{IsSeatOf, AreOf, seated, found_empty};
 ghost use Rattle.dice_engine.specs.declared.promise.Worked.TheVariants as worked;
 ghost use Rattle.dice_engine.specs.Turns.{log_of, Works, Later};
 ghost use Rattle.dice_engine.specs.Conditions.{SawAsk};
 ghost use Rattle.dice_engine.specs.Replies.{reply_of, settled_of, IsReply};
 ghost use Rattle.dice_engine.specs.Jobs.{GoesOut, IsKnown};
-ghost use Rattle.dice_engine.specs.Doings.{TurnOver, TakesIn, FindsNothing, found_empty, GetsJob, DoesJob, WaitsFor};
+ghost use Rattle.dice_engine.specs.Doings.{TurnOver, TakesIn, FindsNothing, GetsJob, DoesJob, WaitsFor};
 
 use crate::engine::Engine;
 use crate::gate::Gate;
@@ -68,6 +69,7 @@ impl<U: Universe> Engine<U> {
         ensures some { IfSome result (GetsJob U.Key.eq U.meaning (seated pass.old place.old)
             (seated pass.new place.new)) }
         ensures idle { IfNone result (place.new.left.0 ≡ 0) }
+        ensures empty { IfNone result (pass.new ≡ after_empty pass.old) }
         ensures known { IfSome result
             (IsKnown U.Key.eq U.meaning (log_of place.new.seen) pass.new.seen) }
         ensures of { AreOf self.now pass.new place.new }

@@ -1,9 +1,12 @@
-use Rattle.std.proofs.Common.{sym, subst, ◌∙◌}
+use Rattle.std.proofs.Common.{◌≡◌, sym, subst, ◌∙◌}
+use Rattle.std.specs.Arc.{arc_value}
+use Rattle.job_line.specs.Ends.{PutterView}
+use Rattle.dice_jobs.specs.Jobs.{Assigned}
 use Rattle.std.specs.Prelude.{IfOk}
 use Rattle.dice_jobs.specs.Alike.{IsAnsweredIn}
 use Rattle.dice_core.specs.Cores.{CoreSeen, events_of}
 use Rattle.dice_engine.specs.Turns.{log_of}
-use Rattle.dice_engine.specs.Jobs.{ComesHome, IsKnown}
+use Rattle.dice_engine.specs.Jobs.{ComesHome, IsKnown, AreAnswered}
 use Rattle.dice_engine.specs.Rows.{Keeps}
 use Rattle.dice_engine.proofs.Shelved.{follows, grew_work}
 use Rattle.dice_engine.proofs.Lining.{core_same, line_same, grown_later, known_one}
@@ -32,6 +35,9 @@ settled-newest-requires-after_bounds g c κs within = λ b e.
 
 pub invariant_of-bench : goal.invariant_of-bench
 invariant_of-bench g c =
+    let eq = g.U.Key.PartialEq.eq in
+    let m = g.U.Universe.meaning in
     let J = events_of c.bench.inside.core in
-    (c.bench.invariant.0, grown_later g.U.Key.PartialEq.eq g.U.Universe.meaning c.true_jobs_are_one.ensures.longer J _ _
-    (grew_work J _ c.take_in.ensures.works) c.bench.invariant.1)
+    let I = events_of c.take_in.new.core in
+    subst (λ (p : PutterView (Assigned g.row.U-Key.Denot g.row.U-Value.Denot)). (p.line ≡ arc_value c.bench.inside.line) × AreAnswered eq m (log_of I) p.puts) (sym c.meet.ensures.putter)
+    (c.bench.invariant.0, grown_later eq m c.true_jobs_are_one.ensures.longer J I c.bench.inside.putter.puts (grew_work J I c.take_in.ensures.works) c.bench.invariant.1)
