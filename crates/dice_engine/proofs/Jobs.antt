@@ -87,7 +87,7 @@ module _ {K V : Type 0} (eq : K → K → Bool) (m : Meaning K V) (old mid new :
   -- the turn in which the core c became the core d, and then, when ready jobs had gone on the line, e
   pub turned_over : {H : Type 0} (p : PassView H) (R : CoreSeen K V → CoreSeen K V → Type 0) (w mark : ℕ) (xs ys : List (Assigned K V)) → Entered eq m old mid (events_of c) → Ended eq m mid new (events_of e)
       → Adds eq m w (events_of c) (events_of d) (λ own work. own ≡ []) → events_of e ≡ events_of d → new.left ≡ left_of mark e → RestsByJournal eq m e → R c d → LinesUp eq xs ys d e → TurnOver eq m (seated p old) (seated p new) R
-  turned_over p R w mark xs ys n z b same counts rests did lines_up =
+  turned_over p R w mark xs ys n z b same counts stands did lines_up =
       let a = subst (λ I. Adds eq m w (events_of c) I (λ own work. own ≡ [])) (sym same) b in record {
         turn = turned_any eq m old mid (events_of c) (events_of e) p new (λ found own work. own ≡ []) w n z a a.did;
         found = c;
@@ -95,7 +95,7 @@ module _ {K V : Type 0} (eq : K → K → Bool) (m : Meaning K V) (old mid new :
         begins = sym (any_found eq m old mid (events_of c) (events_of e) p new (λ found own work. own ≡ []) w n z a a.did);
         ends = sym z.seen;
         counts = ap (λ n. left_of n e) (ap (λ (l : ℕ × ℕ × ℕ). l.2) counts) ∙ sym counts;
-        rests = rests;
+        rests = stands;
         done = d;
         did = did;
         puts = xs;
@@ -169,3 +169,12 @@ module _ {K V : Type 0} (eq : K → K → Bool) (m : Meaning K V) (old mid new :
   pub got_later : (j : Assigned K V) → GetsJob eq m old mid j → Turn eq m mid new (λ found own work. own ≡ []) → Later eq m old new × (new.mine ≡ old.mine)
   got_later j (from_line place below is) t = work_later eq m old old new rests (turn_of_pass eq m old new (place ∷ old.places) old.empties (λ found own work. own ≡ []) (subst (λ z. Turn eq m z new (λ found own work. own ≡ [])) is t))
   got_later j (from_core o) t = work_later eq m old mid new (works rests (turn_of_pass eq m old mid old.places (found_empty old).empties (λ found own work. own ≡ []) o.turn)) t
+
+  -- the line was empty, and then a turn had a job or none
+  pub none_found : (s : SeatView (Told K V)) (o : Option (Assigned K V)) → s ≡ found_empty old → TurnOver eq m s mid (GoesOut eq o) → IfNone o (FindsNothing eq m old mid)
+  none_found s None e t = subst (λ z. TurnOver eq m z mid (GoesOut eq None)) e t
+  none_found s (Some j) e t = tt
+
+  pub one_found : (s : SeatView (Told K V)) (o : Option (Assigned K V)) → s ≡ found_empty old → TurnOver eq m s mid (GoesOut eq o) → IfSome o (GetsJob eq m old mid)
+  one_found s None e t = tt
+  one_found s (Some j) e t = from_core (subst (λ z. TurnOver eq m z mid (GoesOut eq (Some j))) e t)

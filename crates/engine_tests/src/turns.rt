@@ -24,16 +24,26 @@ impl Tale for Ledger {
 
     type Event = Entry;
 
+    type Mark = u64;
+
     ghost list = { λ s. s.entries.items };
 
     ghost by = { λ e. e.by };
 
     ghost counts = { λ s. (length s.entries.items, 0, 0) };
 
+    ghost mark = { λ s. (0, 0) };
+
+    ghost mark_of = { λ m. (0, 0) };
+
     ghost version = { length };
 
     fn tally(&self) -> (u64, u64, u64) {
         (self.entries.len() as u64, 0, 0)
+    }
+
+    fn marked(&self) -> Result<u64, NoMemory> {
+        Ok(0)
     }
 
     fn list_version(&self) -> u64 {
@@ -159,7 +169,7 @@ fn start(
     writers: u64,
     room: usize,
 ) -> Result<(Turnstile<Ledger>, Seat<Entry>), AllocError>
-    ensures { IfOk result (λ t. t.1 ≡ first_seat t.0 writers) }
+    ensures { IfOk result (λ t. t.1 ≡ first_seat t.0 writers (0, 0)) }
 {
     let entries = Vec::with_capacity(alloc, room)?;
     match Turnstile::new(alloc, Ledger { entries }, writers) {

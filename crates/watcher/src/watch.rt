@@ -1,5 +1,5 @@
 //! The reader that watches the builder.
-ghost use Rattle.turnstile.specs.Seats.{IsSeatOf, IsWriter};
+ghost use Rattle.dice_engine.specs.Seats.{IsSeatOf, IsWriter};
 
 use crate::beside::beside;
 use crate::build::{SUM, build};

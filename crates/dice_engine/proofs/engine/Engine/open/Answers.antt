@@ -40,9 +40,8 @@ returns-clause-ok g c =
     let z : Ended eq m mid c.leave.new.turn.0 I = (record { seen = c.leave.ensures.seen; mine = c.leave.ensures.mine; turns = c.leave.ensures.turns; floor = c.leave.ensures.floor; below = c.leave.ensures.below; noted = c.leave.ensures.noted; same = c.leave.ensures.same }) in
     let p = c.seat.inside.pass in
     subst (λ z. IfOk c.open-opened.result (λ t. Turn eq m z _ (λ found own work. Opens z.number found own work × (t.version ≡ newest_in found) × (t.opened ≡ length found)))) c.seat.view_is
-    (subst (λ s. IfOk c.open-opened.result (λ t. Turn eq m (seated p old) (seated p s) (λ found own work. Opens old.number found own work × (t.version ≡ newest_in found) × (t.opened ≡ length found)))) (search rules)
     (if_ok_both c.open-opened.result _ _ _ c.open-opened.ensures.named c.open-opened.ensures.ok
-    (λ t named b. let a = lined_adds eq m _ J H I _ c.line_up.ensures.events b in turned eq m old mid J I p c.leave.new.turn.0 (λ found own work. Opens old.number found own work × (t.version ≡ newest_in found) × (t.opened ≡ length found)) _ e z n (did_so eq m _ J I _ (λ own work. Opens old.number J own work × (t.version ≡ newest_in J) × (t.opened ≡ length J)) a (λ own work d. let r : Opens old.number J own work × (t.version ≡ newest_in J) × (t.opened ≡ length J) = (subst (λ n. Opens n J own work) n d, named.0, named.1) in r)))))
+    (λ t named b. let a = lined_adds eq m _ J H I _ c.line_up.ensures.events b in turned eq m old mid J I p c.leave.new.turn.0 (λ found own work. Opens old.number found own work × (t.version ≡ newest_in found) × (t.opened ≡ length found)) _ e z n (did_so eq m _ J I _ (λ own work. Opens old.number J own work × (t.version ≡ newest_in J) × (t.opened ≡ length J)) a (λ own work d. let r : Opens old.number J own work × (t.version ≡ newest_in J) × (t.opened ≡ length J) = (subst (λ n. Opens n J own work) n d, named.0, named.1) in r))))
 
 pub returns-clause-has : goal.returns-clause-has
 returns-clause-has g c = map_if_ok c.open-opened.result _ _ (returns-clause-ok g c) (λ t u. has_opened g.U.Key.PartialEq.eq g.U.Universe.meaning c.args.seat.now _ t.opened t.version u)
@@ -60,5 +59,4 @@ returns-clause-err g c =
     let n : c.number-number.result ≡ old.number = c.number-number.ensures ∙ sym (number_of c.seat.view_is) in
     let p = c.seat.inside.pass in
     subst (λ z. OnErr c.open-opened.result (Turn eq m z _ (λ found. AddsNothing))) c.seat.view_is
-    (subst (λ s. OnErr c.open-opened.result (Turn eq m (seated p old) (seated p s) (λ found. AddsNothing))) (search rules)
-    (map_err c.open-opened.result _ _ c.open-opened.ensures.err (λ b. let a = lined_adds eq m _ J H I _ c.line_up.ensures.events b in turned eq m old mid J I p c.leave.new.turn.0 (λ found. AddsNothing) _ e (record { seen = c.leave.ensures.seen; mine = c.leave.ensures.mine; turns = c.leave.ensures.turns; floor = c.leave.ensures.floor; below = c.leave.ensures.below; noted = c.leave.ensures.noted; same = c.leave.ensures.same }) n a)))
+    (map_err c.open-opened.result _ _ c.open-opened.ensures.err (λ b. let a = lined_adds eq m _ J H I _ c.line_up.ensures.events b in turned eq m old mid J I p c.leave.new.turn.0 (λ found. AddsNothing) _ e (record { seen = c.leave.ensures.seen; mine = c.leave.ensures.mine; turns = c.leave.ensures.turns; floor = c.leave.ensures.floor; below = c.leave.ensures.below; noted = c.leave.ensures.noted; same = c.leave.ensures.same }) n a))

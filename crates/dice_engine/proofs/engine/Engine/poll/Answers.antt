@@ -55,8 +55,7 @@ returns-clause-turn g c =
     let I = events_of c.line_up.new.self.bench.value.core in
     let a = lined_adds eq m 0 J J I AddsNothing c.line_up.ensures.events (nothing eq m J J c.poll-answer.ensures.lawful 0 refl) in
     subst (λ z. Turn eq m z _ (λ found. AddsNothing)) c.seat.view_is
-    (subst (λ s. Turn eq m was (seated pass s) (λ found. AddsNothing)) (search rules)
-    (turned_any eq m old mid J I pass c.leave.new.turn.0 (λ found. AddsNothing) 0 e (record { seen = c.leave.ensures.seen; mine = c.leave.ensures.mine; turns = c.leave.ensures.turns; floor = c.leave.ensures.floor; below = c.leave.ensures.below; noted = c.leave.ensures.noted; same = c.leave.ensures.same }) a a.did.0))
+    (turned_any eq m old mid J I pass c.leave.new.turn.0 (λ found. AddsNothing) 0 e (record { seen = c.leave.ensures.seen; mine = c.leave.ensures.mine; turns = c.leave.ensures.turns; floor = c.leave.ensures.floor; below = c.leave.ensures.below; noted = c.leave.ensures.noted; same = c.leave.ensures.same }) a a.did.0)
 
 pub returns-clause-exact : goal.returns-clause-exact
 returns-clause-exact g c =
@@ -73,5 +72,4 @@ returns-clause-exact g c =
     let e = entered eq m old mid (events_of c.enter-turn.result.state.bench.value.core) J (ap (λ s. events_of s.bench.value.core) c.state-state.ensures.value) c.enter-turn.ensures.turn c.enter-turn.ensures.seen c.enter-turn.ensures.mine c.enter-turn.ensures.floor in
     let a = did_so eq m 0 J J AddsNothing (λ own work. own ≡ []) (nothing eq m J J c.poll-answer.ensures.lawful 0 refl) (λ own work d. d.0) in
     subst (λ z. TellsOfCore eq m p r z _) c.seat.view_is
-    (subst (λ s. TellsOfCore eq m p r was (seated pass s)) (search rules)
-    (turned_over eq m old mid c.leave.new.turn.0 core core c.line_up.new.self.bench.value.core pass _ 0 _ _ _ e (record { seen = c.leave.ensures.seen; mine = c.leave.ensures.mine; turns = c.leave.ensures.turns; floor = c.leave.ensures.floor; below = c.leave.ensures.below; noted = c.leave.ensures.noted; same = c.leave.ensures.same }) a c.line_up.ensures.events c.leave.ensures.left c.line_up.ensures.rests (refl, c.poll-answer.ensures.exact) c.line_up.ensures.lines_up))
+    (turned_over eq m old mid c.leave.new.turn.0 core core c.line_up.new.self.bench.value.core pass _ 0 _ _ _ e (record { seen = c.leave.ensures.seen; mine = c.leave.ensures.mine; turns = c.leave.ensures.turns; floor = c.leave.ensures.floor; below = c.leave.ensures.below; noted = c.leave.ensures.noted; same = c.leave.ensures.same }) a c.line_up.ensures.events c.leave.ensures.left c.line_up.ensures.rests (refl, c.poll-answer.ensures.exact) c.line_up.ensures.lines_up)

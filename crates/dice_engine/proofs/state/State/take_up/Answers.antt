@@ -14,7 +14,7 @@ use Rattle.dice_engine.proofs.Adding.{map_if_ok}
 use Rattle.dice_engine.proofs.state.State.take_up.Goals as goal
 
 pub meet-requires-clause-own_pass : goal.meet-requires-clause-own_pass
-meet-requires-clause-own_pass g c = c.requires.pass ∙ sym (line_same (c.bench.view_is ∙ c.deref_mut-bench.ensures.value))
+meet-requires-clause-own_pass g c = c.requires.pass ∙ (sym (line_same (c.bench.view_is ∙ c.deref_mut-bench.ensures.value)) ∙ sym c.deref.ensures)
 
 pub take_in-requires-after_bounds : goal.take_in-requires-after_bounds
 take_in-requires-after_bounds g c κs within =
