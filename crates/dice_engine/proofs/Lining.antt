@@ -20,7 +20,8 @@ use Rattle.lists.proofs.Places.{get_longer}
 use Rattle.journal.specs.declared.event.Told.{Told}
 use Rattle.turnstile.specs.Events.{StartsWith}
 use Rattle.dice_engine.proofs.Callers.{answered_later}
-use Rattle.dice_engine.specs.Turns.{log_of}
+use Rattle.dice_engine.specs.Turns.{log_of, left_of}
+use Rattle.dice_engine.specs.Replies.{Reply, NotLive, NotYet, TheValue, TheCycle, NoRoom, IsBusy, IsReply}
 use Rattle.dice_engine.specs.Rows.{Grows}
 use Rattle.dice_engine.specs.Benches.{BenchView, IsLinedUp}
 use Rattle.dice_engine.specs.Jobs.{AreAnswered, IsKnown, KeepsRest, GoOut, none_goes, goes_too, StopsAt, all_out, full, is_back, LinesUp}
@@ -79,6 +80,32 @@ module _ {K V : Type 0} (eq : K → K → Bool) where
 
     pub lined_poll : (xs ys : List (Assigned K V)) (c d : CoreSeen K V) → LinesUp eq xs ys c d → (v : ℕ) (k : K) → poll_of eq m d v k ≡ poll_of eq m c v k
     lined_poll xs ys c d l v k = stop_poll (length ys) l.mid d l.stops v k ∙ outs_poll c l.mid l.jobs l.out v k
+
+-- what is ready or out is so after jobs went on the line
+module _ {K V : Type 0} (eq : K → K → Bool) where
+  out_sum : (c e : CoreSeen K V) (js : List (Assigned K V)) → GoOut eq c js e → length e.desk.ready + length e.desk.out ≡ length c.desk.ready + length c.desk.out
+  out_sum c _ _ none_goes = refl
+  out_sum c _ _ (goes_too {js} {d} {e} j before out rest) = let h = out_sum c d js before in let x = out.ready in let y = out.out in omega arith
+
+  stop_sum : (n : ℕ) (c d : CoreSeen K V) → StopsAt eq n c d → length d.desk.ready + length d.desk.out ≡ length c.desk.ready + length c.desk.out
+  stop_sum n c d (all_out none same) = ap (λ (x : CoreSeen K V). length x.desk.ready + length x.desk.out) same
+  stop_sum n c d (full many same) = ap (λ (x : CoreSeen K V). length x.desk.ready + length x.desk.out) same
+  stop_sum n c d (is_back j e out back rest there) = let x = out.ready in let y = out.out in let z = back.ready in let w = back.out in omega arith
+
+  lined_busy : (xs ys : List (Assigned K V)) (c d : CoreSeen K V) (a b : ℕ) → LinesUp eq xs ys c d → IsBusy (left_of a c) → IsBusy (left_of b d)
+  lined_busy xs ys c d a b l busy ready out =
+      let p = out_sum c l.mid l.jobs l.out in
+      let q = stop_sum (length ys) l.mid d l.stops in
+      let r : length d.desk.ready ≡ 0 = ready in
+      let o : length d.desk.out ≡ 0 = out in
+      busy (omega arith) (omega arith)
+
+  pub reply_lined : (m : Meaning K V) (J : List (Told K V)) (v : ℕ) (k : K) (ask : ℕ) (xs ys : List (Assigned K V)) (c d : CoreSeen K V) (a b : ℕ) (r : Reply K V) → LinesUp eq xs ys c d → IsReply eq m J v k ask (left_of a c) r → IsReply eq m J v k ask (left_of b d) r
+  reply_lined m J v k ask xs ys c d a b NotLive l h = h
+  reply_lined m J v k ask xs ys c d a b NotYet l h = (h.0, h.1, h.2, lined_busy xs ys c d a b l h.3)
+  reply_lined m J v k ask xs ys c d a b (TheValue x) l h = h
+  reply_lined m J v k ask xs ys c d a b (TheCycle p) l h = h
+  reply_lined m J v k ask xs ys c d a b NoRoom l h = h
 
 -- the parts of two benches that are the same
 module _ {K V : Type 0} {a b : BenchView K V} where

@@ -15,11 +15,17 @@ use std::marker::Model;
 use std::sync::{Arc, Wait};
 use turnstile::Turnstile;
 
+/// The line of jobs of an engine.
+#[derive(Drop)]
+pub(crate) struct Jobs<U: Universe> {
+    pub(crate) line: Arc<JobLine<Job<U>>>,
+}
+
 /// An engine. It may be shared by threads, each with a seat of its own. Contracts see it as the
 /// identity of its turnstile and of its line of jobs.
 pub struct Engine<U: Universe> {
     pub(crate) stile: Turnstile<State<U>>,
-    pub(crate) line: Arc<JobLine<Job<U>>>,
+    pub(crate) jobs: Jobs<U>,
     pub(crate) universe: Arc<U>,
 }
 
@@ -28,7 +34,7 @@ impl<U: Universe> Drop for Engine<U> {
     fn drop(self) {
         let Engine {
             stile: _stile,
-            line: _line,
+            jobs: _jobs,
             universe: _universe,
         } = self;
     }
@@ -59,7 +65,7 @@ impl<U: Universe> Model for Engine<U> {
 
     ghost coded = { engine_id_coded };
 
-    ghost view = { λ e. record { turnstile = e.stile; line = arc_value e.line } };
+    ghost view = { λ e. record { turnstile = e.stile; line = arc_value e.jobs.line } };
 }
 
 impl<U: Universe> Engine<U> {
@@ -79,7 +85,7 @@ impl<U: Universe> Engine<U> {
             Ok((stile, place)) => {
                 let engine = Engine {
                     stile,
-                    line,
+                    jobs: Jobs { line },
                     universe,
                 };
                 Ok((engine, Seat { place, pass }))
@@ -100,7 +106,7 @@ impl<U: Universe> Engine<U> {
         let Ok(place) = self.stile.split(&mut seat.place) else {
             return Err(NoMemory);
         };
-        let Ok(pass) = self.line.split(&mut seat.pass) else {
+        let Ok(pass) = self.jobs.line.split(&mut seat.pass) else {
             return Err(NoMemory);
         };
         Ok(Seat { place, pass })
@@ -126,7 +132,7 @@ impl<U: Universe> Engine<U> {
             } }
     {
         let Seat { place, pass } = other;
-        self.line.join(&mut seat.pass, pass);
+        self.jobs.line.join(&mut seat.pass, pass);
         self.stile.join(&mut seat.place, place)
     }
 
@@ -149,7 +155,7 @@ impl<U: Universe> Engine<U> {
     {
         let Engine {
             stile,
-            line: _line,
+            jobs: _jobs,
             universe,
         } = self;
         let Seat { place, pass: _pass } = seat;

@@ -10,7 +10,7 @@ ghost use Rattle.dice_engine.specs.Turns.{Turn};
 ghost use Rattle.dice_engine.specs.Calls.{AddsNothing};
 ghost use Rattle.dice_engine.specs.Rows.{ShelfHas};
 
-use crate::engine::Engine;
+use crate::engine::{Engine, Jobs};
 use crate::ledge::Ledge;
 use crate::promise::Transaction;
 use crate::seat::Seat;
@@ -46,7 +46,7 @@ impl<U: Universe> Engine<U> {
             Ok((stile, place)) => {
                 let engine = Engine {
                     stile,
-                    line,
+                    jobs: Jobs { line },
                     universe,
                 };
                 Ok((engine, Seat { place, pass }, ends))

@@ -79,14 +79,13 @@ impl<U: Universe> Engine<U> {
     ) -> bool
         requires { All (IsSeatOf self.now) seats.items }
     {
-        thread::map_vec(
+        each(
             rt,
             seats,
             &|seat: Seat<U>| -> bool
                 requires { IsSeatOf self.now seat }
             { self.work_on(rt, seat, gate, stop) },
         )
-        .is_ok()
     }
 
     // Does jobs until it is stopped, which it answers. After each job it rests a little, and for
@@ -123,6 +122,18 @@ impl<U: Universe> Engine<U> {
 fn rest<R: Wait>(rt: &R, stop: &AtomicU64, tries: u32) {
     let time = Duration::from_micros(REST << tries.min(DOUBLED));
     stop.park_timeout(rt, 0, time);
+}
+
+/// Calls `work` on each of these, in threads. It answers whether each was begun. It names no engine,
+/// as `beside`.
+fn each<R: Threads + Wait + Sync, S: Send + Drop, W: Fn(S) -> bool + Sync>(
+    rt: &R,
+    given: Vec<S>,
+    work: &W,
+) -> bool
+    requires work { All (W.pre work.now) given.items }
+{
+    thread::map_vec(rt, given, work).is_ok()
 }
 
 /// Calls `f` in this thread, and `work` on what is given in another one, which is told to stop when

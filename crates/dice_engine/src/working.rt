@@ -74,7 +74,7 @@ impl<U: Universe> Engine<U> {
             (IsKnown U.Key.eq U.meaning (log_of place.new.seen) pass.new.seen) }
         ensures of { AreOf self.now pass.new place.new }
     {
-        match self.line.take(rt, pass) {
+        match self.jobs.line.take(rt, pass) {
             Some(job) => Some(job),
             None => self.take_job(rt, place, pass),
         }

@@ -59,7 +59,7 @@ returns-clause-ok g c =
     let t = c.args.transaction.now in
     let n : c.number-number.result ≡ old.number = c.number-number.ensures ∙ sym (number_of c.seat.view_is) in
     let z : Ended eq m mid c.leave.new.turn.0 I = (record { seen = c.leave.ensures.seen; mine = c.leave.ensures.mine; turns = c.leave.ensures.turns; floor = c.leave.ensures.floor; below = c.leave.ensures.below; noted = c.leave.ensures.noted; same = c.leave.ensures.same }) in
-    subst (λ z. IfOk c.ask-promise.result (λ p. Turn eq m z _ (λ found own work. Asks z.number t.opened t.version (arc_value c.args.key) own work × (p.ask ≡ length found)))) c.seat.view_is
+    subst (λ z. IfOk c.ask-promise.result (λ p. Turn eq m z (seated c.seat.inside.pass c.leave.new.turn.0) (λ found own work. Asks z.number t.opened t.version (arc_value c.args.key) own work × (p.ask ≡ length found)))) c.seat.view_is
     (if_ok_both c.ask-promise.result _ _ _ c.ask-promise.ensures.named c.ask-promise.ensures.ok
     (λ p named b. let a = lined_adds eq m _ J H I _ c.line_up.ensures.events b in turned eq m old mid J I pass c.leave.new.turn.0 (λ found own work. Asks old.number t.opened t.version (arc_value c.args.key) own work × (p.ask ≡ length found)) _ e z n (did_so eq m _ J I _ (λ own work. Asks old.number t.opened t.version (arc_value c.args.key) own work × (p.ask ≡ length J)) a (λ own work d. let r : Asks old.number t.opened t.version (arc_value c.args.key) own work × (p.ask ≡ length J) = (subst (λ n. Asks n t.opened t.version (arc_value c.args.key) own work) n d, named.2) in r))))
 
@@ -98,5 +98,5 @@ returns-clause-err g c =
     let e = entered eq m old mid (events_of c.enter-turn.result.state.bench.value.core) J (ap (λ s. events_of s.bench.value.core) c.state-state.ensures.value) c.enter-turn.ensures.turn c.enter-turn.ensures.seen c.enter-turn.ensures.mine c.enter-turn.ensures.floor in
     let H = events_of c.ask-promise.new.self.bench.value.core in
     let I = events_of c.line_up.new.self.bench.value.core in
-    subst (λ z. OnErr c.ask-promise.result (Turn eq m z _ (λ found. AddsNothing))) c.seat.view_is
+    subst (λ z. OnErr c.ask-promise.result (Turn eq m z (seated c.seat.inside.pass c.leave.new.turn.0) (λ found. AddsNothing))) c.seat.view_is
     (map_err c.ask-promise.result _ _ c.ask-promise.ensures.err (λ b. let a = lined_adds eq m _ J H I _ c.line_up.ensures.events b in turned eq m old mid J I pass c.leave.new.turn.0 (λ found. AddsNothing) _ e (record { seen = c.leave.ensures.seen; mine = c.leave.ensures.mine; turns = c.leave.ensures.turns; floor = c.leave.ensures.floor; below = c.leave.ensures.below; noted = c.leave.ensures.noted; same = c.leave.ensures.same }) (c.number-number.ensures ∙ sym (number_of c.seat.view_is)) a))

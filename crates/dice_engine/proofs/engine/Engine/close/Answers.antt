@@ -54,5 +54,5 @@ returns-clause-turn g c =
     let I = events_of c.line_up.new.self.bench.value.core in
     let t = c.args.transaction in
     let r = c.close.ensures.closes in
-    subst (λ z. Turn eq m z _ (λ found. Closes z.number t.opened t.version)) c.seat.view_is
+    subst (λ z. Turn eq m z (seated c.seat.inside.pass c.leave.new.turn.0) (λ found. Closes z.number t.opened t.version)) c.seat.view_is
     (turned eq m old mid J I pass c.leave.new.turn.0 (λ found. Closes old.number t.opened t.version) old.number e (record { seen = c.leave.ensures.seen; mine = c.leave.ensures.mine; turns = c.leave.ensures.turns; floor = c.leave.ensures.floor; below = c.leave.ensures.below; noted = c.leave.ensures.noted; same = c.leave.ensures.same }) refl (lined_adds eq m _ J H I _ c.line_up.ensures.events (closes_own eq m pass old mid J H t.opened t.version e (subst (λ z. HasOpen z t.opened t.version) (sym c.seat.view_is) c.requires.open) r.0 r.1 r.2)))

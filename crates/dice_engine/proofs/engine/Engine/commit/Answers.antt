@@ -41,7 +41,7 @@ returns-clause-ok g c =
     let I = events_of c.line_up.new.self.bench.value.core in
     let n : c.number-number.result ≡ old.number = c.number-number.ensures ∙ sym (number_of c.seat.view_is) in
     let z : Ended eq m mid c.leave.new.turn.0 I = (record { seen = c.leave.ensures.seen; mine = c.leave.ensures.mine; turns = c.leave.ensures.turns; floor = c.leave.ensures.floor; below = c.leave.ensures.below; noted = c.leave.ensures.noted; same = c.leave.ensures.same }) in
-    subst (λ z. OnOk c.commit-result.result (Turn eq m z _ (λ found. Commits eq g.U.Value.PartialEq.eq m z.number (log_of found) c.args.updater.now))) c.seat.view_is
+    subst (λ z. OnOk c.commit-result.result (Turn eq m z (seated c.seat.inside.pass c.leave.new.turn.0) (λ found. Commits eq g.U.Value.PartialEq.eq m z.number (log_of found) c.args.updater.now))) c.seat.view_is
     (map_ok c.commit-result.result _ _ c.commit-result.ensures.ok
     (λ b. let a = lined_adds eq m _ J H I _ c.line_up.ensures.events b in turned eq m old mid J I pass c.leave.new.turn.0 (λ found. Commits eq g.U.Value.PartialEq.eq m old.number (log_of found) c.args.updater.now) _ e z n (did_so eq m _ J I _ (Commits eq g.U.Value.PartialEq.eq m old.number (log_of J) c.args.updater.now) a (λ own work d. subst (λ n. Commits eq g.U.Value.PartialEq.eq m n (log_of J) c.args.updater.now own work) n d))))
 
@@ -57,7 +57,7 @@ returns-clause-err g c =
     let e = entered eq m old mid (events_of c.enter-turn.result.state.bench.value.core) J (ap (λ s. events_of s.bench.value.core) c.state-state.ensures.value) c.enter-turn.ensures.turn c.enter-turn.ensures.seen c.enter-turn.ensures.mine c.enter-turn.ensures.floor in
     let H = events_of c.commit-result.new.self.bench.value.core in
     let I = events_of c.line_up.new.self.bench.value.core in
-    subst (λ z. OnErr c.commit-result.result (Turn eq m z _ (λ found. AddsNothing))) c.seat.view_is
+    subst (λ z. OnErr c.commit-result.result (Turn eq m z (seated c.seat.inside.pass c.leave.new.turn.0) (λ found. AddsNothing))) c.seat.view_is
     (map_err c.commit-result.result _ _ c.commit-result.ensures.err (λ b. let a = lined_adds eq m _ J H I _ c.line_up.ensures.events b in turned eq m old mid J I pass c.leave.new.turn.0 (λ found. AddsNothing) _ e (record { seen = c.leave.ensures.seen; mine = c.leave.ensures.mine; turns = c.leave.ensures.turns; floor = c.leave.ensures.floor; below = c.leave.ensures.below; noted = c.leave.ensures.noted; same = c.leave.ensures.same }) (c.number-number.ensures ∙ sym (number_of c.seat.view_is)) a))
 
 pub returns-clause-complete : goal.returns-clause-complete

@@ -30,5 +30,5 @@ returns-clause-turn g c =
     let e = entered eq m old mid (events_of c.enter-turn.result.state.bench.value.core) J (ap (λ s. events_of s.bench.value.core) c.state-state.ensures.value) c.enter-turn.ensures.turn c.enter-turn.ensures.seen c.enter-turn.ensures.mine c.enter-turn.ensures.floor in
     let I = events_of c.line_up.new.self.bench.value.core in
     let a = lined_adds eq m 0 J J I AddsNothing c.line_up.ensures.events (nothing eq m J J c.events-events.ensures.lawful 0 refl) in
-    subst (λ s. Turn eq m s _ (λ found. AddsNothing)) c.seat.view_is
+    subst (λ s. Turn eq m s (seated c.seat.inside.pass c.leave.new.turn.0) (λ found. AddsNothing)) c.seat.view_is
     (turned_any eq m old mid J I c.seat.inside.pass c.leave.new.turn.0 (λ found. AddsNothing) 0 e (record { seen = c.leave.ensures.seen; mine = c.leave.ensures.mine; turns = c.leave.ensures.turns; floor = c.leave.ensures.floor; below = c.leave.ensures.below; noted = c.leave.ensures.noted; same = c.leave.ensures.same }) a a.did.0)

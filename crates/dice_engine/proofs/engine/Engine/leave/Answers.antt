@@ -67,6 +67,6 @@ returns-clause-turn g c =
     let H = events_of c.leave.new.self.bench.value.core in
     let I = events_of c.line_up.new.self.bench.value.core in
     let p = c.args.promise in
-    subst (λ z. Turn eq m z _ (λ found. Leaves z.number p.ask p.opened p.version found)) c.seat.view_is
+    subst (λ z. Turn eq m z (seated c.seat.inside.pass c.leave-2.new.turn.0) (λ found. Leaves z.number p.ask p.opened p.version found)) c.seat.view_is
     (turned eq m old mid J I pass c.leave-2.new.turn.0 (λ found. Leaves old.number p.ask p.opened p.version found) old.number e (record { seen = c.leave-2.ensures.seen; mine = c.leave-2.ensures.mine; turns = c.leave-2.ensures.turns; floor = c.leave-2.ensures.floor; below = c.leave-2.ensures.below; noted = c.leave-2.ensures.noted; same = c.leave-2.ensures.same }) refl
     (lined_adds eq m _ J H I _ c.line_up.ensures.events (c.leave.ensures.leaves old.number (λ lawful a live. left_by eq m was J e.begins lawful e.found p.ask p.opened p.version (arc_value p.key) (subst (λ z. HasAsk z p.ask p.opened p.version (arc_value p.key)) (sym c.seat.view_is) c.requires.ask) a live))))

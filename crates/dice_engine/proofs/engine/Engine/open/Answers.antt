@@ -39,7 +39,7 @@ returns-clause-ok g c =
     let n : c.number-number.result ≡ old.number = c.number-number.ensures ∙ sym (number_of c.seat.view_is) in
     let z : Ended eq m mid c.leave.new.turn.0 I = (record { seen = c.leave.ensures.seen; mine = c.leave.ensures.mine; turns = c.leave.ensures.turns; floor = c.leave.ensures.floor; below = c.leave.ensures.below; noted = c.leave.ensures.noted; same = c.leave.ensures.same }) in
     let p = c.seat.inside.pass in
-    subst (λ z. IfOk c.open-opened.result (λ t. Turn eq m z _ (λ found own work. Opens z.number found own work × (t.version ≡ newest_in found) × (t.opened ≡ length found)))) c.seat.view_is
+    subst (λ z. IfOk c.open-opened.result (λ t. Turn eq m z (seated c.seat.inside.pass c.leave.new.turn.0) (λ found own work. Opens z.number found own work × (t.version ≡ newest_in found) × (t.opened ≡ length found)))) c.seat.view_is
     (if_ok_both c.open-opened.result _ _ _ c.open-opened.ensures.named c.open-opened.ensures.ok
     (λ t named b. let a = lined_adds eq m _ J H I _ c.line_up.ensures.events b in turned eq m old mid J I p c.leave.new.turn.0 (λ found own work. Opens old.number found own work × (t.version ≡ newest_in found) × (t.opened ≡ length found)) _ e z n (did_so eq m _ J I _ (λ own work. Opens old.number J own work × (t.version ≡ newest_in J) × (t.opened ≡ length J)) a (λ own work d. let r : Opens old.number J own work × (t.version ≡ newest_in J) × (t.opened ≡ length J) = (subst (λ n. Opens n J own work) n d, named.0, named.1) in r))))
 
@@ -58,5 +58,5 @@ returns-clause-err g c =
     let I = events_of c.line_up.new.self.bench.value.core in
     let n : c.number-number.result ≡ old.number = c.number-number.ensures ∙ sym (number_of c.seat.view_is) in
     let p = c.seat.inside.pass in
-    subst (λ z. OnErr c.open-opened.result (Turn eq m z _ (λ found. AddsNothing))) c.seat.view_is
+    subst (λ z. OnErr c.open-opened.result (Turn eq m z (seated c.seat.inside.pass c.leave.new.turn.0) (λ found. AddsNothing))) c.seat.view_is
     (map_err c.open-opened.result _ _ c.open-opened.ensures.err (λ b. let a = lined_adds eq m _ J H I _ c.line_up.ensures.events b in turned eq m old mid J I p c.leave.new.turn.0 (λ found. AddsNothing) _ e (record { seen = c.leave.ensures.seen; mine = c.leave.ensures.mine; turns = c.leave.ensures.turns; floor = c.leave.ensures.floor; below = c.leave.ensures.below; noted = c.leave.ensures.noted; same = c.leave.ensures.same }) n a))

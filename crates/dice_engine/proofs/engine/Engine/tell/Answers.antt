@@ -36,16 +36,16 @@ returns-clause-turn g c =
     let H = events_of c.tell-told.new.self.bench.value.core in
     let I = events_of c.line_up.new.self.bench.value.core in
     let a = lined_adds eq m 0 J H I AddsNothing c.line_up.ensures.events (nothing eq m J H c.tell-told.ensures.lawful 0 (ap events_of c.tell-told.ensures.core)) in
-    subst (λ s. Turn eq m s _ (λ found. AddsNothing)) c.seat.view_is
+    subst (λ s. Turn eq m s (seated c.seat.inside.pass c.leave.new.turn.0) (λ found. AddsNothing)) c.seat.view_is
     (turned_any eq m old mid J I c.seat.inside.pass c.leave.new.turn.0 (λ found. AddsNothing) 0 e (record { seen = c.leave.ensures.seen; mine = c.leave.ensures.mine; turns = c.leave.ensures.turns; floor = c.leave.ensures.floor; below = c.leave.ensures.below; noted = c.leave.ensures.noted; same = c.leave.ensures.same }) a a.did.0)
 
 pub returns-clause-told : goal.returns-clause-told
 returns-clause-told g c = λ yes free.
     let I = events_of c.tell-told.new.self.bench.value.core in
     let zero : c.leave.new.turn.0.left.2 ≡ 0 = search rules in
-    let mark : c.tell-told.new.self.left.2 ≡ 0 = sym (mark_is c.leave.new.turn.0.left c.tell-told.new.self.left.2 c.tell-told.new.self.bench.value.core c.leave.ensures.left) ∙ zero in
+    let mark : c.tell-told.new.self.left.2 ≡ 0 = sym c.line_up.ensures.mark ∙ (sym (mark_is c.leave.new.turn.0.left c.line_up.new.self.left.2 c.line_up.new.self.bench.value.core c.leave.ensures.left) ∙ zero) in
     let p = told_so I (c.tell-told.new.self.left.2 ≡ 0) mark c.tell-told.result c.args.reader.now c.learned.new.reader c.learned.ensures c.tell-told.ensures.told (c.tell-told.ensures.some mark) free in
-    let seen : ShelfHas c.leave.new.turn.0.seen c.learned.new.reader.seen = subst (λ J. ShelfHas J c.learned.new.reader.seen) (sym c.leave.ensures.seen) p in
+    let seen : ShelfHas c.leave.new.turn.0.seen c.learned.new.reader.seen = subst (λ J. ShelfHas J c.learned.new.reader.seen) (sym (c.leave.ensures.seen ∙ c.line_up.ensures.events)) p in
     seen
 
 pub returns-clause-refused : goal.returns-clause-refused
