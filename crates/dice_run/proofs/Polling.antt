@@ -10,7 +10,7 @@ use Rattle.turnstile.specs.Events.{events_by}
 use Rattle.action_digest.specs.Buck.{buck}
 use Rattle.script_trace.specs.Events.{Events, IsDecidedIn}
 use Rattle.dice_run.specs.Seats.{Place, IsOurs, Goes, Opens}
-use Rattle.dice_run.specs.Looking.{Pledge, IsLive, WasDecided, WereDecided}
+use Rattle.dice_run.specs.Looking.{Pledge, IsLive, AreLive, WasDecided, WereDecided}
 use Rattle.dice_run.proofs.Seating.{onward, still_open, open_below, begins_on, begins_itself}
 use Rattle.dice_run.proofs.Viewing.{live_on}
 use Rattle.dice_run.proofs.Recorded.{take_longer, decided_on, decided_live}
@@ -44,8 +44,12 @@ opens_on id s m u opened version a b = record {
 -- ---- promises that are waited for in turn
 
 -- the one at hand is among them
-pub at_hand : (xs rest : List Pledge) (i : ℕ) (x : Pledge) → drop i xs ≡ x ∷ rest → Has xs x
+at_hand : (xs rest : List Pledge) (i : ℕ) (x : Pledge) → drop i xs ≡ x ∷ rest → Has xs x
 at_hand xs rest i x e = subst (λ l. Has l x) (take-append-drop i xs) (subst (λ r. Has (take i xs ++ r) x) (sym e) (has_middle (take i xs) rest x))
+
+-- and still live
+pub live_still : (id : TableId) (s m : Place) (xs rest : List Pledge) (i : ℕ) (x : Pledge) → Goes id s m [] → AreLive s xs → drop i xs ≡ x ∷ rest → IsLive m x
+live_still id s m xs rest i x g live e = live_on s m [] x (onward id s m [] g) tt tt (live x (at_hand xs rest i x e))
 
 -- those of the rest apart
 abbrev pub DecidedBut : Events → List Pledge → List Pledge → Type 0
