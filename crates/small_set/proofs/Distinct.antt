@@ -12,6 +12,11 @@ pub distinct_none : {T : Type 0} (eq : T → T → Bool) (xs : List T) → xs �
 unfolding IsDistinct
 distinct_none eq xs e = subst (IsDistinct eq) (sym e) tt
 
+-- one is
+pub distinct_one : {T : Type 0} (eq : T → T → Bool) (x : T) → IsDistinct eq (x ∷ [])
+unfolding IsDistinct
+distinct_one eq x = (tt, tt)
+
 module _ {T : Type 0} {eq : T → T → Bool} (laws : IsEquivalence eq) where
   -- one of them differs from each in front of it
   pub differs_from : (x k : T) (ks xs : List T) → AllByRecursion (λ y. eq k y ≡ false) (ks ++ x ∷ xs) → eq x k ≡ false

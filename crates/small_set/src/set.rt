@@ -2,6 +2,7 @@
 ghost use Rattle.std.specs.Prelude.{◌≡◌, ◌+◌, ◌≤◌, ◌==◌, true, not, [], ◌∷◌, ◌++◌, length, if◌then◌else◌, IfOk, OnOk, OnErr};
 ghost use Rattle.std.specs.List.{list_any, IsDistinct};
 ghost use Rattle.indexmap.specs.IndexSet.{spare, insert_all, insert_key};
+ghost use Rattle.small_set.specs.Members.{members_in, AreFew, IsSingle};
 
 use hash_seed::Seed;
 use indexmap::IndexSet;
@@ -13,8 +14,8 @@ use std::mem::replace;
 /// How many members a list keeps at most.
 const FEW: usize = 8;
 
-/// A set that keeps up to eight members in a list, and more in a hash set. They stay in the order
-/// in which they came.
+/// A set that keeps a single member in place, up to eight members in a list, and more in a hash
+/// set. They stay in the order in which they came.
 pub struct SmallSet<T: Eq + Hash> {
     alloc: Global,
     seed: Seed,
@@ -24,6 +25,7 @@ pub struct SmallSet<T: Eq + Hash> {
 /// The members of a set, each once.
 #[derive(Drop)]
 enum Members<T: Eq + Hash> {
+    Single([T; 1]),
     Few(Vec<T>),
     Many(Box<IndexSet<T, Seed>>),
 }
@@ -70,6 +72,7 @@ impl<T: Eq + Hash> SmallSet<T> {
         ensures distinct { IsDistinct T.eq self.now }
     {
         match &self.members {
+            Members::Single(one) => one.as_slice(),
             Members::Few(list) => list.as_slice(),
             Members::Many(set) => set.as_slice(),
         }
@@ -79,10 +82,7 @@ impl<T: Eq + Hash> SmallSet<T> {
     pub fn len(&self) -> usize
         ensures { result ≡ length self.now }
     {
-        match &self.members {
-            Members::Few(list) => list.len(),
-            Members::Many(set) => set.len(),
-        }
+        self.as_slice().len()
     }
 
     /// Whether there is no member.
@@ -97,6 +97,7 @@ impl<T: Eq + Hash> SmallSet<T> {
         ensures { result ≡ list_any (T.eq value.now) self.now }
     {
         match &self.members {
+            Members::Single(one) => is_among(one, value),
             Members::Few(list) => is_among(list, value),
             Members::Many(set) => set.contains(value),
         }
@@ -115,9 +116,21 @@ impl<T: Eq + Hash + Drop> SmallSet<T> {
         ensures err { OnErr result (self.new ≡ self.old) }
     {
         match &mut self.members {
+            Members::Single(_) => {
+                if self.contains(&value) {
+                    Ok(false)
+                } else {
+                    put_beside(self.alloc, &mut self.members, value)?;
+                    Ok(true)
+                }
+            }
             Members::Few(list) => {
                 if is_among(list, &value) {
                     return Ok(false);
+                }
+                if list.capacity() == 0 {
+                    self.members = Members::Single([value]);
+                    return Ok(true);
                 }
                 if list.len() < FEW {
                     list.push(value)?;
@@ -136,9 +149,40 @@ impl<T: Eq + Hash + Drop> SmallSet<T> {
         ensures { self.new ≡ [] }
     {
         match &mut self.members {
+            Members::Single(_) => self.members = Members::Few(Vec::new(self.alloc)),
             Members::Few(list) => list.clear(),
             Members::Many(set) => set.clear(),
         }
+    }
+}
+
+/// Puts the single member and a value into a list. At an error all is as before.
+fn put_beside<T: Eq + Hash + Drop>(
+    alloc: Global,
+    members: &mut Members<T>,
+    value: T,
+) -> Result<(), AllocError>
+    requires { IsSingle members.old }
+    ensures ok { OnOk result (members_in members.new ≡ members_in members.old ++ value ∷ []) }
+    ensures few { OnOk result (AreFew members.new) }
+    ensures err { OnErr result (members.new ≡ members.old) }
+{
+    let mut list = Vec::with_capacity(alloc, 4)?;
+    list.push_reserved(take_single(members, alloc));
+    list.push_reserved(value);
+    *members = Members::Few(list);
+    Ok(())
+}
+
+/// Takes the single member out.
+fn take_single<T: Eq + Hash + Drop>(members: &mut Members<T>, alloc: Global) -> T
+    requires { IsSingle members.old }
+    ensures { members_in members.old ≡ result ∷ [] }
+{
+    match replace(members, Members::Few(Vec::new(alloc))) {
+        Members::Single([member]) => member,
+        Members::Few(_list) => unreachable!(),
+        Members::Many(_set) => unreachable!(),
     }
 }
 

@@ -1,4 +1,4 @@
-use Rattle.std.proofs.Common.{◌∙◌, ◌+◌, refl, sym, ap, subst, map, take}
+use Rattle.std.proofs.Common.{◌∙◌, ◌+◌, refl, sym, ap, subst, arith, map, take}
 use Rattle.std.specs.Arc.{arc_value}
 use Rattle.dice_tasks.specs.Waitings.{Wakes}
 use Rattle.dice_steps.specs.Wokens.{IsAnswered}
@@ -10,18 +10,12 @@ use Rattle.dice_steps.proofs.woken.woken_by.Goals.{then-asks_alone+in_ok-next+in
 pub loop-asker-init : goal.loop-asker-init
 loop-asker-init g c = none_so_far g.U.Key.PartialEq.eq g.U.Universe.meaning c.args.cells.now c.args.version (arc_value c.args.key.now) (arc_value c.args.value.now) c.args.tasks.now _ _ refl c.new-woken.ensures.items
 
-pub next_of-requires-clause-agrees : goal.next_of-requires-clause-agrees
-next_of-requires-clause-agrees g c κs within =
+pub next_of-requires-after_bounds : goal.next_of-requires-after_bounds
+next_of-requires-after_bounds g c κs within =
     let eq = g.U.Key.PartialEq.eq in
     let j = arc_value c.asker-item.result in
     let on = sym (c.askers.ensures.tasks j) ∙ has_any eq c.laws_of.ensures.keys (map arc_value c.askers.result.tasks.now) j (among arc_value c.askers.result.tasks.now c.loop-asker.asker-index c.asker-item.result c.loop-asker-test.true c.asker-item.is) in
-    (c.args.graph.now, c.shared_entry-kept.ensures, c.requires.agree j on)
-
-pub next_of-requires-clause-waits : goal.next_of-requires-clause-waits
-next_of-requires-clause-waits g c κs within =
-    let eq = g.U.Key.PartialEq.eq in
-    let j = arc_value c.asker-item.result in
-    c.requires.answers j (sym (c.askers.ensures.tasks j) ∙ has_any eq c.laws_of.ensures.keys (map arc_value c.askers.result.tasks.now) j (among arc_value c.askers.result.tasks.now c.loop-asker.asker-index c.asker-item.result c.loop-asker-test.true c.asker-item.is)) (c.if-asks_alone.ensures.alone refl)
+    (omega arith, (c.requires.answers j on (c.if-asks_alone.ensures.alone refl), (c.args.graph.now, c.shared_entry-kept.ensures, c.requires.agree j on)))
 
 pub loop-asker-preserved : goal.loop-asker-preserved
 loop-asker-preserved g c =
