@@ -1,7 +1,7 @@
 -- A run that begins goes through the batches that are answered, which it asks.
-use Rattle.std.proofs.Common.{◌≡◌, ◌≤◌, ◌+◌, ◌∙◌, ℕ, List, [], ◌∷◌, ◌++◌, length, take, drop, refl, sym, ap, subst}
+use Rattle.std.proofs.Common.{◌≡◌, ◌≤◌, ◌+◌, ◌∙◌, ℕ, List, [], ◌∷◌, ◌++◌, length, take, drop, sym, ap, subst}
 use Rattle.std.proofs.lemmas.List.{take_all, take-append-drop}
-use Rattle.dice_key.specs.Meaning.{Meaning, Answered, Running, Step, Asks, Ends, Takes, answered_with, next_of, resumed}
+use Rattle.dice_key.specs.Meaning.{Meaning, Answered, Running, Step, Asks, Takes, answered_with, next_of, resumed}
 use Rattle.dep_recorder.proofs.Findings.{take_one}
 use Rattle.dice_jobs.specs.Jobs.{AsksThese}
 

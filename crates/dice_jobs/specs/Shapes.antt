@@ -22,9 +22,9 @@ work_of (Some e) = Checks (arc_value e.value) (arc_value e.trace) e.base
 abbrev pub answers_in : {U K V R : Type 0} → Progress U K V R → List (Answered K V)
 answers_in progress.Begins = []
 answers_in (progress.Runs t) = arc_value t
-answers_in (progress.Checks c) = batches_in (arc_value c).answered
+answers_in (progress.Checks e t) = batches_in t
 
 abbrev pub work_in : {U K V R : Type 0} → Progress U K V R → Work K V
 work_in progress.Begins = Computes
 work_in (progress.Runs t) = Computes
-work_in (progress.Checks c) = work_of (Some (arc_value c).earlier)
+work_in (progress.Checks e t) = work_of (Some (arc_value e))

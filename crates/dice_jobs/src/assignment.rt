@@ -38,15 +38,8 @@ pub(crate) enum Progress<U: Universe> {
     Begins,
     /// The key's value is computed, and these batches are answered.
     Runs(Arc<Trace<U>>),
-    /// An earlier value is checked.
-    Checks(Arc<Checking<U>>),
-}
-
-/// An earlier value that is checked, and the batches that were answered so far.
-#[derive(Drop)]
-pub(crate) struct Checking<U: Universe> {
-    earlier: Earlier<U>,
-    answered: Option<Arc<Trace<U>>>,
+    /// An earlier value is checked, and these batches are answered, if there are any.
+    Checks(Arc<Earlier<U>>, Option<Arc<Trace<U>>>),
 }
 
 // (One function for all places that drop one: a derived drop is written out at each.)
@@ -92,11 +85,11 @@ impl<U: Universe> Assignment<U> {
         ensures { IfOk result
             (λ a. a ≡ record { name = name; answered = []; work = work_of (Some earlier) }) }
     {
-        let progress = check_of(alloc, earlier, None)?;
+        let earlier = Arc::new(alloc, earlier)?;
         Ok(Assignment {
             alloc,
             name,
-            progress,
+            progress: Progress::Checks(earlier, None),
         })
     }
 
@@ -188,7 +181,7 @@ impl<U: Universe> Assignment<U> {
         let trace = self.extended_trace(batch, answers)?;
         let answered = Arc::new(self.alloc, trace)?;
         let name = self.name.try_clone()?;
-        let progress = with_answered(self.alloc, &self.progress, answered)?;
+        let progress = with_answered(&self.progress, answered)?;
         Ok(Assignment {
             alloc: self.alloc,
             name,
@@ -233,22 +226,8 @@ impl<U: Universe> Assignment<U> {
     }
 }
 
-/// A check of this value, with these answered batches.
-fn check_of<U: Universe>(
-    alloc: Global,
-    earlier: Earlier<U>,
-    answered: Option<Arc<Trace<U>>>,
-) -> Result<Progress<U>, NoMemory>
-    ensures answers { IfOk result (λ p. answers_in p ≡ batches_in answered) }
-    ensures work { IfOk result (λ p. work_in p ≡ work_of (Some earlier)) }
-{
-    let checking = Arc::new(alloc, Checking { earlier, answered })?;
-    Ok(Progress::Checks(checking))
-}
-
 /// The same work, with these answered batches.
 fn with_answered<U: Universe>(
-    alloc: Global,
     progress: &Progress<U>,
     answered: Arc<Trace<U>>,
 ) -> Result<Progress<U>, NoMemory>
@@ -256,7 +235,9 @@ fn with_answered<U: Universe>(
     ensures work { IfOk result (λ p. work_in p ≡ work_in progress.now) }
 {
     match progress {
-        Progress::Checks(of) => check_of(alloc, of.earlier.try_clone()?, Some(answered)),
+        Progress::Checks(earlier, _) => {
+            Ok(Progress::Checks(Arc::try_clone(earlier)?, Some(answered)))
+        }
         _ => Ok(Progress::Runs(answered)),
     }
 }
@@ -269,7 +250,20 @@ fn copied<U: Universe>(progress: &Progress<U>) -> Result<Progress<U>, NoMemory>
     match progress {
         Progress::Begins => Ok(Progress::Begins),
         Progress::Runs(trace) => Ok(Progress::Runs(Arc::try_clone(trace)?)),
-        Progress::Checks(checking) => Ok(Progress::Checks(Arc::try_clone(checking)?)),
+        Progress::Checks(earlier, answered) => {
+            let answered = shared(answered)?;
+            Ok(Progress::Checks(Arc::try_clone(earlier)?, answered))
+        }
+    }
+}
+
+/// The same answered batches again, shared, if there are any.
+fn shared<U: Universe>(answered: &Option<Arc<Trace<U>>>) -> Result<Option<Arc<Trace<U>>>, NoMemory>
+    ensures { IfOk result (λ t. batches_in t ≡ batches_in answered.now) }
+{
+    match answered {
+        Some(trace) => Ok(Some(Arc::try_clone(trace)?)),
+        None => Ok(None),
     }
 }
 
@@ -291,7 +285,7 @@ fn answers_of<U: Universe>(progress: &Progress<U>) -> Option<&Arc<Trace<U>>>
     match progress {
         Progress::Begins => None,
         Progress::Runs(trace) => Some(trace),
-        Progress::Checks(checking) => checking.answered.as_ref(),
+        Progress::Checks(_, answered) => answered.as_ref(),
     }
 }
 
@@ -323,7 +317,7 @@ fn earlier_of<U: Universe>(progress: &Progress<U>) -> Option<&Earlier<U>>
     ensures { work_of (option_copied result) ≡ work_in progress.now }
 {
     match progress {
-        Progress::Checks(checking) => Some(&checking.earlier),
+        Progress::Checks(earlier, _) => Some(&**earlier),
         _ => None,
     }
 }

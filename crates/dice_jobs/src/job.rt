@@ -1,7 +1,7 @@
 //! Jobs.
-ghost use Rattle.std.specs.Prelude.{◌≡◌, ◌≢◌, [], length, IfOk, IfErr, Some};
+ghost use Rattle.std.specs.Prelude.{◌≡◌, ◌≢◌, [], length, IfOk, IfErr, OnOk, Some};
 ghost use Rattle.dice_key.specs.declared.universe.Kind.TheVariants.{Injected};
-ghost use Rattle.dice_key.specs.Meaning.{Takes, next_of, resumed};
+ghost use Rattle.dice_key.specs.Meaning.{Running, next_of};
 ghost use Rattle.dice_key.specs.Lawful.{IsStep};
 ghost use Rattle.dep_recorder.specs.Recordings.{values_in};
 ghost use Rattle.dice_jobs.specs.Jobs.{Computes, AsksThese, IsStepOf, stand_of};
@@ -10,43 +10,27 @@ ghost use Rattle.dice_jobs.specs.Courses.{IsReady, IsEnding, RunEnds, CheckEnds}
 
 use crate::assignment::{Assignment, Earlier};
 use crate::name::JobName;
-use crate::parked::Course;
-use crate::step::{Ending, Step};
+use crate::step::Step;
+use crate::work::{Course, Stand, Work};
 use dep_recorder::{Check, Next, copied_keys};
-use dice_key::{Answers, Batch, Move, NoMemory, Universe, laws_of};
+use dice_key::{Answers, Move, NoMemory, Universe, laws_of};
 use std::alloc::Global;
 use std::marker::Model;
+use std::mem;
 use std::sync::Arc;
-
-/// How a job goes on.
-#[derive(Drop)]
-pub(crate) enum Ready<U: Universe> {
-    /// A run begins, and goes through the batches that are answered.
-    Begin,
-    /// The run goes on with the answers to the batch that it last asked.
-    Resume(Box<U::Run>, Answers<U::Value>),
-    /// The check begins, or goes on after answers that are known to be those of its trace.
-    Check(Box<Check<U>>),
-    /// The check goes on with the answers to the batch that it wanted.
-    Feed(Box<Check<U>>, Answers<U::Value>),
-}
 
 /// A piece of work for a key at a version that is done outside the core: one step of a run, or of a
 /// check of an earlier value.
 ///
 /// It says what it is for; what comes of it is a function of that, and [`Job::advance`] finds it.
 pub struct Job<U: Universe> {
-    pub(crate) assignment: Assignment<U>,
-    pub(crate) ready: Ready<U>,
+    pub(crate) work: Box<Work<U>>,
 }
 
 // (One function for all places that drop one: a derived drop is written out at each.)
 impl<U: Universe> Drop for Job<U> {
     fn drop(self) {
-        let Job {
-            assignment: _assignment,
-            ready: _ready,
-        } = self;
+        let Job { work: _work } = self;
     }
 }
 
@@ -57,21 +41,20 @@ impl<U: Universe> Model for Job<U> {
 
     ghost use Rattle.dice_jobs.specs.Courses.{IsReady};
 
-    ghost view = { λ j. j.assignment };
+    ghost view = { λ j. j.work.value.assignment };
 
-    ghost invariant = { λ j. IsReady U.meaning U.Value.eq U.running j.assignment j.ready };
+    ghost invariant = { λ j. IsReady U.meaning U.Value.eq U.running j.work.value.assignment
+        j.work.value.course j.work.value.stand };
 }
 
 impl<U: Universe> Job<U> {
-    /// A run of a key that is not injected, which has asked nothing yet. It takes no memory.
-    pub fn begin(alloc: Global, name: JobName<U>) -> Job<U>
+    /// A run of a key that is not injected, which has asked nothing yet.
+    pub fn begin(alloc: Global, name: JobName<U>) -> Result<Job<U>, NoMemory>
         requires { U.meaning.kind name.key ≢ Injected }
-        ensures { result ≡ record { name = name; answered = []; work = Computes } }
+        ensures { IfOk result (λ j. j ≡ record { name = name; answered = []; work = Computes }) }
     {
-        Job {
-            assignment: Assignment::begins(alloc, name),
-            ready: Ready::Begin,
-        }
+        let work = Work::ready(alloc, Assignment::begins(alloc, name), Course::Idle)?;
+        Ok(Job { work })
     }
 
     /// A check of an earlier value, which was fed nothing yet.
@@ -79,41 +62,37 @@ impl<U: Universe> Job<U> {
         ensures { IfOk result
             (λ j. j ≡ record { name = name; answered = []; work = work_of (Some earlier) }) }
     {
-        let check = Box::new(alloc, Check::new(Arc::try_clone(&earlier.trace)?))?;
+        let check = Check::new(Arc::try_clone(&earlier.trace)?);
         let assignment = Assignment::checks(alloc, name, earlier)?;
-        Ok(Job {
-            assignment,
-            ready: Ready::Check(check),
-        })
+        let work = Work::ready(alloc, assignment, Course::Check(check))?;
+        Ok(Job { work })
     }
 
     /// A run of a key that is not injected, after these answered batches, which are those that it
-    /// asks first. It begins, and goes through them, when it is advanced. It takes no memory.
-    pub fn replay(assignment: Assignment<U>) -> Job<U>
+    /// asks first. It begins, and goes through them, when it is advanced.
+    pub fn replay(assignment: Assignment<U>) -> Result<Job<U>, NoMemory>
         requires work { assignment.work ≡ Computes }
         requires kind { U.meaning.kind assignment.name.key ≢ Injected }
         requires asks { AsksThese U.meaning assignment.name.key assignment.name.version
             assignment.answered }
-        ensures { result ≡ assignment }
+        ensures { IfOk result (λ j. j ≡ assignment) }
     {
-        Job {
-            assignment,
-            ready: Ready::Begin,
-        }
+        let work = Work::ready(assignment.alloc(), assignment, Course::Idle)?;
+        Ok(Job { work })
     }
 
     /// What the job is for.
     pub fn assignment(&self) -> &Assignment<U>
         ensures { result.now ≡ self.now }
     {
-        &self.assignment
+        &self.work.assignment
     }
 
     /// The name of the job.
     pub fn name(&self) -> &JobName<U>
         ensures { result.now ≡ self.now.name }
     {
-        self.assignment.name()
+        self.work.assignment.name()
     }
 
     /// Does the work, up to the next batch that is wanted or to the end. If memory is refused the
@@ -124,40 +103,95 @@ impl<U: Universe> Job<U> {
         ensures step { IfOk result (λ s. IsStepOf U.meaning U.Value.eq s self) }
         ensures refused { IfErr result (λ n. n ≡ self.name) }
     {
-        let Job { assignment, ready } = self;
-        match ending_of(universe, &assignment, ready) {
-            Ok(ending) => Ok(Step { assignment, ending }),
-            Err(NoMemory) => Err(assignment.into_name()),
+        let Job { mut work } = self;
+        match step_on(universe, &mut *work) {
+            Ok(()) => Ok(Step { work }),
+            Err(NoMemory) => Err(Box::into_inner(work).into_name()),
         }
     }
 }
 
-/// What comes of a job that goes on so.
-fn ending_of<U: Universe>(
+/// Does the next step of a job that is ready. If memory is refused, what it is for is left.
+fn step_on<U: Universe>(universe: &U, work: &mut Work<U>) -> Result<(), NoMemory>
+    requires { IsReady U.meaning U.Value.eq U.running work.old.assignment work.old.course
+        work.old.stand }
+    ensures assignment { work.new.assignment ≡ work.old.assignment }
+    ensures ends { OnOk result (IsEnding U.meaning U.Value.eq U.running work.new.assignment
+        work.new.course work.new.stand) }
+{
+    let stand = mem::replace(&mut work.stand, Stand::Ready);
+    work.stand = stand_after(universe, &work.assignment, &mut work.course, stand)?;
+    Ok(())
+}
+
+/// Where a job that stands so, and is ready, stands after its next step.
+fn stand_after<U: Universe>(
     universe: &U,
     assignment: &Assignment<U>,
-    ready: Ready<U>,
-) -> Result<Ending<U>, NoMemory>
-    requires { IsReady U.meaning U.Value.eq U.running assignment.now ready }
-    ensures { IfOk result (λ e. IsEnding U.meaning U.Value.eq U.running assignment.now e) }
+    course: &mut Course<U>,
+    stand: Stand<U>,
+) -> Result<Stand<U>, NoMemory>
+    requires { IsReady U.meaning U.Value.eq U.running assignment.now course.old stand }
+    ensures { IfOk result
+        (λ s. IsEnding U.meaning U.Value.eq U.running assignment.now course.new s) }
 {
-    match ready {
-        Ready::Begin => begun(universe, assignment),
-        Ready::Resume(run, answers) => resumed(universe, run, &answers),
-        Ready::Check(check) => checked(assignment.alloc(), check),
-        Ready::Feed(mut check, answers) => {
-            check.feed(answers);
-            checked(assignment.alloc(), check)
-        }
+    match stand {
+        Stand::Answered(answers) => match course {
+            Course::Idle => unreachable!(),
+            Course::Run(run) => Ok(moved(universe.resume(run, &answers)?)),
+            Course::Check(check) => {
+                check.feed(answers);
+                checked(assignment.alloc(), check)
+            }
+        },
+        _ => match course {
+            Course::Idle => begin_run(universe, assignment, course),
+            Course::Run(_) => unreachable!(),
+            Course::Check(check) => checked(assignment.alloc(), check),
+        },
     }
 }
 
-/// The move of a run after the batches that were answered so far: it begins, and goes through them.
-fn begun<U: Universe>(universe: &U, assignment: &Assignment<U>) -> Result<Ending<U>, NoMemory>
+/// The next move of a run that begins, and goes through the batches that are answered.
+fn begin_run<U: Universe>(
+    universe: &U,
+    assignment: &Assignment<U>,
+    course: &mut Course<U>,
+) -> Result<Stand<U>, NoMemory>
+    requires work { assignment.now.work ≡ Computes }
     requires kind { U.meaning.kind assignment.now.name.key ≢ Injected }
     requires asks { AsksThese U.meaning assignment.now.name.key assignment.now.name.version
         assignment.now.answered }
-    ensures { IfOk result (RunEnds U.meaning U.running (stand_of assignment.now)) }
+    ensures { IfOk result
+        (λ s. IsEnding U.meaning U.Value.eq U.running assignment.now course.new s) }
+{
+    let (run, step) = begun(universe, assignment)?;
+    *course = Course::Run(run);
+    Ok(moved(step))
+}
+
+/// Where a run stands after this move.
+fn moved<U: Universe>(step: Move<U::Key, U::Value>) -> Stand<U>
+    ensures { (p : Running U.Key U.Value) → IsStep step (next_of U.meaning p)
+        → RunEnds U.meaning p result }
+{
+    match step {
+        Move::Ask(batch) => Stand::Asks(batch),
+        Move::Done(value) => Stand::Done(value),
+    }
+}
+
+/// A run, and its move after the batches that were answered so far: it begins, and goes through
+/// them.
+fn begun<U: Universe>(
+    universe: &U,
+    assignment: &Assignment<U>,
+) -> Result<(U::Run, Move<U::Key, U::Value>), NoMemory>
+    requires kind { U.meaning.kind assignment.now.name.key ≢ Injected }
+    requires asks { AsksThese U.meaning assignment.now.name.key assignment.now.name.version
+        assignment.now.answered }
+    ensures run { IfOk result (λ r. U.running r.0 ≡ stand_of assignment.now) }
+    ensures step { IfOk result (λ r. IsStep r.1 (next_of U.meaning (stand_of assignment.now))) }
 {
     let name = assignment.name();
     let (mut run, mut step) = universe.begin(name.key(), name.version())?;
@@ -167,13 +201,7 @@ fn begun<U: Universe>(universe: &U, assignment: &Assignment<U>) -> Result<Ending
             step = universe.resume(&mut run, &answers)?;
         }
     }
-    match step {
-        Move::Ask(batch) => {
-            let run = Box::new(assignment.alloc(), run)?;
-            Ok(Ending::Asks(batch, Course::Run(run)))
-        }
-        Move::Done(value) => Ok(Ending::Done(value)),
-    }
+    Ok((run, step))
 }
 
 /// The answers of a batch. They are shared, not copied.
@@ -190,34 +218,13 @@ fn copied_values<K, V: Drop>(
     Ok(values)
 }
 
-/// The next move of a run.
-fn resumed<U: Universe>(
-    universe: &U,
-    run: Box<U::Run>,
-    answers: &Answers<U::Value>,
-) -> Result<Ending<U>, NoMemory>
-    requires { Takes (next_of U.meaning (U.running run.value)) (length answers.now) }
-    ensures { IfOk result
-        (λ e. RunEnds U.meaning U.running (resumed U.meaning (U.running run.value) answers.now) e) }
-{
-    let mut run = run;
-    let step = universe.resume(&mut *run, answers)?;
-    match step {
-        Move::Ask(batch) => Ok(Ending::Asks(batch, Course::Run(run))),
-        Move::Done(value) => Ok(Ending::Done(value)),
-    }
-}
-
 /// What a check finds.
-fn checked<U: Universe>(alloc: Global, check: Box<Check<U>>) -> Result<Ending<U>, NoMemory>
-    ensures { IfOk result (λ e. CheckEnds U.Value.eq check.value e) }
+fn checked<U: Universe>(alloc: Global, check: &Check<U>) -> Result<Stand<U>, NoMemory>
+    ensures { IfOk result (λ s. CheckEnds U.Value.eq check.now s) }
 {
     match check.next() {
-        Next::Want(wanted) => {
-            let batch = copied_keys(alloc, wanted)?;
-            Ok(Ending::Asks(batch, Course::Check(check)))
-        }
-        Next::Same => Ok(Ending::Same),
-        Next::Differs { dep, .. } => Ok(Ending::Differs(Arc::try_clone(dep)?)),
+        Next::Want(wanted) => Ok(Stand::Asks(copied_keys(alloc, wanted)?)),
+        Next::Same => Ok(Stand::Same),
+        Next::Differs { dep, .. } => Ok(Stand::Differs(Arc::try_clone(dep)?)),
     }
 }

@@ -7,6 +7,7 @@ mod laws;
 mod name;
 mod parked;
 mod step;
+mod work;
 
 pub use assignment::{Assignment, Earlier};
 pub use job::Job;

@@ -1,35 +1,23 @@
 //! Jobs that wait for answers.
 ghost use Rattle.std.specs.Prelude.{◌≡◌, length, true, IfOk};
 ghost use Rattle.dice_jobs.specs.Jobs.{Agrees, answered_more};
+ghost use Rattle.dice_jobs.specs.Courses.{IsParked, IsReady, wanted};
 
 use crate::assignment::Assignment;
-use crate::job::{Job, Ready};
-use dep_recorder::Check;
+use crate::job::Job;
+use crate::work::{Course, Stand, Work};
 use dice_key::{Answers, Batch, NoMemory, Universe};
 use std::marker::Model;
 
-/// What goes on when a batch is answered: a run, or a check.
-#[derive(Drop)]
-pub(crate) enum Course<U: Universe> {
-    Run(Box<U::Run>),
-    Check(Box<Check<U>>),
-}
-
 /// A job between two steps: it waits for the answers to a batch.
 pub struct Parked<U: Universe> {
-    pub(crate) assignment: Assignment<U>,
-    pub(crate) batch: Batch<U::Key>,
-    pub(crate) course: Course<U>,
+    pub(crate) work: Box<Work<U>>,
 }
 
 // (One function for all places that drop one: a derived drop is written out at each.)
 impl<U: Universe> Drop for Parked<U> {
     fn drop(self) {
-        let Parked {
-            assignment: _assignment,
-            batch: _batch,
-            course: _course,
-        } = self;
+        let Parked { work: _work } = self;
     }
 }
 
@@ -38,12 +26,13 @@ impl<U: Universe> Model for Parked<U> {
 
     ghost Value = { Waits U.Key U.Value };
 
-    ghost use Rattle.dice_jobs.specs.Courses.{GoesWith};
+    ghost use Rattle.dice_jobs.specs.Courses.{IsParked, wanted};
 
-    ghost view = { λ p. record { job = p.assignment; keys = p.batch } };
+    ghost view = { λ p. record
+        { job = p.work.value.assignment; keys = wanted p.work.value.stand } };
 
-    ghost invariant = { λ p. GoesWith U.meaning U.Value.eq U.running p.assignment p.batch
-        p.course };
+    ghost invariant = { λ p. IsParked U.meaning U.Value.eq U.running p.work.value.assignment
+        p.work.value.course p.work.value.stand };
 }
 
 impl<U: Universe> Parked<U> {
@@ -51,14 +40,17 @@ impl<U: Universe> Parked<U> {
     pub fn assignment(&self) -> &Assignment<U>
         ensures { result.now ≡ self.now.job }
     {
-        &self.assignment
+        &self.work.assignment
     }
 
     /// The keys whose answers it waits for.
     pub fn batch(&self) -> &Batch<U::Key>
         ensures { result.now ≡ self.now.keys }
     {
-        &self.batch
+        match &self.work.stand {
+            Stand::Asks(batch) => batch,
+            _ => unreachable!(),
+        }
     }
 
     /// What the job will be for when the batch is answered, with a value for each of its keys. Keys
@@ -67,7 +59,7 @@ impl<U: Universe> Parked<U> {
         requires { length answers.now ≡ length self.now.keys }
         ensures { IfOk result (λ a. a ≡ answered_more self.now.job self.now.keys answers.now) }
     {
-        self.assignment.extended(&self.batch, answers)
+        self.work.assignment.extended(self.batch(), answers)
     }
 
     /// The job that goes on with these answers, a value for each key; `next` is what it is for
@@ -79,22 +71,33 @@ impl<U: Universe> Parked<U> {
         requires agreed { agreed ≡ true → Agrees next }
         ensures { result ≡ next }
     {
-        let Parked {
-            assignment: _assignment,
-            batch: _batch,
-            course,
-        } = self;
-        let ready = match course {
-            Course::Run(run) => Ready::Resume(run, answers),
-            Course::Check(mut check) if agreed => {
-                check.agree();
-                Ready::Check(check)
-            }
-            Course::Check(check) => Ready::Feed(check, answers),
-        };
-        Job {
-            assignment: next,
-            ready,
-        }
+        let Parked { mut work } = self;
+        go_on(&mut *work, next, answers, agreed);
+        Job { work }
     }
+}
+
+/// A job that waits goes on with these answers, and is for `next` then. It takes no memory.
+fn go_on<U: Universe>(
+    work: &mut Work<U>,
+    next: Assignment<U>,
+    answers: Answers<U::Value>,
+    agreed: bool,
+)
+    requires parked { IsParked U.meaning U.Value.eq U.running work.old.assignment work.old.course
+        work.old.stand }
+    requires answers { length answers ≡ length (wanted work.old.stand) }
+    requires next { next ≡ answered_more work.old.assignment (wanted work.old.stand) answers }
+    requires agreed { agreed ≡ true → Agrees next }
+    ensures assignment { work.new.assignment ≡ next }
+    ensures ready { IsReady U.meaning U.Value.eq U.running next work.new.course work.new.stand }
+{
+    work.stand = match &mut work.course {
+        Course::Check(check) if agreed => {
+            check.agree();
+            Stand::Ready
+        }
+        _ => Stand::Answered(answers),
+    };
+    work.assignment = next;
 }

@@ -4,8 +4,9 @@ ghost use Rattle.dice_jobs.specs.Alike.{AreAlike};
 ghost use Rattle.dice_jobs.specs.Jobs.{outcome_of, IsExplained, waiting_after};
 
 use crate::assignment::Assignment;
-use crate::parked::{Course, Parked};
-use dice_key::{Batch, KeyRef, Universe, ValueRef};
+use crate::parked::Parked;
+use crate::work::{Stand, Work};
+use dice_key::{Batch, Universe};
 use std::marker::Model;
 use std::sync::Arc;
 
@@ -23,28 +24,15 @@ pub enum Report<'a, K, V> {
     Differs(&'a Arc<K>),
 }
 
-/// What came of a job, with what goes on after it.
-#[derive(Drop)]
-pub(crate) enum Ending<U: Universe> {
-    Asks(Batch<U::Key>, Course<U>),
-    Done(ValueRef<U>),
-    Same,
-    Differs(KeyRef<U>),
-}
-
 /// A job that was advanced by one step, with what came of it.
 pub struct Step<U: Universe> {
-    pub(crate) assignment: Assignment<U>,
-    pub(crate) ending: Ending<U>,
+    pub(crate) work: Box<Work<U>>,
 }
 
 // (One function for all places that drop one: a derived drop is written out at each.)
 impl<U: Universe> Drop for Step<U> {
     fn drop(self) {
-        let Step {
-            assignment: _assignment,
-            ending: _ending,
-        } = self;
+        let Step { work: _work } = self;
     }
 }
 
@@ -55,9 +43,11 @@ impl<U: Universe> Model for Step<U> {
 
     ghost use Rattle.dice_jobs.specs.Courses.{ended, IsEnding};
 
-    ghost view = { λ s. record { job = s.assignment; outcome = ended s.ending } };
+    ghost view = { λ s. record
+        { job = s.work.value.assignment; outcome = ended s.work.value.stand } };
 
-    ghost invariant = { λ s. IsEnding U.meaning U.Value.eq U.running s.assignment s.ending };
+    ghost invariant = { λ s. IsEnding U.meaning U.Value.eq U.running s.work.value.assignment
+        s.work.value.course s.work.value.stand };
 }
 
 impl<U: Universe> Step<U> {
@@ -67,7 +57,7 @@ impl<U: Universe> Step<U> {
     pub fn assignment(&self) -> &Assignment<U>
         ensures { result.now ≡ self.now.job }
     {
-        &self.assignment
+        &self.work.assignment
     }
 
     /// Whether it is a step of this assignment: of its name, answered batches and work. It takes no
@@ -75,7 +65,7 @@ impl<U: Universe> Step<U> {
     pub fn is_of(&self, assignment: &Assignment<U>) -> bool
         ensures { IsTrue result ↔ (self.now.job ≡ assignment.now) }
     {
-        self.assignment.is_same(assignment)
+        self.work.assignment.is_same(assignment)
     }
 
     /// Whether its job is like this assignment: of its name, of the same kind of work from the same
@@ -84,7 +74,7 @@ impl<U: Universe> Step<U> {
     pub fn is_like(&self, assignment: &Assignment<U>) -> bool
         ensures { IsTrue result ↔ AreAlike self.now.job assignment.now }
     {
-        self.assignment.is_alike(assignment)
+        self.work.assignment.is_alike(assignment)
     }
 
     /// What came of the job. It takes no memory.
@@ -93,11 +83,12 @@ impl<U: Universe> Step<U> {
         ensures outcome { self.now.outcome ≡ outcome_of U.meaning U.Value.eq self.now.job }
         ensures explained { IsExplained self.now.job.work self.now.job.answered self.now.outcome }
     {
-        match &self.ending {
-            Ending::Asks(batch, _) => Report::Asks(batch),
-            Ending::Done(value) => Report::Done(value),
-            Ending::Same => Report::Same,
-            Ending::Differs(dep) => Report::Differs(dep),
+        match &self.work.stand {
+            Stand::Asks(batch) => Report::Asks(batch),
+            Stand::Done(value) => Report::Done(value),
+            Stand::Same => Report::Same,
+            Stand::Differs(dep) => Report::Differs(dep),
+            _ => unreachable!(),
         }
     }
 
@@ -105,13 +96,9 @@ impl<U: Universe> Step<U> {
     pub fn into_parked(self) -> Option<Parked<U>>
         ensures { result ≡ waiting_after self.job self.outcome }
     {
-        let Step { assignment, ending } = self;
-        match ending {
-            Ending::Asks(batch, course) => Some(Parked {
-                assignment,
-                batch,
-                course,
-            }),
+        let Step { work } = self;
+        match &work.stand {
+            Stand::Asks(_) => Some(Parked { work }),
             _ => None,
         }
     }

@@ -157,7 +157,7 @@ pub fn differs<U: Universe>(
     laws_of::<U>();
     let cause = Cause::Differs(earlier.base, Arc::try_clone(dep)?);
     let event = Event::Start(version, Arc::try_clone(key)?, cause);
-    let job = Job::replay(step.assignment().computing()?);
+    let job = Job::replay(step.assignment().computing()?)?;
     let own = job.assignment().try_clone()?;
     desk.reserve(owed, 1, 0)?;
     differ(desk, tasks, version, key, event, job, own);

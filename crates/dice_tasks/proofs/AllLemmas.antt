@@ -1,5 +1,5 @@
 -- Which tasks end if one is given up, and all that ask for it.
-use Rattle.std.proofs.Common.{◌≡◌, ◌⊎◌, inl, inr, ◌+◌, ◌-◌, ℕ, Bool, true, false, cond, not, ◌&&◌, List, [], ◌∷◌, ◌++◌, map, Option, Some, None, refl, sym, ap, ◌∙◌, subst, arith, append_assoc}
+use Rattle.std.proofs.Common.{◌≡◌, ◌⊎◌, inl, inr, ◌+◌, ◌-◌, ℕ, Bool, true, false, cond, not, ◌&&◌, List, [], ◌∷◌, ◌++◌, map, Option, Some, refl, sym, ap, ◌∙◌, subst, arith, append_assoc}
 use Rattle.std.proofs.lemmas.List.{map-append}
 use Rattle.dice_key.specs.Lawful.{IsEquality}
 use Rattle.task_share.specs.Asked.{By, Promised, Tasked, is_by}
@@ -9,7 +9,7 @@ use Rattle.core_laws.specs.Tasks.{Outcome, goes_on}
 use Rattle.core_laws.proofs.Shapes.{not_both}
 use Rattle.dice_tasks.specs.Helds.{Held, held_ended}
 use Rattle.dice_tasks.specs.Hands.{DeskSeen, with_event, with_ended, with_told_next}
-use Rattle.dice_tasks.specs.Endings.{EndsTask, ListsEnd, ComesOf, told_end, EndsAsker, HasTold, EndsTasks, EndWithAskers, ends_so}
+use Rattle.dice_tasks.specs.Endings.{EndsTask, ListsEnd, ComesOf, told_end, EndsAsker, HasTold, EndsTasks, EndWithAskers}
 use Rattle.dice_tasks.proofs.EndsLemmas.{quits_keeps}
 use Rattle.dice_tasks.proofs.CascadeLemmas.{quits_room}
 use Rattle.dice_tasks.proofs.TellLemmas.{told_events, told_ended}

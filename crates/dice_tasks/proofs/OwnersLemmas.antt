@@ -1,10 +1,9 @@
 -- There is an owner of a cycle's path for each task that ends with it.
-use Rattle.std.proofs.Common.{◌≡◌, ◌≤◌, ◌<◌, ◌+◌, inl, inr, ℕ, suc, Bool, true, false, List, [], ◌∷◌, ◌++◌, length, map, Option, Some, refl, sym, ap, ◌∙◌, subst, arith, length-append}
+use Rattle.std.proofs.Common.{◌≡◌, ◌≤◌, ◌+◌, inl, inr, ℕ, suc, Bool, true, false, List, [], ◌∷◌, ◌++◌, length, map, Option, Some, refl, sym, ap, ◌∙◌, subst, arith, length-append}
 use Rattle.std.proofs.lemmas.List.{length-map, map-append}
 use Rattle.std.specs.Arc.{arc_value}
 use Rattle.std.specs.declared.sync.Arc.{Arc}
 use Rattle.task_share.specs.Asked.{Tasked, Leads, stays, asks_on}
-use Rattle.task_share.specs.Above.{AreAbove, AreCounted}
 use Rattle.task_share.specs.Seen.{Share, asks, asked_of, is_live}
 use Rattle.core_laws.specs.Tasks.{Outcome}
 use Rattle.core_laws.proofs.Shapes.{not_both}
@@ -16,7 +15,7 @@ use Rattle.dice_tasks.specs.declared.end.How.TheVariants.{Lost, Cycle}
 use Rattle.dice_tasks.specs.Endings.{path_of, HasOwners, AreGiven, IsEnough, EndAbove, EndsAsker, EndsTasks}
 use Rattle.lists.proofs.Distinct.{few}
 use Rattle.lists.proofs.Members.{has_end, has_last, has_more, has_mapped}
-use Rattle.lists.specs.Lists.{AreDistinct, Has}
+use Rattle.lists.specs.Lists.{Has}
 
 -- ---- the owners in memory
 

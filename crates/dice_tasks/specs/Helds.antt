@@ -24,12 +24,6 @@ module _ {K V : Type 0} where
   came (Cycle p) = WithCycle (arc_value p)
   came Lost = WithNothing
 
-  -- what a task ended with
-  abbrev pub ended_with : TaskState K V → Came K V
-  ended_with (state.Checking s) = WithNothing
-  ended_with (state.Computing s) = WithNothing
-  ended_with (state.Ended o) = came o
-
   -- a task in this phase that does what the job is for
   abbrev pub works : Assigned K V → Phase K → Standing K V
   works a p = Works a.work p a.answered

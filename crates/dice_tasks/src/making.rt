@@ -241,7 +241,6 @@ fn ready_task<U: Universe>(version: u64, key: &KeyRef<U>) -> Result<ReadyTask<U:
 
 /// What is made of a match with a value and its base.
 fn prepare_match<U: Universe>(
-    alloc: Global,
     version: u64,
     key: &KeyRef<U>,
     born: u64,
@@ -255,7 +254,7 @@ fn prepare_match<U: Universe>(
     let name = name_of::<U>(version, key, born)?;
     let event = Arc::try_clone(key)?;
     let value = Arc::try_clone(value)?;
-    let task = Task::matched(alloc, name, value)?;
+    let task = Task::matched(name, value);
     Ok(Making::Match { event, base, task })
 }
 
@@ -324,7 +323,7 @@ pub fn prepare<U: Universe>(
         return Ok(Making::Join);
     }
     match looked::<U>(graph, key, version) {
-        Found::Match(value, base) => prepare_match::<U>(alloc, version, key, born, value, base),
+        Found::Match(value, base) => prepare_match::<U>(version, key, born, value, base),
         Found::Compute(why) => prepare_run::<U>(alloc, version, key, born, why),
         Found::CheckDeps(value, trace, base) => {
             let value = Arc::try_clone(value)?;

@@ -21,17 +21,15 @@ use std::mem;
 use std::sync::Arc;
 use task_state::{Outcome, Stage, TaskState};
 
-/// What a task keeps of its work.
+/// How far the work of a task is.
 #[derive(Drop)]
 enum Load<U: Universe> {
-    /// The job that can be taken, and what it is for.
-    Job(Job<U>, Assignment<U>),
-    /// What the job that was taken is for.
-    Away(Assignment<U>),
-    /// The job that waits for answers.
+    /// The job can be taken.
+    Job(Job<U>),
+    /// The job was taken.
+    Away,
+    /// The job waits for answers.
     Parked(Parked<U>),
-    /// Nothing: it has ended.
-    Nothing,
 }
 
 /// Two copies of a task's key, for the events that end it: so ending it takes no memory.
@@ -143,32 +141,59 @@ impl<U: Universe> Next<U> {
 
 /// A task: the work for one key at one version.
 pub struct Task<U: Universe> {
-    parts: Box<Parts<U>>,
+    name: JobName<U>,
+    kept: Kept<U>,
 }
 
-/// The parts of a task.
-struct Parts<U: Universe> {
-    name: JobName<U>,
+/// What a task keeps: its work, or how it ended.
+#[derive(Drop)]
+enum Kept<U: Universe> {
+    Works(Box<Work<U>>),
+    Ended(Outcome<U::Key, U::Value>),
+}
+
+/// What a task keeps as long as it has not ended: its state, what its job is for, how far the work
+/// is, and what is needed to end it.
+struct Work<U: Universe> {
     state: TaskState<U::Key, U::Value>,
+    own: Assignment<U>,
     load: Load<U>,
-    spare: Option<Spare<U>>,
+    spare: Spare<U>,
 }
 
 // (One function for all places that drop one: a derived drop is written out at each.)
-impl<U: Universe> Drop for Parts<U> {
+impl<U: Universe> Drop for Work<U> {
     fn drop(self) {
-        let Parts {
-            name: _name,
+        let Work {
             state: _state,
+            own: _own,
             load: _load,
             spare: _spare,
         } = self;
     }
 }
 
+impl<U: Universe> Work<U> {
+    /// The copies of the task's key. All else is dropped.
+    fn into_spare(self) -> Spare<U>
+        ensures { result ≡ self.spare }
+    {
+        let Work {
+            state: _state,
+            own: _own,
+            load: _load,
+            spare,
+        } = self;
+        spare
+    }
+}
+
 impl<U: Universe> Drop for Task<U> {
     fn drop(self) {
-        let Task { parts: _parts } = self;
+        let Task {
+            name: _name,
+            kept: _kept,
+        } = self;
     }
 }
 
@@ -185,15 +210,11 @@ impl<U: Universe> Model for Task<U> {
 
     ghost Value = { Held U.Key U.Value };
 
-    ghost use Rattle.dice_tasks.specs.Loads.{standing_of, IsLoaded, IsSupplied};
+    ghost use Rattle.dice_tasks.specs.Loads.{standing_of, IsKept};
 
-    ghost view = { λ t. record {
-      name = t.parts.value.name;
-      standing = standing_of t.parts.value.load t.parts.value.state;
-    } };
+    ghost view = { λ t. record { name = t.name; standing = standing_of t.kept } };
 
-    ghost invariant = { λ t. IsLoaded t.parts.value.name t.parts.value.load t.parts.value.state
-        × IsSupplied t.parts.value.name.key t.parts.value.load t.parts.value.spare };
+    ghost invariant = { λ t. IsKept t.name t.kept };
 }
 
 impl<U: Universe> Task<U> {
@@ -204,18 +225,16 @@ impl<U: Universe> Task<U> {
         ensures { IfOk result
             (λ t. t ≡ held_of (record { name = name; answered = []; work = Computes }) IsReady) }
     {
-        let job = Job::begin(alloc, name.try_clone()?);
+        let job = Job::begin(alloc, name.try_clone()?)?;
         let own = job.assignment().try_clone()?;
-        let parts = Box::new(
-            alloc,
-            Parts {
-                name,
-                state: TaskState::Computing(Stage::Ready),
-                load: Load::Job(job, own),
-                spare: Some(spare),
-            },
-        )?;
-        Ok(Task { parts })
+        let work = Work {
+            state: TaskState::Computing(Stage::Ready),
+            own,
+            load: Load::Job(job),
+            spare,
+        };
+        let kept = Kept::Works(Box::new(alloc, work)?);
+        Ok(Task { name, kept })
     }
 
     /// A task that checks an earlier value of its key, ready to be taken.
@@ -232,36 +251,22 @@ impl<U: Universe> Task<U> {
     {
         let job = Job::check(alloc, name.try_clone()?, earlier)?;
         let own = job.assignment().try_clone()?;
-        let parts = Box::new(
-            alloc,
-            Parts {
-                name,
-                state: TaskState::Checking(Stage::Ready),
-                load: Load::Job(job, own),
-                spare: Some(spare),
-            },
-        )?;
-        Ok(Task { parts })
+        let work = Work {
+            state: TaskState::Checking(Stage::Ready),
+            own,
+            load: Load::Job(job),
+            spare,
+        };
+        let kept = Kept::Works(Box::new(alloc, work)?);
+        Ok(Task { name, kept })
     }
 
-    /// A task that has ended with a value that was looked up.
-    pub(crate) fn matched(
-        alloc: Global,
-        name: JobName<U>,
-        value: ValueRef<U>,
-    ) -> Result<Task<U>, NoMemory>
-        ensures { IfOk result (λ t. t ≡ held_ended name (WithValue (arc_value value))) }
+    /// A task that has ended with a value that was looked up. It takes no memory.
+    pub(crate) fn matched(name: JobName<U>, value: ValueRef<U>) -> Task<U>
+        ensures { result ≡ held_ended name (WithValue (arc_value value)) }
     {
-        let parts = Box::new(
-            alloc,
-            Parts {
-                name,
-                state: TaskState::Ended(Outcome::Value(value)),
-                load: Load::Nothing,
-                spare: None,
-            },
-        )?;
-        Ok(Task { parts })
+        let kept = Kept::Ended(Outcome::Value(value));
+        Task { name, kept }
     }
 
     /// Takes the job of a ready task: it goes out. `None` if the task is not ready.
@@ -271,15 +276,16 @@ impl<U: Universe> Task<U> {
         ensures none { IfNone result
             ((self.new ≡ self.old) × (ready_in self.old.standing ≡ false)) }
     {
-        let parts = &mut *self.parts;
-        match mem::replace(&mut parts.load, Load::Nothing) {
-            Load::Job(job, own) => {
-                parts.state.taken();
-                put(&mut parts.load, Load::Away(own));
+        let Kept::Works(work) = &mut self.kept else {
+            return None;
+        };
+        match mem::replace(&mut work.load, Load::Away) {
+            Load::Job(job) => {
+                work.state.taken();
                 Some(job)
             }
             other => {
-                put(&mut parts.load, other);
+                put(&mut work.load, other);
                 None
             }
         }
@@ -289,9 +295,12 @@ impl<U: Universe> Task<U> {
     fn is_away(&self, job: &Assignment<U>) -> bool
         ensures { IsTrue result ↔ (self.now ≡ held_of job.now IsOut) }
     {
-        match &self.parts.load {
-            Load::Away(own) => job.is_same(own),
-            _ => false,
+        match &self.kept {
+            Kept::Works(work) => match &work.load {
+                Load::Away => job.is_same(&work.own),
+                _ => false,
+            },
+            Kept::Ended(_) => false,
         }
     }
 
@@ -306,18 +315,12 @@ impl<U: Universe> Task<U> {
         if !self.is_away(job.assignment()) {
             return Some(job);
         }
-        let parts = &mut *self.parts;
-        match mem::replace(&mut parts.load, Load::Nothing) {
-            Load::Away(own) => {
-                parts.state.back();
-                put(&mut parts.load, Load::Job(job, own));
-                None
-            }
-            other => {
-                put(&mut parts.load, other);
-                Some(job)
-            }
-        }
+        let Kept::Works(work) = &mut self.kept else {
+            return Some(job);
+        };
+        work.state.back();
+        put(&mut work.load, Load::Job(job));
+        None
     }
 
     /// Whether it is a step of the job that is out.
@@ -333,9 +336,12 @@ impl<U: Universe> Task<U> {
             ↔ ((j : Assigned U.Key U.Value) × (self.now ≡ held_of j IsOut)
             × AreAlike step.now.job j) }
     {
-        match &self.parts.load {
-            Load::Away(own) => step.is_like(own),
-            _ => false,
+        match &self.kept {
+            Kept::Works(work) => match &work.load {
+                Load::Away => step.is_like(&work.own),
+                _ => false,
+            },
+            Kept::Ended(_) => false,
         }
     }
 
@@ -344,9 +350,10 @@ impl<U: Universe> Task<U> {
         requires { self.old ≡ held_of parked.job IsOut }
         ensures { self.new ≡ held_of parked.job (IsWaiting parked.keys) }
     {
-        let parts = &mut *self.parts;
-        parts.state.given(false);
-        put(&mut parts.load, Load::Parked(parked));
+        if let Kept::Works(work) = &mut self.kept {
+            work.state.given(false);
+            put(&mut work.load, Load::Parked(parked));
+        }
     }
 
     /// What a waiting task goes on with when its batch has these answers, a value for each key.
@@ -358,9 +365,12 @@ impl<U: Universe> Task<U> {
             × (agreed ≡ true → Agrees (answered_more w.job w.keys answers)) }
         ensures { IfOk result (λ n. FollowsOn self.now n × (n.values ≡ answers)) }
     {
-        match &self.parts.load {
-            Load::Parked(parked) => Next::of(parked, answers, agreed),
-            _ => unreachable!(),
+        match &self.kept {
+            Kept::Works(work) => match &work.load {
+                Load::Parked(parked) => Next::of(parked, answers, agreed),
+                _ => unreachable!(),
+            },
+            Kept::Ended(_) => unreachable!(),
         }
     }
 
@@ -369,14 +379,14 @@ impl<U: Universe> Task<U> {
         requires { FollowsOn self.old next }
         ensures { self.new ≡ held_of next.job IsReady }
     {
-        let parts = &mut *self.parts;
-        match mem::replace(&mut parts.load, Load::Nothing) {
-            Load::Parked(parked) => {
-                let (job, own) = next.of_parked(parked);
-                parts.state.answered();
-                put(&mut parts.load, Load::Job(job, own));
-            }
-            other => put(&mut parts.load, other),
+        let Kept::Works(work) = &mut self.kept else {
+            return;
+        };
+        if let Load::Parked(parked) = mem::replace(&mut work.load, Load::Away) {
+            let (job, own) = next.of_parked(parked);
+            work.state.answered();
+            put(&mut work.own, own);
+            put(&mut work.load, Load::Job(job));
         }
     }
 
@@ -388,10 +398,12 @@ impl<U: Universe> Task<U> {
         requires next { next.job ≡ answered_more parked.job parked.keys next.values }
         ensures { self.new ≡ held_of next.job IsReady }
     {
-        let parts = &mut *self.parts;
-        let (job, own) = next.of_parked(parked);
-        parts.state.given(true);
-        put(&mut parts.load, Load::Job(job, own));
+        if let Kept::Works(work) = &mut self.kept {
+            let (job, own) = next.of_parked(parked);
+            work.state.given(true);
+            put(&mut work.own, own);
+            put(&mut work.load, Load::Job(job));
+        }
     }
 
     /// The check that was out found a difference: the key's value is computed, from the answers
@@ -403,9 +415,11 @@ impl<U: Universe> Task<U> {
         requires job { job.work ≡ Computes }
         ensures { self.new ≡ held_of job IsReady }
     {
-        let parts = &mut *self.parts;
-        parts.state.differs();
-        put(&mut parts.load, Load::Job(job, own));
+        if let Kept::Works(work) = &mut self.kept {
+            work.state.differs();
+            put(&mut work.own, own);
+            put(&mut work.load, Load::Job(job));
+        }
     }
 
     /// Ends the task, and hands out the copies of its key. It takes no memory.
@@ -415,17 +429,17 @@ impl<U: Universe> Task<U> {
         ensures spare { IfSome result (AreCopies self.old.name.key) }
         ensures some { IfNone result ⊥ }
     {
-        let parts = &mut *self.parts;
-        parts.state.end(outcome);
-        put(&mut parts.load, Load::Nothing);
-        parts.spare.take()
+        match mem::replace(&mut self.kept, Kept::Ended(outcome)) {
+            Kept::Works(work) => Some(Box::into_inner(work).into_spare()),
+            Kept::Ended(_) => None,
+        }
     }
 
     /// The name.
     pub fn name(&self) -> &JobName<U>
         ensures { result.now ≡ self.now.name }
     {
-        &self.parts.name
+        &self.name
     }
 
     /// What the task's job is for; `None` if it has ended.
@@ -433,10 +447,9 @@ impl<U: Universe> Task<U> {
         ensures some { IfSome result (λ a. (p : Phase U.Key) × (self.now ≡ held_of a.now p)) }
         ensures none { IfNone result (goes_on self.now.standing ≡ false) }
     {
-        match &self.parts.load {
-            Load::Job(_, own) | Load::Away(own) => Some(own),
-            Load::Parked(parked) => Some(parked.assignment()),
-            Load::Nothing => None,
+        match &self.kept {
+            Kept::Works(work) => Some(&work.own),
+            Kept::Ended(_) => None,
         }
     }
 
@@ -444,9 +457,12 @@ impl<U: Universe> Task<U> {
     pub fn batch(&self) -> Option<&Batch<U::Key>>
         ensures { option_map (λ b. b.now) result ≡ waits_for self.now.standing }
     {
-        match &self.parts.load {
-            Load::Parked(parked) => Some(parked.batch()),
-            _ => None,
+        match &self.kept {
+            Kept::Works(work) => match &work.load {
+                Load::Parked(parked) => Some(parked.batch()),
+                _ => None,
+            },
+            Kept::Ended(_) => None,
         }
     }
 
@@ -455,10 +471,9 @@ impl<U: Universe> Task<U> {
         ensures some { IfSome result (λ o. self.now.standing ≡ Ended (came o.now)) }
         ensures none { IfNone result (goes_on self.now.standing ≡ true) }
     {
-        let parts = &*self.parts;
-        match (&parts.load, &parts.state) {
-            (Load::Nothing, TaskState::Ended(outcome)) => Some(outcome),
-            _ => None,
+        match &self.kept {
+            Kept::Works(_) => None,
+            Kept::Ended(outcome) => Some(outcome),
         }
     }
 
@@ -493,20 +508,26 @@ impl<U: Universe> Task<U> {
     pub fn is_live(&self) -> bool
         ensures { result ≡ goes_on self.now.standing }
     {
-        !matches!(&self.parts.load, Load::Nothing)
+        matches!(&self.kept, Kept::Works(_))
     }
 
     /// Whether its job can be taken.
     pub(crate) fn is_ready(&self) -> bool
         ensures { result ≡ ready_in self.now.standing }
     {
-        matches!(&self.parts.load, Load::Job(..))
+        match &self.kept {
+            Kept::Works(work) => matches!(&work.load, Load::Job(_)),
+            Kept::Ended(_) => false,
+        }
     }
 
     /// Whether its job is out.
     pub fn is_out(&self) -> bool
         ensures { result ≡ out_in self.now.standing }
     {
-        matches!(&self.parts.load, Load::Away(_))
+        match &self.kept {
+            Kept::Works(work) => matches!(&work.load, Load::Away),
+            Kept::Ended(_) => false,
+        }
     }
 }

@@ -108,11 +108,11 @@ const FOLLOW: Place = Place::Follow(1);
 const SUM: Place = Place::Sum(1, 2);
 
 fn run_of_follow(alloc: Global) -> Result<Job<Tiny>, NoMemory> {
-    Ok(Job::begin(alloc, name_of(alloc, 3, FOLLOW, 8)?))
+    Job::begin(alloc, name_of(alloc, 3, FOLLOW, 8)?)
 }
 
 fn run_of_sum(alloc: Global) -> Result<Job<Tiny>, NoMemory> {
-    Ok(Job::begin(alloc, name_of(alloc, 3, SUM, 0)?))
+    Job::begin(alloc, name_of(alloc, 3, SUM, 0)?)
 }
 
 /// The last step of a run of `Follow(1)`, when cell 1 is 7 and cell 7 is `last`.
@@ -194,7 +194,7 @@ fn a_run_asks_its_batches_and_comes_to_its_value(rt: HostRuntime) -> Result<(), 
 fn job_and_name(alloc: Global) -> Result<(Job<Tiny>, JobName<Tiny>), NoMemory> {
     let name = name_of(alloc, 3, FOLLOW, 8)?;
     let copy = name.try_clone()?;
-    Ok((Job::begin(alloc, name), copy))
+    Ok((Job::begin(alloc, name)?, copy))
 }
 
 /// Whether a step has this name, and no earlier value.

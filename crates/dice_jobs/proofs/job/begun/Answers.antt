@@ -1,17 +1,11 @@
-use Rattle.std.proofs.Common.{◌≡◌, ◌≤◌, ◌∙◌, ◌∷◌, ◌+◌, drop, length, refl, sym, ap, subst, arith}
-use Rattle.std.specs.Arc.{arc_value}
+use Rattle.std.proofs.Common.{◌≡◌, ◌≤◌, ◌∙◌, ◌∷◌, ◌+◌, drop, length, sym, ap, subst}
 use Rattle.dice_key.specs.Lawful.{step_of}
-use Rattle.dice_key.specs.Meaning.{Takes, next_of, resumed, Asks, Ends}
-use Rattle.dep_recorder.specs.Recordings.{values_in, answered_in}
+use Rattle.dice_key.specs.Meaning.{Takes, next_of, resumed}
+use Rattle.dep_recorder.specs.Recordings.{answered_in}
 use Rattle.dice_jobs.specs.Jobs.{stand_of}
-use Rattle.dice_jobs.proofs.Replayed.{HasGone, gone_none, gone_all, gone_at_once, gone_takes, gone_on}
+use Rattle.dice_jobs.proofs.Replayed.{gone_all, gone_at_once, gone_takes, gone_on}
 use Rattle.dice_jobs.proofs.job.begun.Goals.{in-Some+else-loop-at-test, in_default}
 use Rattle.dice_jobs.proofs.job.begun.Goals as goal
-
-pub loop-at-init : goal.loop-at-init
-loop-at-init g c =
-    let a = c.args.assignment.now in
-    gone_none g.U.Universe.meaning a.name.key a.name.version a.answered _ _ _ _ c.in_ok-run.ensures.run c.in_ok-run.ensures.step (c.key.ensures ∙ ap (λ n. n.key) c.name-name.ensures) (c.version.ensures ∙ ap (λ n. n.version) c.name-name.ensures)
 
 pub resume-requires : goal.resume-requires
 resume-requires g c =
@@ -31,8 +25,8 @@ loop-at-preserved g c =
     gone_on m a.name.key a.name.version a.answered c.requires.asks c.loop-at.at _ _ c.loop-at.invariant (answered_in c.batch.result.now) next _ _
     (c.in_ok-step.ensures.run ∙ ap (resumed m (g.U.Universe.running c.loop-at.run)) c.in_ok-answers.ensures) c.in_ok-step.ensures.step
 
-pub returns-in_ok-run-in-Ask : goal.returns-in_ok-run-in-Ask
-returns-in_ok-run-in-Ask g c =
+pub returns-clause-run : goal.returns-clause-run
+returns-clause-run g c =
     let a = c.args.assignment.now in
     let m = g.U.Universe.meaning in
     let run = g.U.Universe.running in
@@ -46,10 +40,10 @@ returns-in_ok-run-in-Ask g c =
           let h = gone_at_once m a.name.key a.name.version a.answered _ _ _ _ c.in_ok-run.ensures.run c.in_ok-run.ensures.step (c.key.ensures ∙ ap (λ n. n.key) c.name-name.ensures) (c.version.ensures ∙ ap (λ n. n.version) c.name-name.ensures) w.in_default.ensures in
           (ap run w.run-is ∙ h.0, ap step_of w.step-is ∙ h.1)
     ] in
-    (ap run c.in_ok-run-in-Ask.ensures.ok ∙ r.0, sym r.1 ∙ ap step_of c.in-Ask.is)
+    r.0
 
-pub returns-in-Done : goal.returns-in-Done
-returns-in-Done g c =
+pub returns-clause-step : goal.returns-clause-step
+returns-clause-step g c =
     let a = c.args.assignment.now in
     let m = g.U.Universe.meaning in
     let run = g.U.Universe.running in
@@ -63,4 +57,4 @@ returns-in-Done g c =
           let h = gone_at_once m a.name.key a.name.version a.answered _ _ _ _ c.in_ok-run.ensures.run c.in_ok-run.ensures.step (c.key.ensures ∙ ap (λ n. n.key) c.name-name.ensures) (c.version.ensures ∙ ap (λ n. n.version) c.name-name.ensures) w.in_default.ensures in
           (ap run w.run-is ∙ h.0, ap step_of w.step-is ∙ h.1)
     ] in
-    sym r.1 ∙ ap step_of c.in-Done.is
+    r.1

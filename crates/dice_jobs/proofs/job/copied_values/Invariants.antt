@@ -1,5 +1,4 @@
-use Rattle.std.proofs.Common.{◌≡◌, map, take}
-use Rattle.std.specs.Arc.{arc_value}
+use Rattle.std.proofs.Common.{◌≡◌, take}
 use Rattle.dep_recorder.specs.Recordings.{values_in}
 use Rattle.dice_jobs.proofs.job.copied_values.Given as goal
 

@@ -13,8 +13,8 @@ use Rattle.dice_tasks.proofs.EndsLemmas.{working_knows}
 use Rattle.dice_steps.proofs.FinishLemmas.{at_room, working_room, stands_at, computed, changed_first, turned_asks, at_begun}
 use Rattle.dice_steps.proofs.finish.differs.Goals as goal
 
-pub replay-job-requires-clause-kind : goal.replay-job-requires-clause-kind
-replay-job-requires-clause-kind g c κs within =
+pub replay-requires-clause-kind : goal.replay-requires-clause-kind
+replay-requires-clause-kind g c κs within =
     let r = c.requires.at_hand in
     let eq = g.U.Key.PartialEq.eq in
     let m = g.U.Universe.meaning in
@@ -25,8 +25,8 @@ replay-job-requires-clause-kind g c κs within =
     subst (λ q. m.kind q ≢ Injected) (sym (ap (λ (z : Assigned g.row.U-Key.Denot g.row.U-Value.Denot). z.name.key) made ∙ own))
     (computed eq c.laws_of.ensures.keys m c.laws_of.ensures.lawful c.args.version k (reverse c.args.desk.now.events) [] c.args.tasks.now (stands_at eq c.laws_of.ensures.keys m c.laws_of.ensures.lawful c.args.version k r.0 c.args.owed c.args.tasks.now c.args.desk.now r.1 r.2 r.3) job c.requires.out)
 
-pub replay-job-requires-clause-asks : goal.replay-job-requires-clause-asks
-replay-job-requires-clause-asks g c κs within =
+pub replay-requires-clause-asks : goal.replay-requires-clause-asks
+replay-requires-clause-asks g c κs within =
     let r = c.requires.at_hand in
     let eq = g.U.Key.PartialEq.eq in
     let keys = c.laws_of.ensures.keys in
@@ -71,9 +71,9 @@ returns-clause-kept g c w es s at0 =
     let T = arc_value c.args.earlier.now.trace in
     let base = c.args.earlier.now.base in
     let dep = arc_value c.args.dep.now in
-    let made : c.replay-job.result ≡ computing job = c.replay-job.ensures ∙ (c.in_ok-computing.ensures ∙ ap computing c.assignment.ensures) in
-    let same : job ≡ checking c.replay-job.result x T base = (λ i. record { name = ap (λ (z : Assigned g.row.U-Key.Denot g.row.U-Value.Denot). z.name) (sym made) i; answered = ap (λ (z : Assigned g.row.U-Key.Denot g.row.U-Value.Denot). z.answered) (sym made) i; work = sym c.requires.earlier i }) in
-    let answered : c.replay-job.result.answered ≡ job.answered = ap (λ (z : Assigned g.row.U-Key.Denot g.row.U-Value.Denot). z.answered) made in
+    let made : c.in_ok-job.job ≡ computing job = c.in_ok-job.ensures ∙ (c.in_ok-computing.ensures ∙ ap computing c.assignment.ensures) in
+    let same : job ≡ checking c.in_ok-job.job x T base = (λ i. record { name = ap (λ (z : Assigned g.row.U-Key.Denot g.row.U-Value.Denot). z.name) (sym made) i; answered = ap (λ (z : Assigned g.row.U-Key.Denot g.row.U-Value.Denot). z.answered) (sym made) i; work = sym c.requires.earlier i }) in
+    let answered : c.in_ok-job.job.answered ≡ job.answered = ap (λ (z : Assigned g.row.U-Key.Denot g.row.U-Value.Denot). z.answered) made in
     let copied : Told g.row.U-Key.Denot g.row.U-Value.Denot = Start v (arc_value c.in_ok-try_clone-2.field-0) (Differs base (arc_value c.in_ok-try_clone.field-0)) in
     let told_is : Told g.row.U-Key.Denot g.row.U-Value.Denot = Start v k (Differs base dep) in
     let is : copied ≡ told_is = (λ i. Start v (c.in_ok-try_clone-2.ensures i) (Differs base (c.in_ok-try_clone.ensures i))) in
@@ -82,5 +82,5 @@ returns-clause-kept g c w es s at0 =
     let work = c.differ.ensures.kept w [] c.args.owed x T base dep more is (c.requires.out ∙ ap (λ (z : Assigned g.row.U-Key.Denot g.row.U-Value.Denot). Some (held_of z IsOut)) same)
     (subst (λ A. ChangesFirst T A dep) (sym answered) (changed_first m g.U.Value.PartialEq.eq job step c.requires.step x T base (sym c.requires.earlier) dep c.requires.differs)) in
     let b = c.differ.ensures.begun in
-    let begins = subst (λ t. BeginsAnew eq v k (held_of (checking c.replay-job.result b.0 b.1 b.2) IsOut) (held_of c.replay-job.result IsReady) t ps c.differ.new.tasks d c.differ.new.desk) is b.3 in
+    let begins = subst (λ t. BeginsAnew eq v k (held_of (checking c.in_ok-job.job b.0 b.1 b.2) IsOut) (held_of c.in_ok-job.job IsReady) t ps c.differ.new.tasks d c.differ.new.desk) is b.3 in
     at_begun eq keys m law v k ps c.differ.new.tasks d c.differ.new.desk _ _ (Differs base dep) begins w c.args.owed es s at work (c.differ.ensures.tasked at0.tasked)
