@@ -1,5 +1,5 @@
 -- Idle tasks: what gives a key back to its place, takes a task out, and withdraws its asks.
-use Rattle.std.proofs.Common.{◌≡◌, ◌≤◌, ◌+◌, inl, inr, ℕ, suc, Bool, true, false, not, cond, ◌&&◌, ◌||◌, List, [], ◌∷◌, ◌++◌, length, map, Option, Some, None, is_some, nat_eq, refl, sym, ap, ◌∙◌, subst, arith, ◌<◌, unwrap_or}
+use Rattle.std.proofs.Common.{◌≡◌, ◌≤◌, ◌+◌, inl, inr, ℕ, suc, Bool, true, false, not, cond, ◌&&◌, ◌||◌, List, [], ◌∷◌, ◌++◌, length, map, Option, Some, None, is_some, nat_eq, refl, sym, ap, ◌∙◌, subst, arith}
 use Rattle.std.specs.Prelude.{option_and_then, MatchOption}
 use Rattle.std.specs.Arc.{arc_value}
 use Rattle.std.specs.Map.{lookup, set_value, values_of}
@@ -14,7 +14,7 @@ use Rattle.std.proofs.lemmas.Map.Entries.{sum_by-set_value}
 use Rattle.dice_key.specs.Lawful.{IsEquality}
 use Rattle.task_share.specs.Asked.{By, Promised, Tasked, is_by}
 use Rattle.task_share.specs.Seen.{Share, takes_task, room_in, is_for, list_for, number_for, has_by, has_live, has_place, asks, waits_at, ask_count, one_if, live_count}
-use Rattle.task_share.specs.Listed.{share_of, entry_of, shares_of, is_idle, kept_name, IsNamed, IsListed, KeepsListed, IsChanged, Left, UsesRoom, Withdraws, Withdrawing, NoneIdle, IsKept, IsPopped, IsTaken, IsVacant, AllRun}
+use Rattle.task_share.specs.Listed.{share_of, shares_of, is_idle, kept_name, IsNamed, IsListed, KeepsListed, IsChanged, Left, UsesRoom, Withdraws, Withdrawing, NoneIdle, IsKept, IsPopped, IsTaken, IsVacant, AllRun}
 use Rattle.task_share.specs.declared.place.Place.{Place}
 use Rattle.task_share.proofs.PlaceLemmas.{lookup_shares}
 use Rattle.task_share.proofs.TurnLemmas.{tasks_kept, room_kept, asks_turned, waits_turned, same_cond, tasks_on, room_on, room_itself, kept_on}

@@ -14,7 +14,7 @@ use Rattle.task_share.specs.Seen.{Share, takes_task, room_in, is_for, list_for, 
 use Rattle.task_share.specs.Lent.{WritesTask}
 use Rattle.task_share.specs.Listed.{is_idle, IsListed, AreIn, IsChanged, Turns, Joined, Left, UsesRoom, IsKept, IsMirrored, Withdraws, IsPopped, NoneIdle}
 use Rattle.task_share.proofs.PlaceLemmas.{idle_unasked}
-use Rattle.task_share.proofs.TurnLemmas.{same_cond, asks_turned, waits_turned, task_turned, test_turned, tasks_kept, count_kept, room_kept, place_kept, number_kept, room_left, by_key, tasks_on, room_on}
+use Rattle.task_share.proofs.TurnLemmas.{same_cond, asks_turned, waits_turned, task_turned, test_turned, tasks_kept, count_kept, room_kept, place_kept, room_left, by_key, tasks_on, room_on}
 use Rattle.lists.specs.Lists.{AreDistinct, Has}
 use Rattle.std.proofs.lemmas.Bool.{and_parts}
 

@@ -91,7 +91,8 @@ impl<K: Eq + Hash + Drop, T: Drop> Table<K, T> {
         ensures room { KeepsRoom K.eq self.old self.new }
         ensures ok { OnOk result (has_place K.eq self.new (arc_value key.now) ≡ true) }
     {
-        room::reserve_place(&mut self.places, &mut self.candidates, self.alloc, key)
+        room::reserve_place(&mut self.places, &mut self.candidates, self.alloc, key)?;
+        Ok(())
     }
 
     /// Puts a task, which has not ended, to a key with room for it that has none or an ended one.
@@ -136,8 +137,8 @@ impl<K: Eq + Hash + Drop, T: Drop> Table<K, T> {
         ensures room { KeepsRoom K.eq self.old self.new }
         ensures ok { OnOk result (0 < promise_room K.eq self.new (arc_value key.now)) }
     {
-        self.reserve(key)?;
-        room::reserve_promise(&mut self.places, key)
+        let at = room::reserve_place(&mut self.places, &mut self.candidates, self.alloc, key)?;
+        room::reserve_promise(&mut self.places, at)
     }
 
     /// Makes room for one more asking task of the key. Nothing else changes.
@@ -147,8 +148,8 @@ impl<K: Eq + Hash + Drop, T: Drop> Table<K, T> {
         ensures room { KeepsRoom K.eq self.old self.new }
         ensures ok { OnOk result (0 < asker_room K.eq self.new (arc_value key.now)) }
     {
-        self.reserve(key)?;
-        room::reserve_asker(&mut self.places, key)
+        let at = room::reserve_place(&mut self.places, &mut self.candidates, self.alloc, key)?;
+        room::reserve_asker(&mut self.places, at)
     }
 
     /// Makes room for the task of the key to wait for this many more keys. Nothing else changes.
@@ -158,8 +159,8 @@ impl<K: Eq + Hash + Drop, T: Drop> Table<K, T> {
         ensures room { KeepsRoom K.eq self.old self.new }
         ensures ok { OnOk result (additional ≤ wait_room K.eq self.new (arc_value key.now)) }
     {
-        self.reserve(key)?;
-        room::reserve_waits(&mut self.places, key, additional)
+        let at = room::reserve_place(&mut self.places, &mut self.candidates, self.alloc, key)?;
+        room::reserve_waits(&mut self.places, at, additional)
     }
 
     /// Adds a promise to the askers of a key, in room made ahead. It takes no memory.

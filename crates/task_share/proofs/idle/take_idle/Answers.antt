@@ -3,8 +3,8 @@ use Rattle.std.specs.Prelude.{IsSome}
 use Rattle.std.specs.Arc.{arc_value}
 use Rattle.std.specs.Map.{lookup, values_of}
 use Rattle.std.specs.Option.{option_copied_mut, option_map}
-use Rattle.task_share.specs.Seen.{Share, has_live, is_for}
-use Rattle.task_share.specs.Listed.{share_of, shares_of, names_of, is_idle, AreNumbered, IsLinked, IsListed, IsVacant}
+use Rattle.task_share.specs.Seen.{has_live, is_for}
+use Rattle.task_share.specs.Listed.{share_of, shares_of, names_of, is_idle, AreNumbered, IsListed, IsVacant}
 use Rattle.task_share.specs.declared.place.Place.{Place}
 use Rattle.task_share.proofs.PlaceLemmas.{lookup_shares, IsWritten, changed_written}
 use Rattle.task_share.proofs.TurnLemmas.{kept_itself}

@@ -4,7 +4,7 @@ use Rattle.std.specs.Arc.{arc_value}
 use Rattle.std.specs.Map.{values_of}
 use Rattle.std.specs.Option.{option_to_list}
 use Rattle.std.specs.declared.sync.Arc.{Arc}
-use Rattle.task_share.specs.Listed.{shares_of, names_of, AreNumbered, Withdrawing}
+use Rattle.task_share.specs.Listed.{shares_of, names_of, Withdrawing}
 use Rattle.task_share.proofs.IdleLemmas.{popped_value, withdrawing_none, withdrawing_more, withdrawing_done}
 use Rattle.task_share.proofs.idle.withdraw.Goals as goal
 use Rattle.lists.specs.Lists.{Has}

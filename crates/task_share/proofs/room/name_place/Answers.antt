@@ -1,15 +1,15 @@
-use Rattle.std.proofs.Common.{◌≡◌, ◌||◌, Bool, Some, true, false, is_some, refl, sym, ap, ◌∙◌, subst, arith}
+use Rattle.std.proofs.Common.{◌≡◌, Some, false, is_some, refl, sym, ap, ◌∙◌, subst, arith}
 use Rattle.std.specs.Arc.{arc_value}
 use Rattle.std.specs.Map.{lookup}
 use Rattle.std.specs.Option.{option_map}
 use Rattle.std.proofs.lemmas.Option.{same_Some}
 use Rattle.indexmap.specs.IndexMap.{set_value_at}
 use Rattle.task_share.specs.Seen.{is_for, takes_task}
-use Rattle.task_share.specs.Listed.{share_of, shares_of, names_of, UsesRoom, Stays}
+use Rattle.task_share.specs.Listed.{share_of, shares_of, UsesRoom, Stays}
 use Rattle.task_share.specs.declared.place.Place.{Place}
 use Rattle.task_share.proofs.PlaceLemmas.{lookup_shares, changed_written, set_shares}
 use Rattle.task_share.proofs.TurnLemmas.{stays_kept}
-use Rattle.task_share.proofs.NumberLemmas.{entry_of_value, written_at, share_at, key_named, linked_set}
+use Rattle.task_share.proofs.NumberLemmas.{entry_of_value, written_at, share_at, key_named, linked_set, names_at_set}
 use Rattle.task_share.proofs.IdleLemmas.{named_listed, or_true}
 use Rattle.task_share.proofs.room.name_place.Goals as goal
 
@@ -76,3 +76,9 @@ returns-clause-linked g c =
     let same : arc_value c.args.name ≡ arc_value e.0 = same_Some (arc_value c.args.name) (arc_value e.0) (sym c.requires.named ∙ key_named eq law es c.args.at e.0 h e.1) in
     let now : lookup (eq (arc_value e.0)) (shares_of fs) ≡ Some (share_of w) = lookup_shares (eq (arc_value e.0)) fs ∙ ap (option_map share_of) i.here in
     linked_set eq (λ b. eq (arc_value e.0) (arc_value b)) es fs h w c.requires.linked i.set i.known (λ n. n) (λ n. n)
+
+pub returns-clause-names : goal.returns-clause-names
+returns-clause-names g c =
+    let h = c.in-Some.place.now in
+    let w : Place g.row.K.Denot g.row.T.Denot = record { task = h.task; live = h.live; promises = h.promises; askers = h.askers; waits = h.waits; name = Some c.args.name } in
+    names_at_set c.args.places.now.entries c.args.at w

@@ -1,10 +1,9 @@
-use Rattle.std.proofs.Common.{◌≡◌, ◌||◌, Some, None, true, false, is_some, refl, sym, ap, ◌∙◌, subst}
+use Rattle.std.proofs.Common.{◌||◌, is_some, sym, ap, ◌∙◌}
 use Rattle.std.specs.Arc.{arc_value}
 use Rattle.std.specs.Option.{option_map}
 use Rattle.task_share.specs.Seen.{is_for, takes_task}
-use Rattle.task_share.specs.Listed.{names_of, share_of}
+use Rattle.task_share.specs.Listed.{share_of}
 use Rattle.std.proofs.lemmas.Option.{none-some}
-use Rattle.task_share.specs.declared.place.Place.{Place}
 use Rattle.task_share.proofs.NumberLemmas.{share_at, named_at}
 use Rattle.task_share.proofs.IdleLemmas.{still_some}
 use Rattle.task_share.proofs.room.takes_task_at.Goals as goal

@@ -1,16 +1,13 @@
-use Rattle.std.proofs.Common.{◌≡◌, ◌≤◌, ◌<◌, ◌+◌, ◌⊎◌, ◌&&◌, ◌||◌, not, cond, true, false, nat_eq, ℕ, List, [], map, Option, Some, None, is_some, refl, sym, ap, ◌∙◌, subst, arith, slice_get}
-use Rattle.std.specs.Prelude.{IfSome, IfNone}
+use Rattle.std.proofs.Common.{◌≡◌, ◌≤◌, ◌&&◌, not, List, map, is_some, sym, ap, ◌∙◌, subst, slice_get}
 use Rattle.std.specs.Arc.{arc_value}
-use Rattle.std.specs.Map.{lookup, keys_of, values_of}
-use Rattle.std.specs.List.{list_any}
-use Rattle.std.specs.Option.{option_copied, option_map}
-use Rattle.task_share.specs.Asked.{By, Promised, Tasked, is_by, IsDone, Takes}
-use Rattle.task_share.specs.Seen.{Share, is_for, list_for, has_by, task_at, is_live, asks, waits_at, asked_of, ask_count, live_count, has_place, asker_room, wait_room, number_for, room_in, KeepsTasks, KeepsAsks, KeepsRoom, KeepsOtherRoom, UsesRoomOf}
-use Rattle.task_share.specs.Listed.{share_of, shares_of, names_of, Turns, UsesRoom, Stays}
-use Rattle.task_share.specs.Numbers.{key_at, number_of, waits_by}
+use Rattle.std.specs.Map.{values_of}
+use Rattle.std.specs.Option.{option_map}
+use Rattle.task_share.specs.Asked.{By, Tasked, is_by}
+use Rattle.task_share.specs.Seen.{Share, task_at, is_live, asks, live_count, KeepsOtherRoom}
+use Rattle.task_share.specs.Listed.{share_of, shares_of}
 use Rattle.task_share.proofs.PlaceLemmas.{lookup_shares}
 use Rattle.lists.proofs.Options.{is_missing}
-use Rattle.task_share.proofs.TableLemmas.{ended_asks, ended_tasks, ended_live, ended_mirrored, ended_room, ended_count, none_lives, none_asks, other_itself}
+use Rattle.task_share.proofs.TableLemmas.{ended_asks, ended_tasks, ended_live, ended_mirrored, ended_room, ended_count, none_lives, none_asks}
 use Rattle.task_share.proofs.NumberLemmas.{found_number}
 use Rattle.task_share.proofs.table.Table.ended.Goals as goal
 

@@ -1,13 +1,9 @@
-use Rattle.std.proofs.Common.{◌≡◌, ◌≤◌, ◌<◌, ◌+◌, ◌⊎◌, ◌&&◌, ◌||◌, not, cond, true, false, nat_eq, ℕ, List, [], map, Option, Some, None, is_some, refl, sym, ap, ◌∙◌, subst, arith, slice_get}
-use Rattle.std.specs.Prelude.{IfSome, IfNone}
+use Rattle.std.proofs.Common.{◌≡◌, ◌<◌, ◌&&◌, not, true, false, List, is_some, refl, sym, ap, ◌∙◌, subst, arith, slice_get}
 use Rattle.std.specs.Arc.{arc_value}
-use Rattle.std.specs.Map.{lookup, keys_of, values_of}
-use Rattle.std.specs.List.{list_any}
-use Rattle.std.specs.Option.{option_copied, option_map}
-use Rattle.task_share.specs.Asked.{By, Promised, Tasked, is_by, IsDone, Takes}
-use Rattle.task_share.specs.Seen.{Share, is_for, list_for, has_by, task_at, is_live, asks, waits_at, asked_of, ask_count, live_count, has_place, asker_room, wait_room, number_for, room_in, KeepsTasks, KeepsAsks, KeepsRoom, KeepsOtherRoom, UsesRoomOf}
-use Rattle.task_share.specs.Listed.{share_of, shares_of, names_of, Turns, UsesRoom, Stays}
-use Rattle.task_share.specs.Numbers.{key_at, number_of, waits_by}
+use Rattle.std.specs.Option.{option_map}
+use Rattle.task_share.specs.Asked.{By, Tasked, is_by}
+use Rattle.task_share.specs.Seen.{Share, is_for, has_by, asks, ask_count, KeepsTasks, KeepsAsks, KeepsRoom}
+use Rattle.task_share.specs.Listed.{share_of, shares_of, UsesRoom, Stays}
 use Rattle.task_share.proofs.PlaceLemmas.{lookup_shares}
 use Rattle.lists.proofs.Options.{is_missing}
 use Rattle.task_share.proofs.TurnLemmas.{count_kept, stays_kept}
