@@ -1,5 +1,5 @@
 -- Idle tasks: what gives a key back to its place, takes a task out, and withdraws its asks.
-use Rattle.std.proofs.Common.{◌≡◌, ◌≤◌, ◌+◌, inl, inr, ℕ, suc, Bool, true, false, not, cond, ◌&&◌, ◌||◌, List, [], ◌∷◌, ◌++◌, length, map, Option, Some, None, is_some, nat_eq, refl, sym, ap, ◌∙◌, subst, arith}
+use Rattle.std.proofs.Common.{◌≡◌, ◌≤◌, ◌+◌, inl, inr, ℕ, suc, Bool, true, false, not, cond, ◌&&◌, ◌||◌, List, [], ◌∷◌, ◌++◌, length, map, Option, Some, None, is_some, nat_eq, refl, sym, ap, ◌∙◌, subst, arith, slice_get}
 use Rattle.std.specs.Prelude.{option_and_then, MatchOption}
 use Rattle.std.specs.Arc.{arc_value}
 use Rattle.std.specs.Map.{lookup, set_value, values_of}
@@ -11,12 +11,14 @@ use Rattle.std.proofs.lemmas.List.{length-append, map-append}
 use Rattle.std.proofs.lemmas.List.Folds.{list_any-append}
 use Rattle.std.proofs.lemmas.List.Sums.{sum_by-cons}
 use Rattle.std.proofs.lemmas.Map.Entries.{sum_by-set_value}
+use Rattle.indexmap.specs.IndexMap.{set_value_at}
 use Rattle.dice_key.specs.Lawful.{IsEquality}
 use Rattle.task_share.specs.Asked.{By, Promised, Tasked, is_by}
 use Rattle.task_share.specs.Seen.{Share, takes_task, room_in, is_for, list_for, number_for, has_by, has_live, has_place, asks, waits_at, ask_count, one_if, live_count}
-use Rattle.task_share.specs.Listed.{share_of, shares_of, is_idle, kept_name, IsNamed, IsListed, KeepsListed, IsChanged, Left, UsesRoom, Withdraws, Withdrawing, NoneIdle, IsKept, IsPopped, IsTaken, IsVacant, AllRun}
+use Rattle.task_share.specs.Listed.{share_of, shares_of, names_of, IsLinked, is_idle, kept_name, IsNamed, IsListed, KeepsListed, IsChanged, Left, UsesRoom, Withdraws, Withdrawing, NoneIdle, IsKept, IsPopped, IsTaken, IsVacant, AllRun}
 use Rattle.task_share.specs.declared.place.Place.{Place}
-use Rattle.task_share.proofs.PlaceLemmas.{lookup_shares}
+use Rattle.task_share.proofs.PlaceLemmas.{lookup_shares, IsWritten, changed_written}
+use Rattle.task_share.proofs.NumberLemmas.{written_at, key_named, linked_set}
 use Rattle.task_share.proofs.TurnLemmas.{tasks_kept, room_kept, asks_turned, waits_turned, same_cond, tasks_on, room_on, room_itself, kept_on}
 use Rattle.lists.proofs.Members.{has_last}
 use Rattle.lists.specs.Lists.{Has}
@@ -380,3 +382,29 @@ at_none Q (Some x) e p = cc
 -- a table's tasks that have not ended are there
 pub all_run : {K T : Type 0} (eq : K → K → Bool) (ps : List (K × Share K T)) (cs : List K) (room : ℕ) → IsListed eq ps cs room → AllRun eq ps
 all_run eq ps cs room l k p e = (l.each k p e).runs
+
+-- the place of a number was emptied: its key is k, which was a candidate, and its task was idle
+pub record IsEmptied {K A T : Type 0} (eq : K → K → Bool) (k : K) (p : Share K T) (es fs : List (Arc K A × Place K T)) : Type 0 where
+  pub linked : IsLinked eq fs
+  pub listed : (cs : List K) (room : ℕ) → IsListed eq (shares_of es) (cs ++ k ∷ []) room → IsListed eq (shares_of fs) cs room
+  pub taken : IsTaken eq k p (shares_of es) (shares_of fs)
+
+pub emptied_at : {K A T : Type 0} (eq : K → K → Bool) → IsEquality eq → (es : List (Arc K A × Place K T)) (n : ℕ) (a : Arc K A) (k : K) (h w : Place K T) → IsLinked eq es → slice_get es n ≡ Some (a, h) → slice_get (names_of es) n ≡ Some k
+    → is_idle (share_of h) ≡ true → IsVacant (share_of w) → w.name ≡ None → w.askers.entries ≡ [] → w.waits.entries ≡ [] → IsEmptied eq k (share_of h) es (set_value_at es n w)
+emptied_at {K} {A} {T} eq law es n a k h w l g named idle vacant nameless none nothing = subst (λ x. IsEmptied eq x (share_of h) es fs) (same_Some (arc_value a) k (sym (key_named eq law es n a h g) ∙ named)) (record {
+  linked = linked_set eq (λ b. eq (arc_value a) (arc_value b)) es fs h w l i.set i.known (λ _ x y. absurd (subst (λ xs. Has xs x) none y)) (λ _ x y. absurd (subst (λ xs. Has xs x) nothing y));
+  listed = λ cs room m. taken_listed eq law (shares_of es) (shares_of fs) cs (arc_value a) (share_of w) room vacant (ap (option_map arc_value) nameless) (gone_so eq law (shares_of es) (shares_of fs) (arc_value a) (share_of w) d now) (kept_more eq law (shares_of es) (shares_of fs) (arc_value a) (share_of w) d now) m;
+  taken = taken_out eq law (shares_of es) (shares_of fs) (arc_value a) (share_of h) (share_of w) d (lookup_shares (eq (arc_value a)) es ∙ ap (option_map share_of) i.known) now idle vacant;
+})
+  where
+    fs : List (Arc K A × Place K T)
+    fs = set_value_at es n w
+
+    i : IsWritten eq a es fs h w
+    i = written_at eq law es fs n a h w l.distinct g refl
+
+    d : IsChanged eq (arc_value a) (λ p r. Unit {0}) (shares_of es) (shares_of fs)
+    d = changed_written eq law a es fs h w (λ p r. Unit {0}) i tt
+
+    now : lookup (eq (arc_value a)) (shares_of fs) ≡ Some (share_of w)
+    now = lookup_shares (eq (arc_value a)) fs ∙ ap (option_map share_of) i.here

@@ -17,27 +17,31 @@ use std::hash::Hash;
 use std::mem;
 use std::sync::Arc;
 
-/// Whether the key has a task that has not ended, and nobody asks for it.
+/// Whether the key of a number has a task that has not ended, and nobody asks for it.
 fn is_idle_at<K: Eq + Hash + Drop, T: Drop>(
     places: &IndexMap<Arc<K>, Place<K, T>, Seed>,
-    key: &Arc<K>,
+    at: usize,
 ) -> bool
-    ensures { result
-        ≡ is_for is_idle (lookup (K.eq (arc_value key.now)) (shares_of places.now.entries)) }
+    requires equality { IsEquality K.eq }
+    requires linked { IsLinked K.eq places.now.entries }
+    ensures { (k : K) → slice_get (names_of places.now.entries) at ≡ Some k
+        → result ≡ is_for is_idle (lookup (K.eq k) (shares_of places.now.entries)) }
 {
-    match places.get(key) {
-        Some(place) => is_unasked(place),
+    match places.get_index(at) {
+        Some((_, place)) => is_unasked(place),
         None => false,
     }
 }
 
-/// Gives a key that is no candidate any more back to its place.
+/// Gives a key that is no candidate any more back to its place, which is given by number.
 fn give_back<K: Eq + Hash + Drop, T: Drop>(
     places: &mut IndexMap<Arc<K>, Place<K, T>, Seed>,
+    at: usize,
     key: Arc<K>,
 )
     requires equality { IsEquality K.eq }
     requires linked { IsLinked K.eq places.old.entries }
+    requires named { slice_get (names_of places.old.entries) at ≡ Some (arc_value key) }
     requires busy { is_for is_idle (lookup (K.eq (arc_value key)) (shares_of places.old.entries))
         ≡ false }
     ensures linked { IsLinked K.eq places.new.entries }
@@ -46,19 +50,20 @@ fn give_back<K: Eq + Hash + Drop, T: Drop>(
         → IsListed K.eq (shares_of places.new.entries) cs room }
     ensures kept { IsKept K.eq (shares_of places.old.entries) (shares_of places.new.entries) }
 {
-    let Some(place) = places.get_mut(&key) else {
-        return;
+    let Some(place) = places.get_index_mut(at) else {
+        unreachable!();
     };
     place.name = Some(key);
 }
 
-/// Takes the task of a key out with what it waits for, if it has not ended and nobody asks for it;
-/// otherwise the key goes back to its place. The place stays, so that all numbers do.
+/// Takes the task of a key out, if it has not ended and nobody asks for it, and gives the number of
+/// the key, the key, the task and what it waits for; otherwise the key goes back to its place. The
+/// place stays, so that all numbers do.
 fn take_idle<K: Eq + Hash + Drop, T: Drop>(
     places: &mut IndexMap<Arc<K>, Place<K, T>, Seed>,
     alloc: Global,
     key: Arc<K>,
-) -> Option<(Arc<K>, T, SmallMap<K>)>
+) -> Option<(usize, Arc<K>, T, SmallMap<K>)>
     requires equality { IsEquality K.eq }
     requires linked { IsLinked K.eq places.old.entries }
     requires runs { AllRun K.eq (shares_of places.old.entries) }
@@ -66,35 +71,40 @@ fn take_idle<K: Eq + Hash + Drop, T: Drop>(
     ensures listed { (cs : List K) (room : ℕ)
         → IsListed K.eq (shares_of places.old.entries) (cs ++ arc_value key ∷ []) room
         → IsListed K.eq (shares_of places.new.entries) cs room }
-    ensures numbered { IfSome result (λ f. AreNumbered (names_of places.new.entries) f.2.entries) }
-    ensures some { IfSome result (λ f. IsPopped K.eq (arc_value f.0) f.1
-        (map arc_value (values_of f.2.entries)) (shares_of places.old.entries)
+    ensures named { IfSome result
+        (λ f. slice_get (names_of places.new.entries) f.0 ≡ Some (arc_value f.1)) }
+    ensures numbered { IfSome result (λ f. AreNumbered (names_of places.new.entries) f.3.entries) }
+    ensures some { IfSome result (λ f. IsPopped K.eq (arc_value f.1) f.2
+        (map arc_value (values_of f.3.entries)) (shares_of places.old.entries)
         (shares_of places.new.entries)) }
     ensures none { IfNone result
         (IsKept K.eq (shares_of places.old.entries) (shares_of places.new.entries)) }
 {
-    if !is_idle_at(places, &key) {
-        give_back(places, key);
+    let Some(at) = places.get_index_of(&key) else {
+        return None;
+    };
+    if !is_idle_at(places, at) {
+        give_back(places, at, key);
         return None;
     }
-    let Some(place) = places.get_mut(&key) else {
-        return None;
+    let Some(place) = places.get_index_mut(at) else {
+        unreachable!();
     };
     let empty = vacant(alloc, None);
     let taken = mem::replace(place, empty);
-    let Some(found) = taken.into_task() else {
-        return None;
+    let Some((task, waits)) = taken.into_task() else {
+        unreachable!();
     };
-    let (task, waits) = found;
-    Some((key, task, waits))
+    Some((at, key, task, waits))
 }
 
-/// Takes one task out that has not ended and that nobody asks for, with what it waits for.
+/// Takes one task out that has not ended and that nobody asks for, and gives the number of its key,
+/// the key, the task and what it waits for.
 pub fn pop_idle<K: Eq + Hash + Drop, T: Drop>(
     places: &mut IndexMap<Arc<K>, Place<K, T>, Seed>,
     candidates: &mut Vec<Arc<K>>,
     alloc: Global,
-) -> Option<(Arc<K>, T, SmallMap<K>)>
+) -> Option<(usize, Arc<K>, T, SmallMap<K>)>
     requires equality { IsEquality K.eq }
     requires linked { IsLinked K.eq places.old.entries }
     requires listed { IsListed K.eq (shares_of places.old.entries)
@@ -102,9 +112,11 @@ pub fn pop_idle<K: Eq + Hash + Drop, T: Drop>(
     ensures linked { IsLinked K.eq places.new.entries }
     ensures listed { IsListed K.eq (shares_of places.new.entries)
         (map arc_value candidates.new.items) (vec_capacity candidates.new) }
-    ensures numbered { IfSome result (λ f. AreNumbered (names_of places.new.entries) f.2.entries) }
-    ensures some { IfSome result (λ f. IsPopped K.eq (arc_value f.0) f.1
-        (map arc_value (values_of f.2.entries)) (shares_of places.old.entries)
+    ensures named { IfSome result
+        (λ f. slice_get (names_of places.new.entries) f.0 ≡ Some (arc_value f.1)) }
+    ensures numbered { IfSome result (λ f. AreNumbered (names_of places.new.entries) f.3.entries) }
+    ensures some { IfSome result (λ f. IsPopped K.eq (arc_value f.1) f.2
+        (map arc_value (values_of f.3.entries)) (shares_of places.old.entries)
         (shares_of places.new.entries)) }
     ensures none { IfNone result (IsKept K.eq (shares_of places.old.entries)
         (shares_of places.new.entries) × NoneIdle K.eq (shares_of places.new.entries)) }

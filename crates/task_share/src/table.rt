@@ -362,14 +362,14 @@ impl<K: Eq + Hash + Drop, T: Drop> Table<K, T> {
             × KeepsTasks K.eq self.old self.new × KeepsAsks K.eq self.old self.new
             × KeepsRoom K.eq self.old self.new) }
     {
-        let Some((key, task, waits)) = pop_idle(&mut self.places, &mut self.candidates, self.alloc)
-        else {
+        let Some((at, key, task, waits)) = pop_idle(
+            &mut self.places,
+            &mut self.candidates,
+            self.alloc,
+        ) else {
             return None;
         };
-        let Some(from) = self.places.get_index_of(&key) else {
-            unreachable!();
-        };
-        withdraw(&mut self.places, &mut self.candidates, from, waits);
+        withdraw(&mut self.places, &mut self.candidates, at, waits);
         Some((key, task))
     }
 
