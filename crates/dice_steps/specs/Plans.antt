@@ -19,7 +19,9 @@ use Rattle.dice_tasks.specs.Makings.{IsMaking, IsOfKey}
 use Rattle.dice_tasks.specs.declared.making.Making.{Making}
 use Rattle.dice_tasks.specs.declared.making.Making.TheVariants.{Join, Match, Run, Check}
 use Rattle.dice_steps.specs.Orders.{AreLastFirst}
-use Rattle.dice_steps.specs.Taken.{HasNoPath, IsPathOf, EndsByCycle, MakesTasks, WaitsFor, GoesOnWith}
+use Rattle.dice_steps.specs.Taken.{HasNoPath, IsPathAt, IsPathOf, EndsByCycle, MakesTasks, WaitsFor, GoesOnWith}
+use Rattle.dice_steps.specs.declared.plan.Met.{Met}
+use Rattle.dice_steps.specs.declared.plan.Met.TheVariants as met
 use Rattle.dice_steps.specs.declared.plan.Part.{Part}
 use Rattle.dice_steps.specs.declared.plan.Survey.{Survey}
 use Rattle.dice_steps.specs.declared.plan.Survey.TheVariants as survey
@@ -75,6 +77,11 @@ module _ {U K V R : Type 0} (eq : K → K → Bool) (m : Meaning K V) (v born : 
     pub apart : (p : Part U K V R) → Has xs p → Leads (asked_of eq ps) (key_in p) k → ⊥
     pub distinct : AreDistinct (map key_in xs)
     pub all : (q : K) → Has ks q → (m.kind q ≡ Injected) ⊎ ((p : Part U K V R) × Has xs p × (key_in p ≡ q))
+
+  -- what the key q comes to, if the task of k asks for it: a cycle, or its part, and no wait for it would close a cycle
+  abbrev pub IsMet : K → K → Met U K V R → Type 0
+  IsMet k q (met.Cycle path) = IsPathAt eq ps k q (arc_value path)
+  IsMet k q (met.Part p) = IsPart p × (key_in p ≡ q) × (Leads (asked_of eq ps) q k → ⊥)
 
   -- what a batch comes to: a cycle, or its parts, the last first
   abbrev pub IsSurvey : K → List K → Survey U K V R → Type 0

@@ -15,8 +15,9 @@ ghost use Rattle.dice_steps.specs.AtHand.{AtHand};
 ghost use Rattle.dice_tasks.specs.CyclePaths.{path_with};
 ghost use Rattle.dice_tasks.specs.Helds.{held_of};
 ghost use Rattle.dice_tasks.specs.Hands.{KeepsHands, KeepsDeskRoom, tasks_of};
-ghost use Rattle.dice_steps.specs.Plans.{key_in, waits_of, is_awaited, IsAtHand, HasNone, IsPart, IsSurvey, ArePlaced, IsPlan, IfEnds};
-ghost use Rattle.dice_steps.specs.Taken.{HasNoPath, IsPathAt};
+ghost use Rattle.dice_steps.specs.Plans.{key_in, waits_of, is_awaited, IsAtHand, HasNone, IsMet, IsSurvey, ArePlaced, IsPlan, IfEnds};
+ghost use Rattle.dice_tasks.specs.Makings.{IsFree};
+ghost use Rattle.dice_steps.specs.Taken.{HasNoPath, IsPathAt, MayWaitFor};
 ghost use Rattle.lists.specs.Lists.{Has};
 
 use crate::agreed::holds_at_both;
@@ -24,12 +25,12 @@ use crate::noted::note;
 use cycle_guard::{count_above, would_close};
 use dice_jobs::Assignment;
 use dice_key::{Answers, Batch, KeyRef, Kind, NoMemory, Path, Seed, Universe, ValueRef, laws_of};
-use dice_tasks::{Desk, Making, Next, Owners, Tasks, looked, prepare};
+use dice_tasks::{Desk, Making, Next, Owners, Tasks, looked, prepare, prepare_anew};
 use injected::Cells;
 use std::alloc::Global;
 use std::collections::HashSet;
 use std::sync::Arc;
-use task_share::Wait;
+use task_share::{Wait, table_in_order};
 use versioned_graph::{Found, Graph};
 
 /// Up to so many keys are compared each with each; of more a set is made.
@@ -41,6 +42,13 @@ pub(crate) struct Part<U: Universe> {
     pub(crate) key: KeyRef<U>,
     pub(crate) making: Making<U>,
     pub(crate) awaited: bool,
+}
+
+/// What one key of a batch comes to: a cycle, or its part.
+#[derive(Drop)]
+pub(crate) enum Met<U: Universe> {
+    Cycle(Arc<Path<U::Key>>),
+    Part(Part<U>),
 }
 
 /// What the keys of a batch come to.
@@ -176,12 +184,13 @@ fn look_at<U: Universe>(
     if let Kind::Injected = universe.kind(key) {
         return Ok(Survey::Parts(parts));
     }
-    if let Some(path) = cycle_at::<U>(alloc, tasks, own, key)? {
-        return Ok(Survey::Cycle(path));
+    match meet::<U>(alloc, graph, tasks, version, own, key, born)? {
+        Met::Cycle(path) => Ok(Survey::Cycle(path)),
+        Met::Part(part) => {
+            parts.push(part)?;
+            Ok(Survey::Parts(parts))
+        }
     }
-    let part = part_of::<U>(alloc, graph, tasks, version, key, born)?;
-    parts.push(part)?;
-    Ok(Survey::Parts(parts))
 }
 
 /// What a few keys come to, in their order; each is looked at where it stands first. Those that
@@ -205,11 +214,10 @@ fn look_over_few<U: Universe>(
         if is_passed::<U>(universe, &parts, key) {
             continue;
         }
-        if let Some(path) = cycle_at::<U>(alloc, tasks, own, key)? {
-            return Ok(Survey::Cycle(path));
+        match meet::<U>(alloc, graph, tasks, version, own, key, born)? {
+            Met::Cycle(path) => return Ok(Survey::Cycle(path)),
+            Met::Part(part) => parts.push(part)?,
         }
-        let part = part_of::<U>(alloc, graph, tasks, version, key, born)?;
-        parts.push(part)?;
     }
     parts.reverse();
     Ok(Survey::Parts(parts))
@@ -268,11 +276,10 @@ fn look_over_all<U: Universe>(
         if !is_new::<U>(universe, &mut seen, key)? {
             continue;
         }
-        if let Some(path) = cycle_at::<U>(alloc, tasks, own, key)? {
-            return Ok(Survey::Cycle(path));
+        match meet::<U>(alloc, graph, tasks, version, own, key, born)? {
+            Met::Cycle(path) => return Ok(Survey::Cycle(path)),
+            Met::Part(part) => parts.push(part)?,
         }
-        let part = part_of::<U>(alloc, graph, tasks, version, key, born)?;
-        parts.push(part)?;
     }
     parts.reverse();
     Ok(Survey::Parts(parts))
@@ -297,6 +304,52 @@ fn is_new<U: Universe>(
     match universe.kind(key) {
         Kind::Injected => Ok(false),
         _ => note(seen, key),
+    }
+}
+
+/// What a key that is not injected comes to, if the task of `own` asks for it. One that has no place
+/// in the table is looked up there once.
+fn meet<U: Universe>(
+    alloc: Global,
+    graph: &Graph<U>,
+    tasks: &Tasks<U>,
+    version: u64,
+    own: &KeyRef<U>,
+    key: &KeyRef<U>,
+    born: u64,
+) -> Result<Met<U>, NoMemory>
+    requires { U.meaning.kind (arc_value key.now) ≢ Injected }
+    ensures { IfOk result (IsMet U.Key.eq U.meaning version born tasks.now graph.now
+        (arc_value own.now) (arc_value key.now)) }
+{
+    let name = Arc::try_clone(key)?;
+    let making = if is_unplaced::<U>(tasks, own, key) {
+        prepare_anew::<U>(alloc, graph, version, key, born)?
+    } else {
+        if let Some(path) = cycle_at::<U>(alloc, tasks, own, key)? {
+            return Ok(Met::Cycle(path));
+        }
+        prepare::<U>(alloc, graph, tasks, version, key, born)?
+    };
+    let awaited = is_awaited::<U>(tasks, key, &making);
+    Ok(Met::Part(Part {
+        key: name,
+        making,
+        awaited,
+    }))
+}
+
+/// Whether a key is another than `own`, and has no place in the table. Then it has no task, and
+/// waits for nothing.
+fn is_unplaced<U: Universe>(tasks: &Tasks<U>, own: &KeyRef<U>, key: &KeyRef<U>) -> bool
+    ensures free { result ≡ true → IsFree (task_at U.Key.eq tasks.now (arc_value key.now)) }
+    ensures waits { result ≡ true
+        → MayWaitFor U.Key.eq tasks.now (arc_value own.now) (arc_value key.now) }
+{
+    table_in_order(tasks);
+    match tasks.number(key) {
+        Some(_) => false,
+        None => **own != **key,
     }
 }
 
@@ -332,30 +385,6 @@ fn ended_by_cycle<'a, U: Universe>(
         ≡ path_with (task_at U.Key.eq tasks.now (arc_value key.now)) }
 {
     tasks.task(key)?.cycle()
-}
-
-/// What is planned of a key that is not injected, and whose task has not ended with a cycle.
-fn part_of<U: Universe>(
-    alloc: Global,
-    graph: &Graph<U>,
-    tasks: &Tasks<U>,
-    version: u64,
-    key: &KeyRef<U>,
-    born: u64,
-) -> Result<Part<U>, NoMemory>
-    requires computed { U.meaning.kind (arc_value key.now) ≢ Injected }
-    requires whole { HasNoPath U.Key.eq tasks.now (arc_value key.now) }
-    ensures part { IfOk result (IsPart U.Key.eq U.meaning version born tasks.now graph.now) }
-    ensures key { IfOk result (λ p. key_in p ≡ arc_value key.now) }
-{
-    let own = Arc::try_clone(key)?;
-    let making = prepare::<U>(alloc, graph, tasks, version, key, born)?;
-    let awaited = is_awaited::<U>(tasks, key, &making);
-    Ok(Part {
-        key: own,
-        making,
-        awaited,
-    })
 }
 
 /// Whether a key is waited for if this is made of it.

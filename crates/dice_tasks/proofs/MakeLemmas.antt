@@ -26,13 +26,10 @@ use Rattle.core_laws.proofs.StepsMakes.{starts_stand, matches_stand, checks_stan
 use Rattle.core_laws.proofs.StepsWanted.{AllWanted, all_wanted_on, all_wanted_made, all_wanted_ended, wanted_on}
 use Rattle.dice_tasks.specs.Helds.{Held, task_of, held_ended}
 use Rattle.dice_tasks.specs.Hands.{DeskSeen, desk_of, Stays, Readies, Working, AreNamed, tasks_of, seen_world, with_event, with_made}
-use Rattle.versioned_graph.specs.Entries.{Stored, entry_at}
-use Rattle.versioned_graph.specs.Looks.{Look, look}
+use Rattle.versioned_graph.specs.Entries.{Stored}
 use Rattle.dice_tasks.specs.Entries.{EntriesStand, IsMatched}
 use Rattle.dice_tasks.proofs.EntriesLemmas.{stand_start}
-use Rattle.dice_tasks.specs.Makings.{IsFree, HasMakeRoom, MayMake, Makes, MakesEnded, IsMaking, IsMakingFor, held_run, held_check}
-use Rattle.dice_tasks.specs.declared.making.Making.{Making}
-use Rattle.dice_tasks.specs.declared.making.Making.TheVariants.{Join, Match, Run, Check}
+use Rattle.dice_tasks.specs.Makings.{IsFree, HasMakeRoom, MayMake, Makes, MakesEnded, held_run, held_check}
 use Rattle.lists.specs.Lists.{Has}
 
 -- the same things pass the test, in another order
@@ -292,11 +289,3 @@ module _ {K V : Type 0} (eq : K → K → Bool) (equality : IsEquality eq) (m : 
     named = h.named;
     wanted = h.wanted;
   }
-
-module _ {U K V A : Type 0} (eq : K → K → Bool) (m : Meaning K V) (v : ℕ) (k : K) (born : ℕ) (ps : List (K × Share K (Held K V))) (es : List (K × Stored K V)) where
-  -- what is made by what a look-up says, if the key has no task
-  pub making_of : (o : Look K V) → o ≡ look m.is_transient (entry_at eq es k) v → IsFree (task_at eq ps k) → (p : Making U K V A) → IsMakingFor v k born o p → IsMaking eq m v k born ps es p
-  making_of o e f Join h = absurd h
-  making_of o e f (Match event base task) h = (f, (h.0, sym e ∙ h.1, h.2))
-  making_of o e f (Run event cause ready task) h = (f, (h.0, sym e ∙ h.1, h.2, h.3))
-  making_of o e f (Check ready task) h = (f, (h.0, h.1, h.2, sym e ∙ h.3, h.4))

@@ -14,7 +14,7 @@ ghost use Rattle.core_laws.specs.Stands.{WasSeen};
 ghost use Rattle.core_laws.specs.Tasks.{WithValue};
 ghost use Rattle.dice_key.specs.Meaning.{Answered};
 ghost use Rattle.dice_key.specs.declared.universe.Kind.TheVariants.{Injected};
-ghost use Rattle.versioned_graph.specs.Looks.{Matches, Computes, Checks};
+ghost use Rattle.versioned_graph.specs.Looks.{Matches, Computes, Checks, look};
 ghost use Rattle.dice_tasks.specs.Loads.{AreCopies};
 ghost use Rattle.dice_tasks.specs.Entries.{EntriesStand, IsMatched};
 ghost use Rattle.dice_tasks.specs.Helds.{held_ended};
@@ -303,6 +303,33 @@ fn prepare_check<U: Universe>(
     Ok(Making::Check { ready, task })
 }
 
+/// What is to be made of a key that has no task, or one that was given up, by what a look-up at the
+/// version says. The key is not injected, and the journal has `born` events. It takes the memory for
+/// it, and changes nothing.
+pub fn prepare_anew<U: Universe>(
+    alloc: Global,
+    graph: &Graph<U>,
+    version: u64,
+    key: &KeyRef<U>,
+    born: u64,
+) -> Result<Making<U>, NoMemory>
+    requires { U.meaning.kind (arc_value key.now) ≢ Injected }
+    ensures making { IfOk result (IsMakingFor version (arc_value key.now) born
+        (look U.meaning.is_transient (entry_at U.Key.eq graph.now (arc_value key.now)) version)) }
+    ensures own { IfOk result (IsOfKey version (arc_value key.now)) }
+{
+    match looked::<U>(graph, key, version) {
+        Found::Match(value, base) => prepare_match::<U>(version, key, born, value, base),
+        Found::Compute(why) => prepare_run::<U>(alloc, version, key, born, why),
+        Found::CheckDeps(value, trace, base) => {
+            let value = Arc::try_clone(value)?;
+            let trace = Arc::try_clone(trace)?;
+            let earlier = Earlier { value, trace, base };
+            prepare_check::<U>(alloc, version, key, born, earlier)
+        }
+    }
+}
+
 /// What is to be made of a key, which is not injected, at a version, when the journal has `born`
 /// events: nothing if it has a task that was not given up, otherwise what a look-up says. It takes
 /// the memory for it, and changes nothing.
@@ -322,14 +349,5 @@ pub fn prepare<U: Universe>(
     if has_task::<U>(tasks, key) {
         return Ok(Making::Join);
     }
-    match looked::<U>(graph, key, version) {
-        Found::Match(value, base) => prepare_match::<U>(version, key, born, value, base),
-        Found::Compute(why) => prepare_run::<U>(alloc, version, key, born, why),
-        Found::CheckDeps(value, trace, base) => {
-            let value = Arc::try_clone(value)?;
-            let trace = Arc::try_clone(trace)?;
-            let earlier = Earlier { value, trace, base };
-            prepare_check::<U>(alloc, version, key, born, earlier)
-        }
-    }
+    prepare_anew::<U>(alloc, graph, version, key, born)
 }

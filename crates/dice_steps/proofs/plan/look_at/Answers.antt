@@ -19,28 +19,28 @@ returns-in-Injected g c =
     subst (λ zs. AreParts eq m c.args.version c.args.born c.args.tasks.now c.args.graph.now own (k ∷ []) zs × AreLastFirst (k ∷ []) (map key_in zs)) (sym c.new-parts.ensures.items)
     (parts_skip eq m c.args.version c.args.born c.args.tasks.now c.args.graph.now own [] k [] (parts_none eq m c.args.version c.args.born c.args.tasks.now c.args.graph.now own) (inl injected), λ x y h. absurd h)
 
-pub returns-in-Some : goal.returns-in-Some
-returns-in-Some g c = record {
+pub returns-in-Cycle : goal.returns-in-Cycle
+returns-in-Cycle g c = record {
   before = [];
   key = arc_value c.args.key.now;
   later = [];
   all = refl;
   earlier = λ q h. absurd h;
-  found = rw c.in-Some.is at c.in_ok-path.ensures.some;
+  found = rw c.in-Cycle.is at c.in_ok-path.ensures;
 }
 
-pub returns : goal.returns
-returns g c =
+pub returns-in_ok-push-in-Part : goal.returns-in_ok-push-in-Part
+returns-in_ok-push-in-Part g c =
     let eq = g.U.Key.PartialEq.eq in
     let m = g.U.Universe.meaning in
     let own = arc_value c.args.own.now in
     let k = arc_value c.args.key.now in
-    let p = c.in_ok-part.part in
-    let is = c.in_ok-part.ensures.key in
-    let apart = rw c.in_default-2.is at c.in_ok-path.ensures.apart in
-    subst (λ zs. AreParts eq m c.args.version c.args.born c.args.tasks.now c.args.graph.now own (k ∷ []) zs × AreLastFirst (k ∷ []) (map key_in zs)) (sym c.in_ok-push.ensures.items)
+    let p = c.in-Part.part in
+    let met = rw c.in-Part.is at c.in_ok-path.ensures in
+    let is = met.1 in
+    subst (λ zs. AreParts eq m c.args.version c.args.born c.args.tasks.now c.args.graph.now own (k ∷ []) zs × AreLastFirst (k ∷ []) (map key_in zs)) (sym c.in_ok-push-in-Part.ensures.items)
     (subst (λ zs. AreParts eq m c.args.version c.args.born c.args.tasks.now c.args.graph.now own (k ∷ []) (zs ++ p ∷ []) × AreLastFirst (k ∷ []) (map key_in (zs ++ p ∷ []))) (sym c.new-parts.ensures.items) (
       subst (λ z. AreParts eq m c.args.version c.args.born c.args.tasks.now c.args.graph.now own (z ∷ []) (p ∷ [])) is
-          (parts_more eq m c.args.version c.args.born c.args.tasks.now c.args.graph.now own [] [] p (parts_none eq m c.args.version c.args.born c.args.tasks.now c.args.graph.now own) c.in_ok-part.ensures.part (subst (λ z. Leads (asked_of eq c.args.tasks.now) z own → ⊥) (sym is) apart) (λ h. h)),
+          (parts_more eq m c.args.version c.args.born c.args.tasks.now c.args.graph.now own [] [] p (parts_none eq m c.args.version c.args.born c.args.tasks.now c.args.graph.now own) met.0 (subst (λ z. Leads (asked_of eq c.args.tasks.now) z own → ⊥) (sym is) met.2) (λ h. h)),
       order_one (k ∷ []) (key_in p),
     ))

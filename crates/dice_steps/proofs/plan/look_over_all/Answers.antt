@@ -12,14 +12,14 @@ use Rattle.dice_steps.proofs.SurveyLemmas.{batch_at, comes_to_none, seen_same, s
 use Rattle.dice_steps.proofs.plan.look_over_all.Goals as goal
 use Rattle.lists.specs.Lists.{Has}
 
-pub returns-in-Some : goal.returns-in-Some
-returns-in-Some g c = record {
+pub returns-in-Cycle : goal.returns-in-Cycle
+returns-in-Cycle g c = record {
   before = map arc_value (take c.loop-key.key-index c.args.keys.now);
   key = arc_value c.key-item.result;
   later = (batch_at c.args.keys.now c.loop-key.key-index c.key-item.result c.loop-key-test.true c.key-item.is).0;
   all = (batch_at c.args.keys.now c.loop-key.key-index c.key-item.result c.loop-key-test.true c.key-item.is).1;
   earlier = comes_to_none g.U.Key.PartialEq.eq c.laws_of.ensures.keys g.U.Universe.meaning c.args.version c.args.born c.args.tasks.now c.args.graph.now (arc_value c.args.own.now) c.args.keys.now c.loop-key.key-index c.key-item.result c.loop-key-test.true c.key-item.is c.loop-key.parts.items c.loop-key.invariant.parts;
-  found = rw c.in-Some.is at c.in_ok-path.ensures.some;
+  found = rw c.in-Cycle.is at c.in_ok-path.ensures;
 }
 
 pub loop-key-init : goal.loop-key-init
@@ -52,18 +52,18 @@ loop-key-preserved g c =
     let m = g.U.Universe.meaning in
     let x = c.key-item.result in
     let xs = c.loop-key.parts.items in
-    let p = c.in_ok-part.part in
+    let p = c.in-Part.part in
     let new = rw c.if-not-branch.false at c.in_ok-is_new.ensures.new in
-    let apart = rw c.in_default.is at c.in_ok-path.ensures.apart in
-    let k = c.in_ok-part.ensures.key in
+    let met = rw c.in-Part.is at c.in_ok-path.ensures in
+    let k = met.1 in
     record {
-      parts = subst (λ zs. AreParts eq m c.args.version c.args.born c.args.tasks.now c.args.graph.now (arc_value c.args.own.now) (map arc_value (take (c.loop-key.key-index + 1) c.args.keys.now)) zs) (sym c.in_ok-push.ensures.items)
-          (adds eq law m c.args.version c.args.born c.args.tasks.now c.args.graph.now (arc_value c.args.own.now) c.args.keys.now c.loop-key.key-index x c.loop-key-test.true c.key-item.is xs c.loop-key.invariant.parts p k c.in_ok-part.ensures.part apart
+      parts = subst (λ zs. AreParts eq m c.args.version c.args.born c.args.tasks.now c.args.graph.now (arc_value c.args.own.now) (map arc_value (take (c.loop-key.key-index + 1) c.args.keys.now)) zs) (sym c.in_ok-push-in-Part.ensures.items)
+          (adds eq law m c.args.version c.args.born c.args.tasks.now c.args.graph.now (arc_value c.args.own.now) c.args.keys.now c.loop-key.key-index x c.loop-key-test.true c.key-item.is xs c.loop-key.invariant.parts p k met.0 met.2
           (unseen eq law c.loop-key.seen.keys c.is_new.new.seen.keys (map key_in xs) (arc_value x) c.loop-key.invariant.seen new.1));
-      order = subst (λ zs. AreInOrder (map arc_value (take (c.loop-key.key-index + 1) c.args.keys.now)) (map key_in zs)) (sym c.in_ok-push.ensures.items)
+      order = subst (λ zs. AreInOrder (map arc_value (take (c.loop-key.key-index + 1) c.args.keys.now)) (map key_in zs)) (sym c.in_ok-push-in-Part.ensures.items)
           (adds_on eq law m c.args.version c.args.born c.args.tasks.now c.args.graph.now (arc_value c.args.own.now) c.args.keys.now c.loop-key.key-index x c.loop-key-test.true c.key-item.is xs c.loop-key.invariant.parts p k new.0
           (unseen eq law c.loop-key.seen.keys c.is_new.new.seen.keys (map key_in xs) (arc_value x) c.loop-key.invariant.seen new.1) c.loop-key.invariant.order);
-      seen = subst (λ zs. AreSeen eq c.is_new.new.seen.keys (map key_in zs)) (sym c.in_ok-push.ensures.items) (subst (AreSeen eq c.is_new.new.seen.keys) (sym (map_last key_in xs p))
+      seen = subst (λ zs. AreSeen eq c.is_new.new.seen.keys (map key_in zs)) (sym c.in_ok-push-in-Part.ensures.items) (subst (AreSeen eq c.is_new.new.seen.keys) (sym (map_last key_in xs p))
           (subst (λ z. AreSeen eq c.is_new.new.seen.keys (map key_in xs ++ z ∷ [])) (sym k)
           (seen_new eq law c.loop-key.seen.keys c.is_new.new.seen.keys (map key_in xs) (arc_value x) c.loop-key.invariant.seen _ c.if-not-branch.false c.in_ok-is_new.ensures.seen)));
     }

@@ -10,8 +10,8 @@ use Rattle.dice_steps.proofs.SurveyLemmas.{batch_at, comes_to_none, skips, skips
 use Rattle.dice_steps.proofs.plan.look_over_few.Goals as goal
 use Rattle.lists.specs.Lists.{Has}
 
-pub returns-in-Some : goal.returns-in-Some
-returns-in-Some g c =
+pub returns-in-Cycle : goal.returns-in-Cycle
+returns-in-Cycle g c =
     let at = batch_at c.args.keys.now c.loop-key.key-index c.key-item.result c.loop-key-test.true c.key-item.is in
     record {
       before = map arc_value (take c.loop-key.key-index c.args.keys.now);
@@ -19,7 +19,7 @@ returns-in-Some g c =
       later = at.0;
       all = at.1;
       earlier = comes_to_none g.U.Key.PartialEq.eq c.laws_of.ensures.keys g.U.Universe.meaning c.args.version c.args.born c.args.tasks.now c.args.graph.now (arc_value c.args.own.now) c.args.keys.now c.loop-key.key-index c.key-item.result c.loop-key-test.true c.key-item.is c.loop-key.parts.items c.loop-key.invariant.parts;
-      found = rw c.in-Some.is at c.in_ok-path.ensures.some;
+      found = rw c.in-Cycle.is at c.in_ok-path.ensures;
     }
 
 pub loop-key-init : goal.loop-key-init
@@ -45,14 +45,15 @@ loop-key-preserved g c =
     let m = g.U.Universe.meaning in
     let x = arc_value c.key-item.result in
     let new = subst (λ zs. (m.kind x ≢ Injected) × (Has (map key_in zs) x → ⊥)) c.deref.ensures.value (rw c.if-is_passed.false at c.is_passed.ensures) in
-    let apart = rw c.in_default.is at c.in_ok-path.ensures.apart in
+    let p = c.in-Part.part in
+    let met = rw c.in-Part.is at c.in_ok-path.ensures in
     let so_far = c.loop-key.invariant in
     let xs = c.loop-key.parts.items in
     record {
-      parts = subst (λ zs. AreParts eq m c.args.version c.args.born c.args.tasks.now c.args.graph.now (arc_value c.args.own.now) (map arc_value (take (c.loop-key.key-index + 1) c.args.keys.now)) zs) (sym c.in_ok-push.ensures.items)
-          (adds eq c.laws_of.ensures.keys m c.args.version c.args.born c.args.tasks.now c.args.graph.now (arc_value c.args.own.now) c.args.keys.now c.loop-key.key-index c.key-item.result c.loop-key-test.true c.key-item.is xs so_far.parts c.in_ok-part.part c.in_ok-part.ensures.key c.in_ok-part.ensures.part apart new.1);
-      order = subst (λ zs. AreInOrder (map arc_value (take (c.loop-key.key-index + 1) c.args.keys.now)) (map key_in zs)) (sym c.in_ok-push.ensures.items)
-          (adds_on eq c.laws_of.ensures.keys m c.args.version c.args.born c.args.tasks.now c.args.graph.now (arc_value c.args.own.now) c.args.keys.now c.loop-key.key-index c.key-item.result c.loop-key-test.true c.key-item.is xs so_far.parts c.in_ok-part.part c.in_ok-part.ensures.key new.0 new.1 so_far.order);
+      parts = subst (λ zs. AreParts eq m c.args.version c.args.born c.args.tasks.now c.args.graph.now (arc_value c.args.own.now) (map arc_value (take (c.loop-key.key-index + 1) c.args.keys.now)) zs) (sym c.in_ok-push-in-Part.ensures.items)
+          (adds eq c.laws_of.ensures.keys m c.args.version c.args.born c.args.tasks.now c.args.graph.now (arc_value c.args.own.now) c.args.keys.now c.loop-key.key-index c.key-item.result c.loop-key-test.true c.key-item.is xs so_far.parts p met.1 met.0 met.2 new.1);
+      order = subst (λ zs. AreInOrder (map arc_value (take (c.loop-key.key-index + 1) c.args.keys.now)) (map key_in zs)) (sym c.in_ok-push-in-Part.ensures.items)
+          (adds_on eq c.laws_of.ensures.keys m c.args.version c.args.born c.args.tasks.now c.args.graph.now (arc_value c.args.own.now) c.args.keys.now c.loop-key.key-index c.key-item.result c.loop-key-test.true c.key-item.is xs so_far.parts p met.1 new.0 new.1 so_far.order);
     }
 
 pub returns : goal.returns
