@@ -1,18 +1,16 @@
 -- A check goes on without a comparison if the one key that it asks has the same value at its base.
-use Rattle.std.proofs.Common.{◌≡◌, ◌≢◌, inl, inr, ◌≤◌, ℕ, Bool, true, List, [], ◌∷◌, ◌++◌, length, reverse, Option, Some, refl, sym, ap, ◌∙◌, subst, append_assoc}
+use Rattle.std.proofs.Common.{◌≡◌, inl, inr, ◌≤◌, ℕ, Bool, true, List, [], ◌∷◌, ◌++◌, length, reverse, Option, Some, refl, sym, ap, ◌∙◌, subst, append_assoc}
 use Rattle.std.specs.List.{AllZip}
 use Rattle.std.specs.Option.{option_map}
 use Rattle.std.proofs.lemmas.Option.{same_Some, none-some}
 use Rattle.dice_key.specs.Lawful.{IsEquality, IsLawful}
 use Rattle.dice_key.specs.Meaning.{Meaning, Answered}
-use Rattle.dice_key.specs.declared.universe.Kind.TheVariants.{Injected}
 use Rattle.dice_model.specs.Asks.{Goes}
 use Rattle.dice_model.specs.Eval.{HasValue}
 use Rattle.dice_model.proofs.EvalLaws.{one_value}
 use Rattle.dice_model.proofs.Traces.{zip_map}
-use Rattle.dice_jobs.specs.Jobs.{Assigned, Waits, Agrees, AreOfTrace, answered_more}
-use Rattle.task_share.specs.Asked.{Tasked}
-use Rattle.task_share.specs.Seen.{Share, task_at, asks, asked_of, KeepsTasks}
+use Rattle.dice_jobs.specs.Jobs.{Assigned, Agrees, AreOfTrace, answered_more}
+use Rattle.task_share.specs.Seen.{Share, task_at, asked_of, KeepsTasks}
 use Rattle.injected.specs.Seen.{Seen}
 use Rattle.injected.proofs.LogLemmas.{log_inputs}
 use Rattle.journal.specs.declared.event.Told.{Told}
@@ -24,7 +22,7 @@ use Rattle.core_laws.specs.Desk.{World}
 use Rattle.dice_tasks.specs.Helds.{Held, task_of, held_of}
 use Rattle.dice_tasks.specs.Hands.{DeskSeen, tasks_of}
 use Rattle.dice_tasks.specs.Entries.{EntriesStand}
-use Rattle.dice_steps.specs.Agreements.{HoldsAtBase, HoldsAtBoth, IsEntryOf, AgreesIfKept, AllAgreeIfKept}
+use Rattle.dice_steps.specs.Agreements.{HoldsAtBase, HoldsAtBoth, AllAgreeIfKept}
 use Rattle.dice_steps.specs.AtHand.{AtHand}
 use Rattle.dice_steps.specs.Plans.{IsAtHand}
 use Rattle.dice_steps.specs.Wokens.{IsAnswer}

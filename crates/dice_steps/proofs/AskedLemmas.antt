@@ -1,8 +1,8 @@
 -- The batch that a step asks is the next one of its task.
-use Rattle.std.proofs.Common.{◌≡◌, Bool, List, [], ◌∷◌, ◌++◌, refl, sym, ap, ◌∙◌, subst}
-use Rattle.dice_key.specs.Meaning.{Meaning, Answered, Step, Asks, Ends}
+use Rattle.std.proofs.Common.{◌≡◌, Bool, List, ◌∷◌, ◌++◌, sym, ap, ◌∙◌, subst}
+use Rattle.dice_key.specs.Meaning.{Meaning, Answered}
 use Rattle.dep_recorder.specs.Checks.{values_of, IsNextBatch}
-use Rattle.dice_jobs.specs.Jobs.{Assigned, Work, Computes, Checks, Outcome, Wanting, Valued, of_move, comes, outcome_of, Explains, IsExplained}
+use Rattle.dice_jobs.specs.Jobs.{Assigned, Work, Computes, Checks, Outcome, Wanting, comes, outcome_of, Explains, IsExplained}
 use Rattle.journal.specs.declared.event.Told.{Told}
 use Rattle.core_laws.specs.Tasks.{IsWaiting}
 use Rattle.core_laws.specs.Stands.{AsksNext, WorkStands}

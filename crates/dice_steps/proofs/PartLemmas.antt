@@ -1,10 +1,10 @@
 -- The parts of a batch: one after the other, turned round, and over a table in which nothing but room has changed.
-use Rattle.std.proofs.Common.{◌≡◌, ◌⊎◌, inl, inr, ◌<◌, ◌+◌, ℕ, Bool, true, false, cond, List, [], ◌∷◌, ◌++◌, length, map, filter, reverse, take, get_or, Option, refl, sym, ap, ◌∙◌, subst, arith}
+use Rattle.std.proofs.Common.{◌≡◌, ◌⊎◌, inl, inr, ◌<◌, ◌+◌, ℕ, Bool, true, false, cond, List, [], ◌∷◌, ◌++◌, length, map, filter, reverse, take, get_or, Option, refl, sym, ap, ◌∙◌, subst}
 use Rattle.std.specs.Arc.{arc_value}
 use Rattle.std.specs.declared.sync.Arc.{Arc}
 use Rattle.std.specs.List.{AllZip}
 use Rattle.std.specs.Option.{option_map}
-use Rattle.std.proofs.lemmas.List.{map-append, reverse-append, take_more}
+use Rattle.std.proofs.lemmas.List.{map-append, take_more}
 use Rattle.dice_key.specs.Meaning.{Meaning}
 use Rattle.dice_key.specs.declared.universe.Kind.TheVariants.{Injected}
 use Rattle.task_share.specs.Asked.{WaitOf, Leads}
@@ -20,7 +20,6 @@ use Rattle.dice_tasks.specs.declared.making.Making.TheVariants.{Join, Match, Run
 use Rattle.dice_steps.specs.declared.plan.Part.{Part}
 use Rattle.dice_tasks.proofs.EndsLemmas.{same_asked}
 use Rattle.lists.proofs.Distinct.{distinct_end}
-use Rattle.lists.proofs.Each.{zip_end, zip_length}
 use Rattle.lists.proofs.Members.{has_end, has_last, has_map, has_mapped, has_more, has_reverse, reverse_has, reverse_more}
 use Rattle.lists.specs.Lists.{AreDistinct, Has}
 

@@ -9,7 +9,6 @@ use Rattle.journal.specs.declared.event.Told.TheVariants.{Start, Keep, End, Cycl
 use Rattle.journal.specs.Events.{commits_of, open_count}
 use Rattle.core_laws.proofs.StepsWanted.{IsOfTask}
 use Rattle.dice_steps.specs.Cells.{CellsStand}
-use Rattle.lists.proofs.Each.{all_append}
 
 module _ {K V : Type 0} where
   commits_on : (x : Told K V) (R : List (Told K V)) → IsOfTask x → commits_of (x ∷ R) ≡ commits_of R

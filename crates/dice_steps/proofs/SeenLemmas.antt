@@ -1,9 +1,5 @@
 -- A set of pointers to keys, read without them.
-use Rattle.std.proofs.Common.{◌≡◌, Bool, true, false, not, cond, List, ap, sym, ◌∙◌}
-use Rattle.std.specs.Arc.{arc_value, arc_with_value}
-use Rattle.std.specs.declared.sync.Arc.{Arc}
-use Rattle.std.specs.List.{list_any}
-use Rattle.dice_key.proofs.KeySets.{noted}
+use Rattle.std.proofs.Common.{◌≡◌, Bool, true, false, not, sym}
 
 -- what an insertion answered, over whether the key was there
 pub was_seen : (b x y : Bool) → b ≡ not x → b ≡ false → x ≡ y → y ≡ true

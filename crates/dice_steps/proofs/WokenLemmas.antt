@@ -28,7 +28,7 @@ use Rattle.dice_steps.specs.Cells.{CellsStand}
 use Rattle.dice_tasks.specs.Waitings.{Wakes, MayWake}
 use Rattle.dice_steps.specs.Wokens.{AsksAlone, AsksMore, HasAnswer, IsAnswer, WaitsAlone, HasAnswers, IsAnswered, AreWoken}
 use Rattle.lists.proofs.Distinct.{apart, distinct_end}
-use Rattle.lists.proofs.Each.{all_end, zip_end, zip_length}
+use Rattle.lists.proofs.Each.{all_end, zip_end}
 use Rattle.lists.proofs.Members.{has_end, has_last, has_more, has_right}
 use Rattle.lists.specs.Lists.{AreDistinct, Has}
 use Rattle.std.proofs.lemmas.Bool.{and_parts}

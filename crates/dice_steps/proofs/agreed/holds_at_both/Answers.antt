@@ -1,4 +1,4 @@
-use Rattle.std.proofs.Common.{◌≡◌, ◌∙◌, sym}
+use Rattle.std.proofs.Common.{◌∙◌, sym}
 use Rattle.std.specs.Arc.{arc_value}
 use Rattle.versioned_graph.specs.Entries.{kept_of}
 use Rattle.dice_steps.specs.Agreements.{HoldsAtBase}

@@ -1,4 +1,4 @@
-use Rattle.std.proofs.Common.{◌∙◌, ap, subst, sym, reverse}
+use Rattle.std.proofs.Common.{◌∙◌, ap, reverse}
 use Rattle.std.specs.Arc.{arc_value}
 use Rattle.journal.specs.Events.{ended_at}
 use Rattle.dice_tasks.specs.Endings.{path_of}

@@ -1,4 +1,4 @@
-use Rattle.std.proofs.Common.{[], Some, refl, sym, ap, subst}
+use Rattle.std.proofs.Common.{[], Some, refl, sym, subst}
 use Rattle.std.specs.Arc.{arc_value}
 use Rattle.task_share.specs.Above.{AreCounted}
 use Rattle.task_share.specs.Seen.{asked_of}
