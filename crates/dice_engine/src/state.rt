@@ -31,7 +31,7 @@ use crate::working::{Round, come_to};
 use dice_core::{CommitRefusal, Core, Job, JobName, Polled, Step};
 use dice_key::{KeyRef, Line, NoMemory, Universe, Version};
 use injected::cells_are_the_inputs;
-use journal::{Event, Told};
+use journal::{Event, Journal, Told};
 use shelf::Told as News;
 use std::alloc::Global;
 use std::sync::{Arc, Wait};
@@ -457,8 +457,8 @@ impl<U: Universe> State<U> {
         }
     }
 
-    // What a promise has come to, if it is not pending. It is not polled again while no event came,
-    // since it is pending still.
+    // What a promise has come to, if it is not pending. It is not polled again while no event came
+    // that can decide it, since it is pending still.
     fn poll_anew(
         &self,
         promise: &Promise<U>,
@@ -477,12 +477,35 @@ impl<U: Universe> State<U> {
     {
         let core = &*self.core;
         core.in_order();
-        let count = Some(core.journal().len());
-        if *polled == count {
-            return None;
+        let journal = core.journal();
+        if let Some(last) = polled.replace(journal.len()) {
+            if !decides_since(journal, last) {
+                return None;
+            }
         }
-        *polled = count;
         come_to(self.poll(promise))
+    }
+}
+
+/// Whether an event of a journal from this index on can decide a promise: it ends a task, an ask or
+/// a transaction.
+fn decides_since<U: Universe>(journal: &Journal<U>, start: usize) -> bool {
+    for index in start..journal.len() {
+        if decides(journal.event(index)) {
+            return true;
+        }
+    }
+    false
+}
+
+/// Whether an event can decide a promise.
+fn decides<K: Drop, V: Drop>(event: &Event<K, V>) -> bool {
+    match event {
+        Event::Commit(_, _) | Event::Open(_, _) | Event::Ask(_, _, _) | Event::Start(_, _, _) => {
+            false
+        }
+        Event::Close(_, _) | Event::Leave(_, _) | Event::Keep(_, _, _) | Event::End(_, _) => true,
+        Event::Cyclic(_, _) | Event::Drop(_, _) | Event::Lost(_, _) => true,
     }
 }
 
