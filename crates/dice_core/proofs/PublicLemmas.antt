@@ -1,6 +1,6 @@
 -- What the public calls say, by what they do over the tables of all versions.
 use Rattle.std.proofs.Common.{◌≡◌, ◌↔◌, IsTrue, ◌⊎◌, inl, inr, ◌++◌, ℕ, Bool, true, false, cond, eqb, eq-eqb, List, [], ◌∷◌, map, Option, Some, None, refl, sym, ap, ◌∙◌, subst, append_assoc}
-use Rattle.std.specs.Prelude.{IfSome, reverse}
+use Rattle.std.specs.Prelude.{IfSome, IfNone, reverse}
 use Rattle.std.specs.List.{list_any}
 use Rattle.std.proofs.lemmas.Bool.{eqb-true}
 use Rattle.std.proofs.lemmas.Option.{same_Some}
@@ -19,11 +19,11 @@ use Rattle.dice_tasks.specs.Endings.{told_end, GivesUpAll}
 use Rattle.dice_tasks.specs.Hands.{DeskSeen}
 use Rattle.dice_tasks.specs.Helds.{Held, held_of, held_ended}
 use Rattle.dice_core.specs.Sessions.{SessionsSeen}
-use Rattle.dice_tasks.specs.Waitings.{TakesJob}
-use Rattle.dice_core.specs.Cores.{table_at, core_of, PutsTable, Turned, CoreStands, TakesOut, GivesUpOnly}
+use Rattle.dice_tasks.specs.Waitings.{TakesJob, ReturnsJob}
+use Rattle.dice_core.specs.Cores.{table_at, core_of, PutsTable, Turned, CoreStands, IsJobOut, TakesOut, GivesUpOnly}
 use Rattle.dice_core.proofs.CoreLemmas.{table_put}
 use Rattle.dice_core.proofs.OwnLemmas.{answered_in}
-use Rattle.dice_core.proofs.ResultLemmas.{takes_out}
+use Rattle.dice_core.proofs.ResultLemmas.{takes_out, comes_back}
 use Rattle.lists.specs.Lists.{Has}
 
 module _ {K V : Type 0} (eq : K → K → Bool) (equality : IsEquality eq) (m : Meaning K V) (law : IsLawful m) (d e : DeskSeen K V) (ts us : List (ℕ × List (K × Share K (Held K V)))) (es fs : List (K × Stored K V)) (s : Seen K V) (x y : SessionsSeen K) where
@@ -31,6 +31,11 @@ module _ {K V : Type 0} (eq : K → K → Bool) (equality : IsEquality eq) (m : 
   pub some_out : (o : Option (Assigned K V)) → IfSome o (λ j. Turned eq m j.name.version ts us (λ a b. TakesJob eq j.name.version j.name.key j a b d e)) → IfSome o (λ j. TakesOut eq j (core_of d ts es s x) (core_of e us es s x))
   some_out None h = tt
   some_out (Some j) h = takes_out eq equality m law j d e ts us es s x h.tasks h.put h.turned
+
+  -- a job that came back was out
+  pub none_out : {Y : Type 0} (j : Assigned K V) (o : Option Y) → IfNone o (Turned eq m j.name.version ts us (λ a b. ReturnsJob eq j.name.version j.name.key j j a b d e)) → IfNone o (IsJobOut eq (core_of d ts es s x) j × TakesOut eq j (core_of e us es s x) (core_of d ts es s x))
+  none_out j (Some y) h = tt
+  none_out j None h = comes_back eq equality m law j d e ts us es s x h.tasks h.put h.turned
 
   -- and its answers are the values at its version
   pub some_answered : CoreStands eq m (core_of d ts es s x) → (o : Option (Assigned K V)) → IfSome o (λ j. Turned eq m j.name.version ts us (λ a b. TakesJob eq j.name.version j.name.key j a b d e)) → IfSome o (IsAnsweredIn eq m (commits_of (reverse e.events)))

@@ -1,5 +1,5 @@
 -- What follows from a result both ways, and what a commit leaves of the core.
-use Rattle.std.proofs.Common.{◌≡◌, ◌<◌, ◌≤◌, ◌+◌, ◌++◌, ◌&&◌, ℕ, suc, Bool, true, false, cond, nat_eq, eqb, List, [], ◌∷◌, length, reverse, Some, Result, Ok, Err, refl, sym, ap, ◌∙◌, subst, arith, length-append, append-nil}
+use Rattle.std.proofs.Common.{◌≡◌, ◌<◌, ◌≤◌, ◌+◌, ◌++◌, ◌&&◌, ℕ, suc, Bool, true, false, cond, nat_eq, eqb, List, [], ◌∷◌, length, reverse, Some, Result, Ok, Err, refl, sym, ap, ◌∙◌, subst, arith, eq-eqb, length-append, append-nil}
 use Rattle.std.proofs.lemmas.List.{length-reverse}
 use Rattle.std.specs.Prelude.{OnOk, OnErr}
 use Rattle.std.proofs.lemmas.Bool.{eqb-true}
@@ -14,7 +14,7 @@ use Rattle.journal.specs.Events.{commits_of, open_count, event_of}
 use Rattle.journal.specs.Law.{IsAllowed}
 use Rattle.versioned_graph.specs.Entries.{Stored}
 use Rattle.dice_jobs.specs.Jobs.{Assigned}
-use Rattle.core_laws.specs.Tasks.{IsOut}
+use Rattle.core_laws.specs.Tasks.{IsReady, IsOut}
 use Rattle.core_laws.proofs.StepsRests.{rests_commit}
 use Rattle.std.specs.Map.{keys_of}
 use Rattle.dice_core.specs.Commits.{Commits, CutsEntries, CommitsEntries, SameSets}
@@ -24,8 +24,8 @@ use Rattle.dice_tasks.specs.Helds.{Held, held_of}
 use Rattle.dice_core.specs.Sessions.{SessionsSeen, owed, SessionsStand}
 use Rattle.dice_tasks.specs.Entries.{EntriesStand}
 use Rattle.core_laws.specs.Desk.{Rests, AreAll, is_out}
-use Rattle.dice_tasks.specs.Waitings.{TakesJob}
-use Rattle.dice_core.specs.Cores.{table_at, world_of, core_of, PutsTable, IsAsBefore, CoreStands, TakesOut}
+use Rattle.dice_tasks.specs.Waitings.{TakesJob, ReturnsJob}
+use Rattle.dice_core.specs.Cores.{table_at, world_of, core_of, PutsTable, IsAsBefore, CoreStands, IsJobOut, TakesOut}
 use Rattle.dice_core.proofs.CoreLemmas.{stands_same, table_put}
 use Rattle.dice_tasks.proofs.EndsLemmas.{back_more}
 use Rattle.dice_tasks.proofs.EntriesLemmas.{stand_commit}
@@ -144,3 +144,28 @@ module _ {K V : Type 0} (eq : K → K → Bool) (equality : IsEquality eq) (m : 
       by_version : (v : ℕ) (q : K) (b : Bool) → eqb v j.name.version ≡ b → task_at eq (cond b qs (table_at ts v)) q ≡ cond (nat_eq j.name.version v && eq j.name.key q) (Some (held_of j IsOut)) (task_at eq (table_at ts v) q)
       by_version v q true i = takes.table.tasks q ∙ (ap (λ z. cond (eq j.name.key q) (Some (held_of j IsOut)) (task_at eq (table_at ts z) q)) (sym (eqb-true v j.name.version i)) ∙ ap (λ b. cond (b && eq j.name.key q) (Some (held_of j IsOut)) (task_at eq (table_at ts v) q)) (sym (eqb_flips j.name.version v ∙ i)))
       by_version v q false i = ap (λ b. cond (b && eq j.name.key q) (Some (held_of j IsOut)) (task_at eq (table_at ts v) q)) (sym (eqb_flips j.name.version v ∙ i))
+
+  -- a job that comes back was out; and if it went out now, all would be as it was
+  pub comes_back : (j : Assigned K V) (d e : DeskSeen K V) (ts us : List (ℕ × List (K × Share K (Held K V)))) (es : List (K × Stored K V)) (s : Seen K V) (x : SessionsSeen K) (qs : List (K × Share K (Held K V))) → PutsTable j.name.version qs ts us → ReturnsJob eq j.name.version j.name.key j j (table_at ts j.name.version) qs d e
+      → IsJobOut eq (core_of d ts es s x) j × TakesOut eq j (core_of e us es s x) (core_of d ts es s x)
+  comes_back j d e ts us es s x qs put back = (back.table.was, record {
+    was = at_own;
+    tasks = λ u q. by_version u q (eqb u j.name.version) refl ∙ ap (λ ps. cond (nat_eq j.name.version u && eq j.name.key q) (Some (held_of j IsOut)) (task_at eq ps q)) (sym (table_put ts us j.name.version qs put u));
+    ready = (let r = ap length back.desk.ready in let l = length-append d.ready ((j.name.version, j.name.key) ∷ []) in omega arith);
+    out = sym back.desk.count;
+  })
+    where
+      at_own : task_at eq (table_at us j.name.version) j.name.key ≡ Some (held_of j IsReady)
+      at_own =
+          ap (λ ps. task_at eq ps j.name.key) (table_put ts us j.name.version qs put j.name.version ∙ ap (λ b. cond b qs (table_at ts j.name.version)) (eq-eqb j.name.version j.name.version refl))
+          ∙ (back.table.tasks j.name.key ∙ ap (λ b. cond b (Some (held_of j IsReady)) (task_at eq (table_at ts j.name.version) j.name.key)) (equality.itself j.name.key))
+
+      by_key : (q : K) (b : Bool) → eq j.name.key q ≡ b → task_at eq (table_at ts j.name.version) q ≡ cond b (Some (held_of j IsOut)) (task_at eq qs q)
+      by_key q true i = subst (λ z. task_at eq (table_at ts j.name.version) z ≡ Some (held_of j IsOut)) (equality.same j.name.key q i) back.table.was
+      by_key q false i = sym (back.table.tasks q ∙ ap (λ b. cond b (Some (held_of j IsReady)) (task_at eq (table_at ts j.name.version) q)) i)
+
+      by_version : (u : ℕ) (q : K) (b : Bool) → eqb u j.name.version ≡ b → task_at eq (table_at ts u) q ≡ cond (nat_eq j.name.version u && eq j.name.key q) (Some (held_of j IsOut)) (task_at eq (cond b qs (table_at ts u)) q)
+      by_version u q true i =
+          ap (λ z. task_at eq (table_at ts z) q) (eqb-true u j.name.version i)
+          ∙ (by_key q (eq j.name.key q) refl ∙ ap (λ b. cond (b && eq j.name.key q) (Some (held_of j IsOut)) (task_at eq qs q)) (sym (eqb_flips j.name.version u ∙ i)))
+      by_version u q false i = ap (λ b. cond (b && eq j.name.key q) (Some (held_of j IsOut)) (task_at eq (table_at ts u) q)) (sym (eqb_flips j.name.version u ∙ i))

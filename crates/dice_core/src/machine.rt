@@ -206,7 +206,7 @@ impl<U: Universe> Core<U> {
         polled_at(
             &*self.universe,
             &self.cells,
-            self.sessions.open_count(version),
+            &self.sessions,
             &self.versions,
             version,
             key,
@@ -519,22 +519,26 @@ impl<U: Universe> Core<U> {
     }
 }
 
-/// What a key has come to at a version at which so many transactions are open.
+/// What a key has come to at a version: an injected one has its value only while a transaction is
+/// open there.
 fn polled_at<'a, U: Universe>(
     universe: &U,
     cells: &'a Cells<U>,
-    count: u64,
+    sessions: &Sessions<U>,
     versions: &'a HashMap<u64, Tasks<U>>,
     version: u64,
     key: &KeyRef<U>,
 ) -> Polled<'a, U>
     ensures { came_of result
-        ≡ injected_to (U.meaning.kind (arc_value key.now)) count
+        ≡ injected_to (U.meaning.kind (arc_value key.now))
+        (open_count_of sessions.now.epochs version)
         (cell_at U.Key.eq U.meaning cells.now version (arc_value key.now))
         (held_to (task_at U.Key.eq (table_at versions.now.entries version) (arc_value key.now))) }
 {
     match universe.kind(key) {
-        Kind::Injected if count != 0 => Polled::Value(cells.at(version, key)),
+        Kind::Injected if sessions.open_count(version) != 0 => {
+            Polled::Value(cells.at(version, key))
+        }
         _ => polled(versions, version, key),
     }
 }

@@ -1,9 +1,7 @@
 use Rattle.std.proofs.Common.{sym, ap, ◌∙◌, subst}
 use Rattle.std.specs.Arc.{arc_value}
-use Rattle.injected.specs.Seen.{cell_at}
 use Rattle.journal.specs.Events.{commits_of}
-use Rattle.dice_core.specs.Cores.{CoreSeen, CoreStands, past_of, table_at, decision_of, injected_to, held_to, poll_of}
-use Rattle.task_share.specs.Seen.{task_at}
+use Rattle.dice_core.specs.Cores.{CoreSeen, CoreStands, past_of, decision_of, poll_of}
 use Rattle.dice_core.proofs.PollLemmas.{poll_value, poll_cycle, poll_lost, poll_decided, poll_quiet, poll_asked}
 use Rattle.dice_core.proofs.machine.Core.poll.Goals as goal
 
@@ -12,8 +10,7 @@ returns-clause-exact g c =
     let eq = g.U.Key.PartialEq.eq in
     let m = g.U.Universe.meaning in
     let k = arc_value c.args.key.now in
-    c.polled_at.ensures ∙ (ap (λ n. injected_to (m.kind k) n (cell_at eq m c.self.inside.cells c.args.version k) (held_to (task_at eq (table_at c.self.inside.versions.entries c.args.version) k))) c.open_count.ensures
-    ∙ ap (λ (v : CoreSeen g.row.U-Key.Denot g.row.U-Value.Denot). poll_of eq m v c.args.version k) c.self.view_is)
+    c.polled_at.ensures ∙ ap (λ (v : CoreSeen g.row.U-Key.Denot g.row.U-Value.Denot). poll_of eq m v c.args.version k) c.self.view_is
 
 pub returns-clause-value : goal.returns-clause-value
 returns-clause-value g c = λ x e.
