@@ -17,7 +17,7 @@ use Rattle.dice_engine.specs.Turns.{left_of, Adds}
 use Rattle.dice_engine.specs.Jobs.{GivesUpJob, gives_up, not_out, TakesUpStep, taken, stale, lost, GoesOut, ComesHome, CameOf}
 use Rattle.dice_engine.specs.declared.promise.Promise.{Promise}
 use Rattle.dice_engine.specs.Replies.{Reply}
-use Rattle.dice_engine.specs.Doings.{RestsByJournal, TurnOver, Looks, FindsNothing, TellsOfCore}
+use Rattle.dice_engine.specs.Doings.{RestsByJournal, TurnOver}
 use Rattle.dice_engine.proofs.Turned.{Entered, Ended, turned_any, any_found}
 
 module _ {K V : Type 0} (eq : K → K → Bool) where
@@ -100,9 +100,3 @@ module _ {K V : Type 0} (eq : K → K → Bool) (m : Meaning K V) (old new : Sea
   -- what became of the core says what may be said of it
   pub over_so : (R S : CoreSeen K V → CoreSeen K V → Type 0) → TurnOver eq m old new R → ((c d : CoreSeen K V) → R c d → S c d) → TurnOver eq m old new S
   over_so R S t f = record { turn = t.turn; found = t.found; left = t.left; begins = t.begins; ends = t.ends; counts = t.counts; rests = t.rests; did = f t.found t.left t.did }
-
-  pub looked : {U R : Type 0} (p : Promise U K V R) (r : Reply K V) → TellsOfCore eq m p r old new → Looks eq m old new
-  looked p r t = over_so _ _ t (λ c d h. h.0)
-
-  pub found_nothing : FindsNothing eq m old new → Looks eq m old new
-  found_nothing t = over_so _ _ t (λ c d h. h.1)

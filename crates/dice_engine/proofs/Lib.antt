@@ -11,3 +11,4 @@ pub mod Jobs
 pub mod Quieted
 pub mod Shelved
 pub mod Looking
+pub mod Rounds

@@ -1,5 +1,5 @@
 -- What turns do to the core. A seat sees of a core its journal and its counts.
-use Rattle.std.specs.Prelude.{◌≡◌, ℕ, Bool, [], Some, None, Result}
+use Rattle.std.specs.Prelude.{◌≡◌, ℕ, Bool, [], Option, Some, None, Result}
 use Rattle.std.specs.Arc.{arc_value}
 use Rattle.dice_key.specs.Meaning.{Meaning}
 use Rattle.dice_key.specs.declared.universe.NoMemory.{NoMemory}
@@ -36,11 +36,7 @@ module _ {K V : Type 0} (eq : K → K → Bool) (m : Meaning K V) where
     pub rests : RestsByJournal left
     pub did : R found left
 
-  -- a turn that changed nothing
-  abbrev pub Looks : SeatView (Told K V) → SeatView (Told K V) → Type 0
-  Looks old new = TurnOver old new (λ c d. d ≡ c)
-
-  -- such a turn, in which no task was ready
+  -- a turn that changed nothing, since no task was ready
   abbrev pub FindsNothing : SeatView (Told K V) → SeatView (Told K V) → Type 0
   FindsNothing old new = TurnOver old new (GoesOut eq None)
 
@@ -68,16 +64,34 @@ module _ {K V : Type 0} (eq : K → K → Bool) (m : Meaning K V) (veq : V → V
     pub home : TurnOver eq m mid new
         (λ c d. ComesHome eq m veq came c d × (IsJobOut eq d job → ⊥))
 
-  -- nothing but looks and jobs that are done, one after another
-  pub data WaitsOn (old : SeatView (Told K V)) : SeatView (Told K V) → Type 0 where
-    begins : WaitsOn old old
-    looks : {mid new : SeatView (Told K V)} → WaitsOn old mid → Looks eq m mid new → WaitsOn old new
-    does : {mid new : SeatView (Told K V)} → WaitsOn old mid → DoesJob mid new → WaitsOn old new
+  -- what came of a job comes home, if anything came
+  abbrev pub MayComeHome : Option (Result (Stepped K V) (Name K)) → CoreSeen K V → CoreSeen K V → Type 0
+  MayComeHome None c d = d ≡ c
+  MayComeHome (Some came) c d = ComesHome eq m veq came c d
+
+  -- a round of a wait: what came of the job that is in hand comes home; and then a job whose task is ready goes out, or no
+  -- task is ready
+  pub record GoesRound (came : Option (Result (Stepped K V) (Name K))) (next : Option (Assigned K V)) (c d : CoreSeen K V) : Type 0 where
+    pub mid : CoreSeen K V
+    pub home : MayComeHome came c mid
+    pub out : GoesOut eq next mid d
+
+  -- nothing but rounds, one after another, each in one turn; this came of the job that the last one took out, if it took one
+  pub data WaitsOn (old : SeatView (Told K V)) : Option (Result (Stepped K V) (Name K)) → SeatView (Told K V) → Type 0 where
+    begins : WaitsOn old None old
+    finds_none : {came : Option (Result (Stepped K V) (Name K))} {mid new : SeatView (Told K V)} → WaitsOn old came mid → TurnOver eq m mid new (GoesRound came None) → WaitsOn old None new
+    takes : {came : Option (Result (Stepped K V) (Name K))} {mid new : SeatView (Told K V)} {job : Assigned K V} {next : Result (Stepped K V) (Name K)} → WaitsOn old came mid → TurnOver eq m mid new (GoesRound came (Some job))
+        → CameOf eq m veq job next → WaitsOn old (Some next) new
 
 module _ {U K V R : Type 0} (eq : K → K → Bool) (m : Meaning K V) (veq : V → V → Bool) where
-  -- and then one look more, which tells what the promise settles to
+  -- what came of the job in hand comes home; and if the promise's ask is live, the reply is what its key has come to then
+  abbrev pub TellsLast : Option (Result (Stepped K V) (Name K)) → Promise U K V R → Reply K V → CoreSeen K V → CoreSeen K V → Type 0
+  TellsLast came p r c d = MayComeHome eq m veq came c d × (IsLiveIn (events_of d) p.ask → Tells (poll_of eq m d p.version (arc_value p.key)) r)
+
+  -- and then one turn more, in which no job is taken, and which tells what the promise settles to
   pub record WaitsFor (p : Promise U K V R) (r : Result (Settled U K V R) NoMemory)
       (old new : SeatView (Told K V)) : Type 0 where
     pub mid : SeatView (Told K V)
-    pub waited : WaitsOn eq m veq old mid
-    pub told : TellsOfCore eq m p (settled_of r) mid new
+    pub came : Option (Result (Stepped K V) (Name K))
+    pub waited : WaitsOn eq m veq old came mid
+    pub told : TurnOver eq m mid new (TellsLast came p (settled_of r))

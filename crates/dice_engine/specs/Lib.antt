@@ -9,3 +9,4 @@ pub mod Doings
 pub mod Leaving
 pub mod Rows
 pub mod Seating
+pub mod Rounds

@@ -4,6 +4,7 @@ ghost use Rattle.turnstile.specs.Events.{longer};
 ghost use Rattle.turnstile.specs.Seats.{first_seat, spare, split_off, note_of, IsSeatOf};
 ghost use Rattle.dice_engine.specs.Turns.{newest_in};
 
+use crate::ledge::Published;
 use crate::state::State;
 use dice_core::Core;
 use dice_key::{NoMemory, Universe, Version};
@@ -38,6 +39,7 @@ impl<U: Universe> Drop for Engine<U> {
 /// it.
 pub struct Ended<U: Universe> {
     core: Box<Core<U>>,
+    shelf: Option<Published<U>>,
     universe: Arc<U>,
 }
 
@@ -46,6 +48,7 @@ impl<U: Universe> Drop for Ended<U> {
     fn drop(self) {
         let Ended {
             core: _core,
+            shelf: _shelf,
             universe: _universe,
         } = self;
     }
@@ -129,8 +132,12 @@ impl<U: Universe> Engine<U> {
         requires seat { IsSeatOf self seat }
     {
         let Engine { stile, universe } = self;
-        let core = stile.end(rt, seat).end(rt);
-        Ended { core, universe }
+        let (core, shelf) = stile.end(rt, seat).end(rt);
+        Ended {
+            core,
+            shelf,
+            universe,
+        }
     }
 
     /// Whether a seat has a turn or waits for one just now. It is a hint, by which a seat that can

@@ -14,11 +14,14 @@ use crate::events::shared_pairs;
 use dice_core::{Core, Polled};
 use dice_key::{KeyRef, NoMemory, Seed, Universe, Version, laws_of};
 use journal::Event;
-use shelf::{Reader, ShelfOp, Shelver, Told as News};
+use shelf::{Reader, ShelfOp, Shelver, Store, Told as News};
 use std::alloc::{AllocFailed, Global};
 use std::marker::Model;
 use std::mem::ManuallyDrop;
 use std::sync::{Arc, Wait};
+
+/// What readers of a shelf could see when it ended.
+pub(crate) type Published<U> = Box<Store<<U as Universe>::Key, <U as Universe>::Value>>;
 
 /// The writing end of an engine's shelf, and how many events of the journal it has taken up. It
 /// puts up a commit for each commit, and a row for each key that got a value.
@@ -71,7 +74,7 @@ impl<U: Universe> Ledge<U> {
         match Box::new(alloc, ledge) {
             Ok(ledge) => Ok((ledge, ends)),
             Err(AllocFailed { value }) => {
-                value.end(rt);
+                drop(value.end(rt));
                 Err(NoMemory)
             }
         }
@@ -86,13 +89,13 @@ impl<U: Universe> Ledge<U> {
     }
 
     /// Ends the shelf. It waits for readers that still look.
-    pub(crate) fn end<R: Wait>(self, rt: &R) {
+    pub(crate) fn end<R: Wait>(self, rt: &R) -> Published<U> {
         let Ledge {
             pen,
             taken: _,
             alloc: _,
         } = self;
-        pen.end(rt);
+        pen.end(rt)
     }
 
     /// Takes up the events that the journal has gained, in order, and shows what was put up.

@@ -10,21 +10,24 @@ ghost use Rattle.dice_core.specs.Commits.{Fault, fault_of, AreSettable, IsFirstF
 ghost use Rattle.journal.specs.declared.event.Told.{Told};
 ghost use Rattle.journal.specs.declared.event.Told.TheVariants.{Ask};
 ghost use Rattle.journal.specs.Law.{IsLawfulJournal};
+ghost use Rattle.turnstile.specs.Events.{StartsWith};
 ghost use Rattle.dice_core.specs.Cores.{Absent, came_of, events_of, poll_of, IsJobOut, IsNameOut};
 ghost use Rattle.dice_core.specs.Joinings.{IsToldOfMake};
 ghost use Rattle.dice_engine.specs.Turns.{newest_in, log_of, left_of, Adds, WorksOn};
 ghost use Rattle.dice_engine.specs.Calls.{AddsNothing, Opens, Closes, Asks, Leaves, Commits};
-ghost use Rattle.dice_engine.specs.Replies.{reply_of, Tells, IsLiveIn, IsReply};
+ghost use Rattle.dice_engine.specs.Replies.{reply_of, settled_of, Tells, IsLiveIn, IsReply};
 ghost use Rattle.dice_engine.specs.Lines.{AreLines, AreEventsFrom};
 ghost use Rattle.dice_engine.specs.Jobs.{GoesOut, GivesUpJob, TakesUpStep, ComesHome};
-ghost use Rattle.dice_engine.specs.Doings.{RestsByJournal};
+ghost use Rattle.dice_engine.specs.Doings.{RestsByJournal, MayComeHome};
 ghost use Rattle.dice_engine.specs.Rows.{Keeps, Follows, IsBare, ShelfHas};
+ghost use Rattle.dice_engine.specs.Rounds.{IsAskOf, RoundOver, settled_in, next_in};
 
 use crate::events::events_since;
-use crate::ledge::{Ledge, shelve};
+use crate::ledge::{Ledge, Published, shelve};
 use crate::lines::lines_of;
-use crate::promise::{Answer, Promise, Transaction};
+use crate::promise::{Answer, Promise, Settled, Transaction};
 use crate::updater::Updater;
+use crate::working::{Round, come_to};
 use dice_core::{CommitRefusal, Core, Job, JobName, Polled, Step};
 use dice_key::{KeyRef, Line, NoMemory, Universe, Version};
 use injected::cells_are_the_inputs;
@@ -144,18 +147,18 @@ impl<U: Universe> State<U> {
         }
     }
 
-    /// Ends the shelf, if there is one, and hands out the core.
-    pub(crate) fn end<R: Wait>(self, rt: &R) -> Box<Core<U>> {
+    /// Ends the shelf, if there is one, and hands out the core and what readers could see.
+    pub(crate) fn end<R: Wait>(self, rt: &R) -> (Box<Core<U>>, Option<Published<U>>) {
         let State {
             core,
             shelf,
             left: _,
             newest: _,
         } = self;
-        if let Some(shelf) = shelf {
-            Box::into_inner(shelf).end(rt);
-        }
-        core
+        let Some(shelf) = shelf else {
+            return (core, None);
+        };
+        (core, Some(Box::into_inner(shelf).end(rt)))
     }
 
     /// What readers can see now, for a reader that learns it; `None` if there is no shelf.
@@ -311,11 +314,7 @@ impl<U: Universe> State<U> {
     /// What a promise has come to.
     pub(crate) fn poll(&self, promise: &Promise<U>) -> Result<Answer<U>, NoMemory>
         requires { IsLawfulJournal U.Key.eq U.meaning (events_of self.now.core.value)
-            → (a : Asking U.Key)
-            → live_at (reverse (events_of self.now.core.value)) promise.now.ask ≡ Some a
-            → (a.opened ≡ promise.now.opened) × (a.key ≡ arc_value promise.now.key)
-            × ((o : Opened) → open_at (reverse (events_of self.now.core.value)) a.opened ≡ Some o
-            → o.version ≡ promise.now.version) }
+            → IsAskOf promise.now (events_of self.now.core.value) }
         ensures reply { IsReply U.Key.eq U.meaning (events_of self.now.core.value)
             promise.now.version (arc_value promise.now.key) promise.now.ask
             (left_of self.now.left.2 self.now.core.value) (reply_of result) }
@@ -406,6 +405,84 @@ impl<U: Universe> State<U> {
         let (left, newest) = settled(rt, &mut self.shelf, self.left.2, core);
         self.left = left;
         self.newest = newest;
+    }
+}
+
+impl<U: Universe> State<U> {
+    /// A round of a wait: what came of a job is taken up, if anything came; and if the promise is
+    /// pending then, a job is taken. `polled` is how many events there were when it was polled
+    /// last.
+    pub(crate) fn go_round<R: Wait>(
+        &mut self,
+        rt: &R,
+        came: Option<Result<Step<U>, JobName<U>>>,
+        promise: &Promise<U>,
+        polled: &mut Option<usize>,
+    ) -> Round<U>
+        requires answered { IfSome came (λ r. IfOk r (λ s. AnsweredTruly U.Key.eq U.meaning
+            (log_of (events_of self.old.core.value)) s.job)) }
+        requires ask { (J : List (Told U.Key U.Value))
+            → StartsWith J (events_of self.old.core.value)
+            → IsLawfulJournal U.Key.eq U.meaning J → IsAskOf promise.now J }
+        ensures adds { Adds U.Key.eq U.meaning 0 (events_of self.old.core.value)
+            (events_of self.new.core.value) (λ own work. own ≡ []) }
+        ensures over { RoundOver U.Key.eq U.meaning U.Value.eq came promise.now result
+            self.old.core.value self.new.core.value }
+        ensures reply { IfSome (settled_in result) (IsReply U.Key.eq U.meaning
+            (events_of self.new.core.value) promise.now.version (arc_value promise.now.key)
+            promise.now.ask (left_of self.new.left.2 self.new.core.value)) }
+        ensures answered { IfSome (next_in result)
+            (IsAnsweredIn U.Key.eq U.meaning (log_of (events_of self.new.core.value))) }
+        ensures rests { RestsByJournal U.Key.eq U.meaning self.new.core.value }
+    {
+        self.come_home(rt, came);
+        if let Some(settled) = self.poll_anew(promise, polled) {
+            return Round::Settled(settled);
+        }
+        Round::Next(self.take_job())
+    }
+
+    // What came of a job is taken up, if anything came.
+    fn come_home<R: Wait>(&mut self, rt: &R, came: Option<Result<Step<U>, JobName<U>>>)
+        requires { IfSome came (λ r. IfOk r (λ s. AnsweredTruly U.Key.eq U.meaning
+            (log_of (events_of self.old.core.value)) s.job)) }
+        ensures adds { Adds U.Key.eq U.meaning 0 (events_of self.old.core.value)
+            (events_of self.new.core.value) (λ own work. own ≡ []) }
+        ensures home { MayComeHome U.Key.eq U.meaning U.Value.eq came self.old.core.value
+            self.new.core.value }
+    {
+        match came {
+            Some(came) => self.take_up(rt, came),
+            None => self.core.in_order(),
+        }
+    }
+
+    // What a promise has come to, if it is not pending. It is not polled again while no event came,
+    // since it is pending still.
+    fn poll_anew(
+        &self,
+        promise: &Promise<U>,
+        polled: &mut Option<usize>,
+    ) -> Option<Result<Settled<U>, NoMemory>>
+        requires { IsLawfulJournal U.Key.eq U.meaning (events_of self.now.core.value)
+            → IsAskOf promise.now (events_of self.now.core.value) }
+        ensures reply { IfSome result (λ r. IsReply U.Key.eq U.meaning
+            (events_of self.now.core.value) promise.now.version (arc_value promise.now.key)
+            promise.now.ask (left_of self.now.left.2 self.now.core.value) (settled_of r)) }
+        ensures exact { IfSome result (λ r. IsLiveIn (events_of self.now.core.value) promise.now.ask
+            → Tells (poll_of U.Key.eq U.meaning self.now.core.value promise.now.version
+            (arc_value promise.now.key)) (settled_of r)) }
+        ensures lawful { IsLawfulJournal U.Key.eq U.meaning (events_of self.now.core.value) }
+        ensures rests { RestsByJournal U.Key.eq U.meaning self.now.core.value }
+    {
+        let core = &*self.core;
+        core.in_order();
+        let count = Some(core.journal().len());
+        if *polled == count {
+            return None;
+        }
+        *polled = count;
+        come_to(self.poll(promise))
     }
 }
 

@@ -1,5 +1,5 @@
 //! The calls of an engine that do jobs.
-ghost use Rattle.std.specs.Prelude.{◌≡◌, ◌+◌, [], IfOk, IfSome, IfNone};
+ghost use Rattle.std.specs.Prelude.{◌≡◌, ◌+◌, [], None, IfOk, IfSome, IfNone};
 ghost use Rattle.std.specs.Arc.{arc_value};
 ghost use Rattle.turnstile.specs.Seats.{IsSeatOf};
 ghost use Rattle.dice_jobs.specs.Alike.{IsAnsweredIn};
@@ -10,6 +10,7 @@ ghost use Rattle.dice_engine.specs.Calls.{AddsNothing};
 ghost use Rattle.dice_engine.specs.Replies.{reply_of, settled_of, IsReply};
 ghost use Rattle.dice_engine.specs.Jobs.{GoesOut};
 ghost use Rattle.dice_engine.specs.Doings.{TurnOver, TakesIn, FindsNothing, DoesJob, WaitsFor};
+ghost use Rattle.dice_engine.specs.Rounds.{RoundOver, settled_in, next_in};
 
 use crate::engine::{Engine, Seat};
 use crate::gate::Gate;
@@ -19,6 +20,15 @@ use dice_core::{Job, JobName, Step};
 use dice_jobs::true_jobs_are_one;
 use dice_key::{NoMemory, Universe};
 use std::sync::Wait;
+
+/// What a round of a wait comes to.
+#[derive(Drop)]
+pub(crate) enum Round<U: Universe> {
+    /// The promise has come to this, or memory was refused.
+    Settled(Result<Settled<U>, NoMemory>),
+    /// The promise is pending, and this job was taken, if a task was ready.
+    Next(Option<Job<U>>),
+}
 
 impl<U: Universe> Engine<U> {
     /// Does one job, if a task is ready: it is taken in one turn, done outside, and given in
@@ -105,21 +115,57 @@ impl<U: Universe> Engine<U> {
         ensures same { (seat.new.number ≡ seat.old.number) × (seat.new.writers ≡ seat.old.writers) }
     {
         let backoff = Backoff::new();
+        let mut came = None;
+        let mut polled = None;
         for _ in rt.forever() {
-            if let Some(settled) = settled(self.poll(rt, seat, promise)) {
-                return settled;
-            }
-            match self.work(rt, seat, gate, worker) {
-                Worked::Did => backoff.reset(),
-                Worked::Idle => backoff.snooze(),
+            match self.go_round(rt, seat, came.take(), promise, &mut polled) {
+                Round::Settled(settled) => return settled,
+                Round::Next(Some(job)) => {
+                    backoff.reset();
+                    gate.at(worker);
+                    came = Some(job.advance(&*self.universe));
+                }
+                Round::Next(None) => backoff.snooze(),
             }
         }
         unreachable!()
     }
+
+    // One turn of a wait: what came of the job in hand is taken up, the promise is polled, and if
+    // it is pending, the next job is taken.
+    fn go_round<R: Wait>(
+        &self,
+        rt: &R,
+        seat: &mut Seat<U>,
+        came: Option<Result<Step<U>, JobName<U>>>,
+        promise: &Promise<U>,
+        polled: &mut Option<usize>,
+    ) -> Round<U>
+        requires seat { IsSeatOf self.now seat.old }
+        requires ask { SawAsk seat.old promise.now.ask promise.now.opened promise.now.version
+            (arc_value promise.now.key) }
+        requires answered { IfSome came (λ r. IfOk r
+            (λ s. IsAnsweredIn U.Key.eq U.meaning (log_of seat.old.seen) s.job)) }
+        ensures turn { Turn U.Key.eq U.meaning seat.old seat.new (λ found own work. own ≡ []) }
+        ensures round { TurnOver U.Key.eq U.meaning seat.old seat.new
+            (RoundOver U.Key.eq U.meaning U.Value.eq came promise.now result) }
+        ensures reply { IfSome (settled_in result) (λ r. IsReply U.Key.eq U.meaning seat.new.seen
+            promise.now.version (arc_value promise.now.key) promise.now.ask seat.new.left r) }
+        ensures answered { IfSome (next_in result)
+            (IsAnsweredIn U.Key.eq U.meaning (log_of seat.new.seen)) }
+    {
+        true_jobs_are_one::<U>();
+        let mut turn = self.stile.enter(rt, seat);
+        let round = turn.state().go_round(rt, came, promise, polled);
+        self.stile.leave(turn);
+        round
+    }
 }
 
 /// What a promise has come to, if it is not pending.
-fn settled<U: Universe>(answer: Result<Answer<U>, NoMemory>) -> Option<Result<Settled<U>, NoMemory>>
+pub(crate) fn come_to<U: Universe>(
+    answer: Result<Answer<U>, NoMemory>,
+) -> Option<Result<Settled<U>, NoMemory>>
     ensures { IfSome result (λ s. settled_of s ≡ reply_of answer) }
 {
     match answer {

@@ -186,10 +186,13 @@ impl<U: Universe> Shelver<U> {
         }
     }
 
-    /// Ends the shelf. It waits for readers that still look, and later looks are refused.
-    pub fn end<R: Wait>(self, rt: &R) {
+    /// Ends the shelf, and hands out what was published last. It waits for readers that still look,
+    /// and later looks are refused.
+    pub fn end<R: Wait>(self, rt: &R) -> Box<Store<U::Key, U::Value>>
+        ensures { result.value ≡ self.published }
+    {
         let Pen { raw } = self;
         let Some(writer) = raw else { unreachable!() };
-        drop(writer.take(rt));
+        writer.take(rt)
     }
 }
