@@ -1,11 +1,12 @@
 //! Workers beside a caller: each on a seat of its own, in a thread of its own.
 ghost use Rattle.std.specs.Prelude.{◌≡◌, ◌≤◌, All, IfOk, length};
-ghost use Rattle.turnstile.specs.Seats.{IsSeatOf, spare};
+ghost use Rattle.dice_engine.specs.Seats.{IsSeatOf, spare};
 ghost use Rattle.dice_engine.specs.Seating.{GivesSeats};
 
-use crate::engine::{Engine, Seat};
+use crate::engine::Engine;
 use crate::gate::Gate;
 use crate::promise::Worked;
+use crate::seat::Seat;
 use dice_key::{NoMemory, Universe};
 use std::alloc::Global;
 use std::sync::Wait;

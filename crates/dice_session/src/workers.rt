@@ -1,7 +1,7 @@
 //! Workers beside a session.
 ghost use Rattle.std.specs.Prelude.{All};
 ghost use Rattle.std.specs.Arc.{arc_value};
-ghost use Rattle.turnstile.specs.Seats.{IsSeatOf};
+ghost use Rattle.dice_engine.specs.Seats.{IsSeatOf};
 
 use dice_engine::{Engine, Open, Seat};
 use dice_key::Universe;

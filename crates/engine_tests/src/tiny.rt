@@ -1,6 +1,6 @@
 //! An engine on the example universe: calls one after another, by one seat and by two.
 ghost use Rattle.std.specs.Prelude.{◌≡◌};
-ghost use Rattle.turnstile.specs.Seats.{IsSeatOf, IsWriter};
+ghost use Rattle.dice_engine.specs.Seats.{IsSeatOf, IsWriter};
 
 use crate::way::{Came, Course, course_of, start, waited};
 use dice_engine::{

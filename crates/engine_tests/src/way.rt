@@ -1,6 +1,6 @@
 //! One promise on its way, on an engine over any universe.
 ghost use Rattle.std.specs.Prelude.{◌≡◌, IfOk};
-ghost use Rattle.turnstile.specs.Seats.{first_seat, IsSeatOf, IsWriter};
+ghost use Rattle.dice_engine.specs.Seats.{first_seat, IsSeatOf, IsWriter};
 
 use dice_engine::{Answer, Engine, Open, Seat, Settled, Updater, Worked};
 use dice_key::{KeyRef, Line, NoMemory, Universe, ValueRef, Version};

@@ -1,5 +1,5 @@
 use Rattle.std.proofs.Common.{◌≡◌, ◌≤◌, ◌+◌, All, length}
-use Rattle.turnstile.specs.Seats.{IsSeatOf, spare}
+use Rattle.dice_engine.specs.Seats.{IsSeatOf, spare}
 use Rattle.dice_engine.specs.Seating.{GivesSeats}
 use Rattle.dice_engine.proofs.engine.Engine.split_seats.Given as goal
 
