@@ -2,7 +2,7 @@
 use Rattle.std.proofs.Common.{◌≡◌, ◌≢◌, ◌⊎◌, inl, inr, ℕ, List, [], ◌∷◌, ◌++◌, take, drop, refl, sym, ap, ◌∙◌, subst, arith, append-nil}
 use Rattle.std.proofs.lemmas.List.{take-append-drop}
 use Rattle.std.specs.Arc.{arc_value}
-use Rattle.atomic_table.specs.Seated.{TableId}
+use Rattle.dice_engine.specs.Seats.{EngineId}
 use Rattle.dice_key.specs.declared.universe.Kind.TheVariants.{Injected}
 use Rattle.journal.specs.declared.event.Told.TheVariants.{Open}
 use Rattle.journal.specs.Tell.{event_by}
@@ -19,10 +19,10 @@ use Rattle.lists.proofs.Members.{has_middle}
 
 -- ---- turns after one another
 
-pub goes_none : (id : TableId) (s : Place) → IsOurs id s → Goes id s s []
+pub goes_none : (id : EngineId) (s : Place) → IsOurs id s → Goes id s s []
 goes_none id s o = record { ours = o; number = refl; begins = begins_itself s.seen; mine = sym (append-nil s.mine) }
 
-pub goes_on : (id : TableId) (s m u : Place) (own : Events) → Goes id s m own → Goes id m u [] → Goes id s u own
+pub goes_on : (id : EngineId) (s m u : Place) (own : Events) → Goes id s m own → Goes id m u [] → Goes id s u own
 goes_on id s m u own a b = record {
   ours = b.ours;
   number = b.number ∙ a.number;
@@ -31,7 +31,7 @@ goes_on id s m u own a b = record {
 }
 
 -- a transaction was opened, and then nothing was added
-pub opens_on : (id : TableId) (s m u : Place) (opened version : ℕ) → Opens id s m opened version → Goes id m u [] → Opens id s u opened version
+pub opens_on : (id : EngineId) (s m u : Place) (opened version : ℕ) → Opens id s m opened version → Goes id m u [] → Opens id s u opened version
 opens_on id s m u opened version a b = record {
   goes = goes_on id s m u (Open 0 version ∷ []) a.goes b;
   newest = a.newest;
@@ -48,7 +48,7 @@ at_hand : (xs rest : List Pledge) (i : ℕ) (x : Pledge) → drop i xs ≡ x ∷
 at_hand xs rest i x e = subst (λ l. Has l x) (take-append-drop i xs) (subst (λ r. Has (take i xs ++ r) x) (sym e) (has_middle (take i xs) rest x))
 
 -- and still live
-pub live_still : (id : TableId) (s m : Place) (xs rest : List Pledge) (i : ℕ) (x : Pledge) → Goes id s m [] → AreLive s xs → drop i xs ≡ x ∷ rest → IsLive m x
+pub live_still : (id : EngineId) (s m : Place) (xs rest : List Pledge) (i : ℕ) (x : Pledge) → Goes id s m [] → AreLive s xs → drop i xs ≡ x ∷ rest → IsLive m x
 live_still id s m xs rest i x g live e = live_on s m [] x (onward id s m [] g) tt tt (live x (at_hand xs rest i x e))
 
 -- those of the rest apart
@@ -58,7 +58,7 @@ DecidedBut J rest xs = (x : Pledge) → Has xs x → Has rest x ⊎ (buck.kind (
 pub decided_first : (J : Events) (xs : List Pledge) → DecidedBut J xs xs
 decided_first J xs x h = inl h
 
-pub decided_next : (id : TableId) (s u : Place) (x : Pledge) (rest xs : List Pledge) → Goes id s u [] → IsLive s x → (buck.kind (arc_value x.key) ≢ Injected → IsDecidedIn u.seen x.version (arc_value x.key))
+pub decided_next : (id : EngineId) (s u : Place) (x : Pledge) (rest xs : List Pledge) → Goes id s u [] → IsLive s x → (buck.kind (arc_value x.key) ≢ Injected → IsDecidedIn u.seen x.version (arc_value x.key))
     → DecidedBut s.seen (x ∷ rest) xs → DecidedBut u.seen rest xs
 decided_next id s u x rest xs g l d b y h = elim (b y h) as (λ _. Has rest y ⊎ (buck.kind (arc_value y.key) ≢ Injected → WasDecided u.seen y.opened y.version (arc_value y.key))) [
   | inl (inl e) ↦ inr (subst (λ (z : Pledge). buck.kind (arc_value z.key) ≢ Injected → WasDecided u.seen z.opened z.version (arc_value z.key)) e

@@ -1,6 +1,6 @@
 //! The workers beside the driver of a script: each on a seat of its own, in a thread of its own.
 ghost use Rattle.std.specs.Prelude.{◌≡◌, ◌<◌, [], All, IfOk, OnOk};
-ghost use Rattle.turnstile.specs.Seats.{IsSeatOf, spare};
+ghost use Rattle.dice_engine.specs.Seats.{IsSeatOf, spare};
 ghost use Rattle.script_trace.specs.Tracing.{IsPrintout};
 ghost use Rattle.script_trace.specs.Events.{IsJournalOf};
 ghost use Rattle.dice_run.specs.Seats.{IsOurs};
