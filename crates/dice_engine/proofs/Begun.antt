@@ -11,7 +11,9 @@ use Rattle.journal.specs.Law.{IsLawfulJournal}
 use Rattle.journal.specs.Tell.{event_by}
 use Rattle.journal.proofs.Lawful.{lawful_front}
 use Rattle.turnstile.specs.Events.{events_by}
-use Rattle.turnstile.specs.Seats.{SeatView}
+use Rattle.turnstile.specs.Seats.{SeatView as Place}
+use Rattle.job_line.specs.Ends.{PassView}
+use Rattle.dice_engine.specs.Seats.{SeatView, seated}
 use Rattle.dice_engine.specs.Turns.{newest_in, Adds, Turn}
 use Rattle.dice_engine.specs.Conditions.{HasOpen, HasAsk}
 use Rattle.dice_engine.specs.Calls.{Opens, Closes, Asks}
@@ -58,10 +60,10 @@ module _ {K V : Type 0} (eq : K → K → Bool) (m : Meaning K V) where
   was_lawful n J I P a = lawful_front eq m J (a.own ++ a.work) (subst (IsLawfulJournal eq m) a.journal a.lawful)
 
   -- what a seat closes is its own
-  pub closes_own : (s mid : SeatView (Told K V)) (J I : List (Told K V)) (t v : ℕ) → Entered eq m s mid J → HasOpen s t v → (o : Opened) → open_at (reverse J) t ≡ Some o → Adds eq m o.by J I (Closes o.by t o.version)
+  pub closes_own : {H : Type 0} (p : PassView H) (s mid : Place (Told K V)) (J I : List (Told K V)) (t v : ℕ) → Entered eq m s mid J → HasOpen (seated p s) t v → (o : Opened) → open_at (reverse J) t ≡ Some o → Adds eq m o.by J I (Closes o.by t o.version)
       → Adds eq m s.number J I (Closes s.number t v)
-  closes_own s mid J I t v e h o at a =
-      let same : o ≡ record { by = s.number; version = v } = same_Some _ _ (sym at ∙ has_open eq m s J e.begins (was_lawful o.by J I (Closes o.by t o.version) a) e.found t v h) in
+  closes_own p s mid J I t v e h o at a =
+      let same : o ≡ record { by = s.number; version = v } = same_Some _ _ (sym at ∙ has_open eq m (seated p s) J e.begins (was_lawful o.by J I (Closes o.by t o.version) a) e.found t v h) in
       subst (λ (x : Opened). Adds eq m x.by J I (Closes x.by t x.version)) same a
 
 -- both facts of a result that is Ok

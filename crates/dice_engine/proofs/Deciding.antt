@@ -13,7 +13,7 @@ use Rattle.journal.specs.Law.{IsLawfulBack, IsLawfulJournal}
 use Rattle.journal.proofs.Lawful.{lawful_front}
 use Rattle.journal.proofs.Indices.{begins_none}
 use Rattle.turnstile.specs.Events.{StartsWith}
-use Rattle.turnstile.specs.Seats.{SeatView}
+use Rattle.dice_engine.specs.Seats.{SeatView}
 use Rattle.dice_engine.specs.Turns.{Later, Turn}
 use Rattle.dice_engine.specs.Conditions.{HasOpen}
 use Rattle.dice_engine.specs.Calls.{Closes}

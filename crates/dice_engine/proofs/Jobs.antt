@@ -1,5 +1,5 @@
 -- What becomes of a job: from what the core says of its calls.
-use Rattle.std.proofs.Common.{◌≡◌, ◌↔◌, IsTrue, ℕ, Bool, true, false, cond, [], Option, Some, None, refl, sym, ap, ◌∙◌, subst}
+use Rattle.std.proofs.Common.{◌≡◌, ◌↔◌, IsTrue, ℕ, Bool, true, false, cond, List, [], ◌∷◌, Option, Some, None, refl, sym, ap, ◌∙◌, subst}
 use Rattle.std.specs.Prelude.{Result, Ok, Err, IfOk, IfErr, IfSome, IfNone}
 use Rattle.std.proofs.lemmas.Bool.{eq-eqb}
 use Rattle.dice_key.specs.Meaning.{Meaning}
@@ -12,13 +12,15 @@ use Rattle.dice_tasks.specs.Endings.{GivesUpAll}
 use Rattle.dice_core.specs.Cores.{CoreSeen, events_of, table_at, Turned, IsAsBefore, IsJobOut, IsNameOut, TakesOut, GivesUpOnly}
 use Rattle.dice_core.specs.Givings.{Gives, IsTakenUp}
 use Rattle.dice_core.proofs.CoreLemmas.{table_put}
-use Rattle.turnstile.specs.Seats.{SeatView}
-use Rattle.dice_engine.specs.Turns.{left_of, Adds}
-use Rattle.dice_engine.specs.Jobs.{GivesUpJob, gives_up, not_out, TakesUpStep, taken, stale, lost, GoesOut, ComesHome, CameOf}
+use Rattle.turnstile.specs.Seats.{SeatView as Place}
+use Rattle.job_line.specs.Ends.{PassView}
+use Rattle.dice_engine.specs.Seats.{SeatView, seated, found_empty}
+use Rattle.dice_engine.specs.Turns.{left_of, Adds, Turn, Later, Works, rests, works}
+use Rattle.dice_engine.specs.Jobs.{LinesUp, GivesUpJob, gives_up, not_out, TakesUpStep, taken, stale, lost, GoesOut, ComesHome, CameOf}
 use Rattle.dice_engine.specs.declared.promise.Promise.{Promise}
 use Rattle.dice_engine.specs.Replies.{Reply}
-use Rattle.dice_engine.specs.Doings.{RestsByJournal, TurnOver}
-use Rattle.dice_engine.proofs.Turned.{Entered, Ended, turned_any, any_found}
+use Rattle.dice_engine.specs.Doings.{RestsByJournal, TurnOver, GetsJob, from_line, from_core, FindsNothing}
+use Rattle.dice_engine.proofs.Turned.{Entered, Ended, turned_any, any_found, turn_of_pass, work_later}
 
 module _ {K V : Type 0} (eq : K → K → Bool) where
   pub goes_out : (o : Option (Assigned K V)) (c d : CoreSeen K V) → IfSome o (λ j. TakesOut eq j c d) → IfNone o ((c.desk.ready ≡ []) × (d ≡ c)) → GoesOut eq o c d
@@ -81,22 +83,76 @@ module _ {K V : Type 0} (eq : K → K → Bool) (m : Meaning K V) (veq : V → V
   came_of_job (Ok s) j o e = o
   came_of_job (Err n) j o e = e
 
-module _ {K V : Type 0} (eq : K → K → Bool) (m : Meaning K V) (old mid new : SeatView (Told K V)) (c d : CoreSeen K V) where
-  -- the turn in which the core c became the core d
-  pub turned_over : (R : CoreSeen K V → CoreSeen K V → Type 0) (w mark : ℕ) → Entered eq m old mid (events_of c) → Ended eq m mid new (events_of d)
-      → Adds eq m w (events_of c) (events_of d) (λ own work. own ≡ []) → new.left ≡ left_of mark d → RestsByJournal eq m d → R c d → TurnOver eq m old new R
-  turned_over R w mark e z a counts rests did = record {
-    turn = turned_any eq m old mid (events_of c) (events_of d) new (λ found own work. own ≡ []) w e z a a.did;
-    found = c;
-    left = d;
-    begins = sym (any_found eq m old mid (events_of c) (events_of d) new (λ found own work. own ≡ []) w e z a a.did);
-    ends = sym z.seen;
-    counts = ap (λ n. left_of n d) (ap (λ (l : ℕ × ℕ × ℕ). l.2) counts) ∙ sym counts;
-    rests = rests;
-    did = did;
-  }
+module _ {K V : Type 0} (eq : K → K → Bool) (m : Meaning K V) (old mid new : Place (Told K V)) (c d e : CoreSeen K V) where
+  -- the turn in which the core c became the core d, and then, when ready jobs had gone on the line, e
+  pub turned_over : {H : Type 0} (p : PassView H) (R : CoreSeen K V → CoreSeen K V → Type 0) (w mark : ℕ) (xs ys : List (Assigned K V)) → Entered eq m old mid (events_of c) → Ended eq m mid new (events_of e)
+      → Adds eq m w (events_of c) (events_of d) (λ own work. own ≡ []) → events_of e ≡ events_of d → new.left ≡ left_of mark e → RestsByJournal eq m e → R c d → LinesUp eq xs ys d e → TurnOver eq m (seated p old) (seated p new) R
+  turned_over p R w mark xs ys n z b same counts stands did lines_up =
+      let a = subst (λ I. Adds eq m w (events_of c) I (λ own work. own ≡ [])) (sym same) b in record {
+        turn = turned_any eq m old mid (events_of c) (events_of e) p new (λ found own work. own ≡ []) w n z a a.did;
+        found = c;
+        left = e;
+        begins = sym (any_found eq m old mid (events_of c) (events_of e) p new (λ found own work. own ≡ []) w n z a a.did);
+        ends = sym z.seen;
+        counts = ap (λ n. left_of n e) (ap (λ (l : ℕ × ℕ × ℕ). l.2) counts) ∙ sym counts;
+        rests = stands;
+        done = d;
+        did = did;
+        puts = xs;
+        more = ys;
+        lines_up = lines_up;
+      }
 
 module _ {K V : Type 0} (eq : K → K → Bool) (m : Meaning K V) (old new : SeatView (Told K V)) where
   -- what became of the core says what may be said of it
   pub over_so : (R S : CoreSeen K V → CoreSeen K V → Type 0) → TurnOver eq m old new R → ((c d : CoreSeen K V) → R c d → S c d) → TurnOver eq m old new S
-  over_so R S t f = record { turn = t.turn; found = t.found; left = t.left; begins = t.begins; ends = t.ends; counts = t.counts; rests = t.rests; did = f t.found t.left t.did }
+  over_so R S t f = record {
+    turn = t.turn;
+    found = t.found;
+    left = t.left;
+    begins = t.begins;
+    ends = t.ends;
+    counts = t.counts;
+    rests = t.rests;
+    done = t.done;
+    did = f t.found t.done t.did;
+    puts = t.puts;
+    more = t.more;
+    lines_up = t.lines_up;
+  }
+
+  -- what the pass of a seat does before its turn does not matter
+  pub over_of_pass : (places : List ℕ) (empties : ℕ) (R : CoreSeen K V → CoreSeen K V → Type 0) → TurnOver eq m (record old { places = places; empties = empties }) new R → TurnOver eq m old new R
+  over_of_pass places empties R t = record {
+    turn = turn_of_pass eq m old new places empties (λ found own work. own ≡ []) t.turn;
+    found = t.found;
+    left = t.left;
+    begins = t.begins;
+    ends = t.ends;
+    counts = t.counts;
+    rests = t.rests;
+    done = t.done;
+    did = t.did;
+    puts = t.puts;
+    more = t.more;
+    lines_up = t.lines_up;
+  }
+
+module _ {K V : Type 0} (eq : K → K → Bool) (m : Meaning K V) (old mid new : SeatView (Told K V)) where
+  -- a seat got a job, and then had a turn in which it was given
+  pub got_works : (j : Assigned K V) → GetsJob eq m old mid j → Turn eq m mid new (λ found own work. own ≡ []) → Works eq m old new
+  got_works j (from_line place below is) t = works rests (turn_of_pass eq m old new (place ∷ old.places) old.empties (λ found own work. own ≡ []) (subst (λ z. Turn eq m z new (λ found own work. own ≡ [])) is t))
+  got_works j (from_core o) t = works (works rests (turn_of_pass eq m old mid old.places (found_empty old).empties (λ found own work. own ≡ []) o.turn)) t
+
+  pub got_later : (j : Assigned K V) → GetsJob eq m old mid j → Turn eq m mid new (λ found own work. own ≡ []) → Later eq m old new × (new.mine ≡ old.mine)
+  got_later j (from_line place below is) t = work_later eq m old old new rests (turn_of_pass eq m old new (place ∷ old.places) old.empties (λ found own work. own ≡ []) (subst (λ z. Turn eq m z new (λ found own work. own ≡ [])) is t))
+  got_later j (from_core o) t = work_later eq m old mid new (works rests (turn_of_pass eq m old mid old.places (found_empty old).empties (λ found own work. own ≡ []) o.turn)) t
+
+  -- the line was empty, and then a turn had a job or none
+  pub none_found : (s : SeatView (Told K V)) (o : Option (Assigned K V)) → s ≡ found_empty old → TurnOver eq m s mid (GoesOut eq o) → IfNone o (FindsNothing eq m old mid)
+  none_found s None e t = subst (λ z. TurnOver eq m z mid (GoesOut eq None)) e t
+  none_found s (Some j) e t = tt
+
+  pub one_found : (s : SeatView (Told K V)) (o : Option (Assigned K V)) → s ≡ found_empty old → TurnOver eq m s mid (GoesOut eq o) → IfSome o (GetsJob eq m old mid)
+  one_found s None e t = tt
+  one_found s (Some j) e t = from_core (subst (λ z. TurnOver eq m z mid (GoesOut eq (Some j))) e t)

@@ -8,6 +8,7 @@ pub mod Begun
 pub mod Deciding
 pub mod Listing
 pub mod Jobs
+pub mod Lining
 pub mod Quieted
 pub mod Shelved
 pub mod Looking

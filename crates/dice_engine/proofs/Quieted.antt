@@ -5,18 +5,20 @@ use Rattle.std.specs.Arc.{arc_value}
 use Rattle.std.specs.List.{AllByRecursion}
 use Rattle.std.proofs.lemmas.Option.{none-some}
 use Rattle.dice_key.specs.Meaning.{Meaning}
+use Rattle.dice_key.specs.Lawful.{IsEquality}
 use Rattle.journal.specs.declared.event.Told.{Told}
 use Rattle.journal.specs.declared.event.Told.TheVariants.{Close, Leave, Drop}
 use Rattle.journal.specs.Events.{Asking, decided, open_at, live_at, lost_in_epoch}
 use Rattle.journal.proofs.Indices.{still_live}
 use Rattle.dice_core.specs.Cores.{CoreSeen, Came, ToValue, ToCycle, ToNothing, Pending, Absent, events_of, poll_of}
 use Rattle.dice_core.proofs.EventLemmas.{along}
-use Rattle.turnstile.specs.Seats.{SeatView}
+use Rattle.dice_engine.specs.Seats.{SeatView}
 use Rattle.dice_engine.specs.Turns.{left_of}
 use Rattle.dice_engine.specs.Calls.{AddsNothing, AreDrops, Closes, Leaves}
 use Rattle.dice_engine.specs.Replies.{Reply, TheValue, TheCycle, NoRoom, NotYet, NotLive, Tells, IsReply, IsLiveIn}
 use Rattle.dice_engine.specs.Doings.{TellsOfCore}
 use Rattle.dice_engine.specs.Leaving.{DecidesNothing}
+use Rattle.dice_engine.proofs.Lining.{lined_rest, lined_poll}
 use Rattle.dice_engine.specs.declared.promise.Promise.{Promise}
 
 module _ {K V : Type 0} (eq : K → K → Bool) (m : Meaning K V) (J : List (Told K V)) (v : ℕ) (k : K) (ask : ℕ) (left : ℕ × ℕ × ℕ) where
@@ -45,10 +47,11 @@ module _ {K V : Type 0} where
   lost_told Absent r t e = absurd t
 
 module _ {U K V R : Type 0} (eq : K → K → Bool) (m : Meaning K V) (p : Promise U K V R) (r : Reply K V) (s u : SeatView (Told K V)) where
-  pub pending_exact : TellsOfCore eq m p r s u → IsLiveIn u.seen p.ask → (c : CoreSeen K V) × (events_of c ≡ u.seen) × (left_of u.left.2 c ≡ u.left) × (u.turns ≡ s.turns + 1) × ((r ≡ NotYet) ↔ (poll_of eq m c p.version (arc_value p.key) ≡ Pending)) × (poll_of eq m c p.version (arc_value p.key) ≡ ToNothing → r ≡ NoRoom)
-  pending_exact t live =
+  pub pending_exact : IsEquality eq → TellsOfCore eq m p r s u → IsLiveIn u.seen p.ask → (c : CoreSeen K V) × (events_of c ≡ u.seen) × (left_of u.left.2 c ≡ u.left) × (u.turns ≡ s.turns + 1) × ((r ≡ NotYet) ↔ (poll_of eq m c p.version (arc_value p.key) ≡ Pending)) × (poll_of eq m c p.version (arc_value p.key) ≡ ToNothing → r ≡ NoRoom)
+  pending_exact laws t live =
       let o = poll_of eq m t.left p.version (arc_value p.key) in
-      let told : Tells o r = t.did.1 (subst (λ J. IsLiveIn J p.ask) (sym t.ends) live) in
+      let same : events_of t.left ≡ events_of t.done = (lined_rest eq t.puts t.more t.done t.left t.lines_up).0 in
+      let told : Tells o r = subst (λ o. Tells o r) (sym (lined_poll eq m laws t.puts t.more t.done t.left t.lines_up p.version (arc_value p.key))) (t.did.1 (subst (λ J. IsLiveIn J p.ask) (sym t.ends ∙ same) live)) in
       (t.left, t.ends, t.counts, t.turn.turns, pending_told o r told, lost_told o r told)
 
 -- an event of a leaving

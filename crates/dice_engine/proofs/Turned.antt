@@ -8,7 +8,9 @@ use Rattle.journal.specs.Law.{IsLawfulJournal}
 use Rattle.journal.specs.Tell.{event_by}
 use Rattle.dice_core.specs.Cores.{IsWorkAt}
 use Rattle.turnstile.specs.Events.{StartsWith, has_number, events_by, AllBelow, IsOwn, AllOwn, Grows}
-use Rattle.turnstile.specs.Seats.{SeatView, in_turn, IsAfterTurn, EachNote, NotedIn}
+use Rattle.turnstile.specs.Seats.{SeatView as Place, in_turn, IsAfterTurn as IsPlaceAfter, EachNote, NotedIn}
+use Rattle.job_line.specs.Ends.{PassView}
+use Rattle.dice_engine.specs.Seats.{SeatView, seated, IsAfterTurn}
 use Rattle.turnstile.proofs.Events.{events_by-append}
 use Rattle.dice_engine.specs.Turns.{newest_in, AreBy, AreOfTasks, Adds, Later, Turn, Works, rests, works}
 
@@ -83,43 +85,55 @@ module _ {K V : Type 0} (eq : K → K → Bool) (m : Meaning K V) where
     did = f a.own a.work a.did;
   }
 
+  -- the same, of a journal that stayed
+  abbrev pub lined_adds : (n : ℕ) (J I H : List (Told K V)) (P : List (Told K V) → List (Told K V) → Type 0) → H ≡ I → Adds eq m n J I P → Adds eq m n J H P
+  lined_adds n J I H P e a = record {
+    own = a.own;
+    work = a.work;
+    journal = e ∙ a.journal;
+    by = a.by;
+    of_tasks = a.of_tasks;
+    lawful = subst (IsLawfulJournal eq m) (sym e) a.lawful;
+    did = a.did;
+  }
+
   -- a turn was begun, and the journal J was found
-  pub record Entered (old mid : SeatView (Told K V)) (J : List (Told K V)) : Type 0 where
+  pub record Entered (old mid : Place (Told K V)) (J : List (Told K V)) : Type 0 where
     pub is : mid ≡ in_turn old J
     pub begins : StartsWith J old.seen
     pub found : events_by event_by old.number J ≡ old.mine
     pub floor : old.floor ≤ newest_in J
 
-  pub entered : (old mid : SeatView (Told K V)) (H J : List (Told K V)) → J ≡ H → mid ≡ in_turn old H → StartsWith H old.seen → events_by event_by old.number H ≡ old.mine → old.floor ≤ newest_in H → Entered old mid J
+  pub entered : (old mid : Place (Told K V)) (H J : List (Told K V)) → J ≡ H → mid ≡ in_turn old H → StartsWith H old.seen → events_by event_by old.number H ≡ old.mine → old.floor ≤ newest_in H → Entered old mid J
   entered old mid H J e is begins found floor = subst (Entered old mid) (sym e) (record { is = is; begins = begins; found = found; floor = floor })
 
   -- and ended, with the journal I
-  pub record Ended (mid new : SeatView (Told K V)) (I : List (Told K V)) : Type 0 where
+  pub record Ended (mid new : Place (Told K V)) (I : List (Told K V)) : Type 0 where
     pub seen : new.seen ≡ I
     pub mine : new.mine ≡ events_by event_by new.number new.seen
     pub turns : new.turns ≡ mid.turns + 1
     pub floor : (mid.floor ≤ new.floor) × (newest_in new.seen ≤ new.floor)
     pub below : AllBelow event_by new.writers new.seen
     pub noted : EachNote (NotedIn event_by new.seen) new.ended
-    pub same : IsAfterTurn mid new
+    pub same : IsPlaceAfter mid new
 
-  module _ (old mid : SeatView (Told K V)) (J I : List (Told K V)) where
+  module _ (old mid : Place (Told K V)) (J I : List (Told K V)) where
     -- the turn may end
     pub may_leave : (n : ℕ) (P : List (Told K V) → List (Told K V) → Type 0) → Entered old mid J → old.number < old.writers → n ≡ old.number → Adds eq m n J I P → Grows event_by mid.number mid.writers mid.seen I
     may_leave n P e below is a =
-        subst (λ (s : SeatView (Told K V)). Grows event_by s.number s.writers s.seen I) (sym e.is) (grows old.number old.writers J I P below (subst (λ n. Adds eq m n J I P) is a))
+        subst (λ (s : Place (Told K V)). Grows event_by s.number s.writers s.seen I) (sym e.is) (grows old.number old.writers J I P below (subst (λ n. Adds eq m n J I P) is a))
 
     pub may_leave_tasks : (z : ℕ) (P : List (Told K V) → List (Told K V) → Type 0) → Entered old mid J → (a : Adds eq m z J I P) → a.own ≡ [] → Grows event_by mid.number mid.writers mid.seen I
-    may_leave_tasks z P e a none = subst (λ (s : SeatView (Told K V)). Grows event_by s.number s.writers s.seen I) (sym e.is) (grows_by_tasks old.number old.writers z J I P a none)
+    may_leave_tasks z P e a none = subst (λ (s : Place (Told K V)). Grows event_by s.number s.writers s.seen I) (sym e.is) (grows_by_tasks old.number old.writers z J I P a none)
 
-    module _ (new : SeatView (Told K V)) (P : List (Told K V) → List (Told K V) → List (Told K V) → Type 0) where
-      -- the turn of a seat
-      pub turned : (n : ℕ) → Entered old mid J → Ended mid new I → n ≡ old.number → Adds eq m n J I (P J) → Turn eq m old new P
+    module _ {H : Type 0} (p : PassView H) (new : Place (Told K V)) (P : List (Told K V) → List (Told K V) → List (Told K V) → Type 0) where
+      -- the turn of a seat with this pass
+      pub turned : (n : ℕ) → Entered old mid J → Ended mid new I → n ≡ old.number → Adds eq m n J I (P J) → Turn eq m (seated p old) (seated p new) P
       turned n e z is b =
           let a : Adds eq m old.number J I (P J) = subst (λ n. Adds eq m n J I (P J)) is b in
-          let after : IsAfterTurn old new = subst (λ s. IsAfterTurn s new) e.is z.same in
-          let number : new.number ≡ old.number = ap (λ (s : SeatView (Told K V)). s.number) after in
-          let count : new.turns ≡ old.turns + 1 = z.turns ∙ ap (λ (s : SeatView (Told K V)). s.turns + 1) e.is in
+          let after : IsPlaceAfter old new = subst (λ s. IsPlaceAfter s new) e.is z.same in
+          let number : new.number ≡ old.number = ap (λ (s : Place (Told K V)). s.number) after in
+          let count : new.turns ≡ old.turns + 1 = z.turns ∙ ap (λ (s : Place (Told K V)). s.turns + 1) e.is in
           let all : new.seen ≡ J ++ (a.own ++ a.work) = z.seen ∙ a.journal in
           let legal : IsLawfulJournal eq m new.seen = subst (IsLawfulJournal eq m) (sym z.seen) a.lawful in record {
             found = J;
@@ -138,24 +152,28 @@ module _ {K V : Type 0} (eq : K → K → Bool) (m : Meaning K V) where
             mine = z.mine ∙ (ap (λ n. events_by event_by n new.seen) number ∙ (ap (events_by event_by old.number) all ∙ (mine_more old.number J a.own a.work a.by a.of_tasks ∙ ap (λ l. l ++ a.own) e.found)));
             turns = count;
             later = record {
-              same = after;
+              same = ap (seated p) after;
               turns = omega arith;
               begins = (e.begins.0 ++ (a.own ++ a.work), all ∙ (ap (λ l. l ++ (a.own ++ a.work)) e.begins.1 ∙ append_assoc old.seen e.begins.0 (a.own ++ a.work)));
               lawful = legal;
               mine = z.mine;
               noted = z.noted;
               below = z.below;
-              floor = subst (λ (s : SeatView (Told K V)). s.floor ≤ new.floor) e.is z.floor.0;
+              floor = subst (λ (s : Place (Told K V)). s.floor ≤ new.floor) e.is z.floor.0;
               newest = z.floor.1;
             };
           }
 
-      pub turned_any : (w : ℕ) → Entered old mid J → Ended mid new I → (a : Adds eq m w J I (P J)) → a.own ≡ [] → Turn eq m old new P
+      pub turned_any : (w : ℕ) → Entered old mid J → Ended mid new I → (a : Adds eq m w J I (P J)) → a.own ≡ [] → Turn eq m (seated p old) (seated p new) P
       turned_any w e z a none = turned old.number e z refl (of_any old.number w J I (P J) a none)
 
       pub any_found : (w : ℕ) (e : Entered old mid J) (z : Ended mid new I) (a : Adds eq m w J I (P J)) (none : a.own ≡ []) → (turned_any w e z a none).found ≡ J
       unfolding turned_any turned
       any_found w e z a none = refl
+
+-- the number of two seats that are the same
+pub number_of : {E : Type 0} {s u : SeatView E} → s ≡ u → s.number ≡ u.number
+number_of {E} e = ap (λ (x : SeatView E). x.number) e
 
 module _ {K V : Type 0} (eq : K → K → Bool) (m : Meaning K V) where
   pub turn_so : (old new : SeatView (Told K V)) (P Q : List (Told K V) → List (Told K V) → List (Told K V) → Type 0) → Turn eq m old new P
@@ -179,10 +197,34 @@ module _ {K V : Type 0} (eq : K → K → Bool) (m : Meaning K V) where
     later = t.later;
   }
 
+  -- what the pass of a seat does before its turn does not matter
+  abbrev pub turn_of_pass : (old new : SeatView (Told K V)) (places : List ℕ) (empties : ℕ) (P : List (Told K V) → List (Told K V) → List (Told K V) → Type 0)
+      → Turn eq m (record old { places = places; empties = empties }) new P → Turn eq m old new P
+  turn_of_pass old new places empties P t = record {
+    found = t.found;
+    begins = t.begins;
+    found_mine = t.found_mine;
+    found_floor = t.found_floor;
+    adds = t.adds;
+    mine = t.mine;
+    turns = t.turns;
+    later = record {
+      same = t.later.same;
+      turns = t.later.turns;
+      begins = t.later.begins;
+      lawful = t.later.lawful;
+      mine = t.later.mine;
+      noted = t.later.noted;
+      below = t.later.below;
+      floor = t.later.floor;
+      newest = t.later.newest;
+    };
+  }
+
   -- later than later
   pub later_later : (a b c : SeatView (Told K V)) → Later eq m a b → Later eq m b c → Later eq m a c
   later_later a b c p q = record {
-    same = q.same ∙ ap (λ (s : SeatView (Told K V)). record s { away = true; seen = c.seen; mine = c.mine; floor = c.floor; left = c.left; turns = c.turns }) p.same;
+    same = q.same ∙ ap (λ (s : SeatView (Told K V)). record s { away = true; seen = c.seen; mine = c.mine; floor = c.floor; left = c.left; turns = c.turns; places = c.places; empties = c.empties }) p.same;
     turns = (let x = p.turns in let y = q.turns in omega arith);
     begins = (p.begins.0 ++ q.begins.0, q.begins.1 ∙ (ap (λ l. l ++ q.begins.0) p.begins.1 ∙ append_assoc a.seen p.begins.0 q.begins.0));
     lawful = q.lawful;

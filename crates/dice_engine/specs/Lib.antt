@@ -1,3 +1,4 @@
+pub mod Seats
 pub mod Turns
 pub mod Rises
 pub mod Conditions
@@ -5,6 +6,7 @@ pub mod Calls
 pub mod Replies
 pub mod Lines
 pub mod Jobs
+pub mod Benches
 pub mod Doings
 pub mod Leaving
 pub mod Rows

@@ -8,7 +8,8 @@ use Rattle.journal.specs.Tell.{event_by}
 use Rattle.journal.specs.Law.{IsLawfulJournal}
 use Rattle.dice_core.specs.Cores.{CoreSeen, IsWorkAt}
 use Rattle.turnstile.specs.Events.{StartsWith, events_by, AllBelow}
-use Rattle.turnstile.specs.Seats.{SeatView, IsAfterTurn, EachNote, NotedIn}
+use Rattle.turnstile.specs.Seats.{EachNote, NotedIn}
+use Rattle.dice_engine.specs.Seats.{SeatView, IsAfterTurn}
 
 module _ {K V : Type 0} where
   -- the commits of a journal, in order

@@ -3,7 +3,7 @@ ghost use Rattle.std.specs.Prelude.{◌≡◌, ℕ, ◌≤◌, ◌+◌, [], leng
 ghost use Rattle.std.specs.Arc.{arc_value};
 ghost use Rattle.std.specs.Map.{keys_of};
 ghost use Rattle.dice_core.specs.Commits.{Fault, fault_of, AreSettable, IsFirstFault};
-ghost use Rattle.turnstile.specs.Seats.{IsSeatOf, IsWriter};
+ghost use Rattle.dice_engine.specs.Seats.{IsSeatOf, IsWriter};
 ghost use Rattle.dice_engine.specs.Turns.{newest_in, log_of, Turn};
 ghost use Rattle.dice_engine.specs.Conditions.{HasOpen, HasAsk, SawAsk};
 ghost use Rattle.dice_engine.specs.Calls.{AddsNothing, Opens, Closes, Asks, Leaves, Commits};
@@ -11,8 +11,9 @@ ghost use Rattle.dice_engine.specs.Replies.{reply_of, IsReply};
 ghost use Rattle.dice_engine.specs.Lines.{AreLines, AreEventsFrom};
 ghost use Rattle.dice_engine.specs.Doings.{TellsOfCore};
 
-use crate::engine::{Engine, Seat};
+use crate::engine::Engine;
 use crate::promise::{Answer, Promise, Transaction};
+use crate::seat::Seat;
 use crate::updater::Updater;
 use dice_core::CommitRefusal;
 use dice_key::{KeyRef, Line, NoMemory, Universe, Version};
@@ -52,8 +53,10 @@ impl<U: Universe> Engine<U> {
         ensures same { (seat.new.number ≡ seat.old.number) × (seat.new.writers ≡ seat.old.writers) }
     {
         let number = seat.number();
-        let mut turn = self.stile.enter(rt, seat);
-        let result = turn.state().commit(rt, number, updater);
+        let mut turn = self.stile.enter(rt, &mut seat.place);
+        let state = turn.state();
+        let result = state.commit(rt, number, updater);
+        state.line_up(rt);
         self.stile.leave(turn);
         result
     }
@@ -71,8 +74,10 @@ impl<U: Universe> Engine<U> {
         ensures same { (seat.new.number ≡ seat.old.number) × (seat.new.writers ≡ seat.old.writers) }
     {
         let number = seat.number();
-        let mut turn = self.stile.enter(rt, seat);
-        let opened = turn.state().open(rt, number);
+        let mut turn = self.stile.enter(rt, &mut seat.place);
+        let state = turn.state();
+        let opened = state.open(rt, number);
+        state.line_up(rt);
         self.stile.leave(turn);
         opened
     }
@@ -87,8 +92,10 @@ impl<U: Universe> Engine<U> {
         ensures seat { IsSeatOf self.now seat.new }
         ensures same { (seat.new.number ≡ seat.old.number) × (seat.new.writers ≡ seat.old.writers) }
     {
-        let mut turn = self.stile.enter(rt, seat);
-        turn.state().close(rt, transaction);
+        let mut turn = self.stile.enter(rt, &mut seat.place);
+        let state = turn.state();
+        state.close(rt, transaction);
+        state.line_up(rt);
         self.stile.leave(turn);
     }
 
@@ -115,8 +122,10 @@ impl<U: Universe> Engine<U> {
         ensures same { (seat.new.number ≡ seat.old.number) × (seat.new.writers ≡ seat.old.writers) }
     {
         let number = seat.number();
-        let mut turn = self.stile.enter(rt, seat);
-        let promise = turn.state().ask(rt, number, transaction, key);
+        let mut turn = self.stile.enter(rt, &mut seat.place);
+        let state = turn.state();
+        let promise = state.ask(rt, number, transaction, key);
+        state.line_up(rt);
         self.stile.leave(turn);
         promise
     }
@@ -132,8 +141,10 @@ impl<U: Universe> Engine<U> {
         ensures seat { IsSeatOf self.now seat.new }
         ensures same { (seat.new.number ≡ seat.old.number) × (seat.new.writers ≡ seat.old.writers) }
     {
-        let mut turn = self.stile.enter(rt, seat);
-        turn.state().leave(rt, promise);
+        let mut turn = self.stile.enter(rt, &mut seat.place);
+        let state = turn.state();
+        state.leave(rt, promise);
+        state.line_up(rt);
         self.stile.leave(turn);
     }
 
@@ -156,8 +167,10 @@ impl<U: Universe> Engine<U> {
         ensures seat { IsSeatOf self.now seat.new }
         ensures same { (seat.new.number ≡ seat.old.number) × (seat.new.writers ≡ seat.old.writers) }
     {
-        let mut turn = self.stile.enter(rt, seat);
-        let answer = turn.state().poll(promise);
+        let mut turn = self.stile.enter(rt, &mut seat.place);
+        let state = turn.state();
+        let answer = state.poll(promise);
+        state.line_up(rt);
         self.stile.leave(turn);
         answer
     }
@@ -176,8 +189,10 @@ impl<U: Universe> Engine<U> {
         ensures seat { IsSeatOf self.now seat.new }
         ensures same { (seat.new.number ≡ seat.old.number) × (seat.new.writers ≡ seat.old.writers) }
     {
-        let mut turn = self.stile.enter(rt, seat);
-        let lines = turn.state().lines(alloc, &*self.universe);
+        let mut turn = self.stile.enter(rt, &mut seat.place);
+        let state = turn.state();
+        let lines = state.lines(alloc, &*self.universe);
+        state.line_up(rt);
         self.stile.leave(turn);
         lines
     }
@@ -191,8 +206,10 @@ impl<U: Universe> Engine<U> {
         ensures seat { IsSeatOf self.now seat.new }
         ensures same { (seat.new.number ≡ seat.old.number) × (seat.new.writers ≡ seat.old.writers) }
     {
-        let mut turn = self.stile.enter(rt, seat);
-        let count = turn.state().event_count();
+        let mut turn = self.stile.enter(rt, &mut seat.place);
+        let state = turn.state();
+        let count = state.event_count();
+        state.line_up(rt);
         self.stile.leave(turn);
         count
     }
@@ -212,8 +229,10 @@ impl<U: Universe> Engine<U> {
         ensures seat { IsSeatOf self.now seat.new }
         ensures same { (seat.new.number ≡ seat.old.number) × (seat.new.writers ≡ seat.old.writers) }
     {
-        let mut turn = self.stile.enter(rt, seat);
-        let events = turn.state().events(alloc, start);
+        let mut turn = self.stile.enter(rt, &mut seat.place);
+        let state = turn.state();
+        let events = state.events(alloc, start);
+        state.line_up(rt);
         self.stile.leave(turn);
         events
     }

@@ -8,9 +8,9 @@ ghost use Rattle.journal.specs.declared.event.Told.TheVariants.{Open, Close};
 ghost use Rattle.journal.specs.Events.{Opened, Decision, NotClosed, ByValue, ByCycle, decided, open_at, live_at, StandsAt, NotLeft};
 ghost use Rattle.journal.specs.Law.{IsLawfulJournal};
 ghost use Rattle.journal.specs.Tell.{event_by};
-ghost use Rattle.atomic_table.specs.Seated.{TableId};
+ghost use Rattle.dice_engine.specs.Seats.{EngineId};
 ghost use Rattle.turnstile.specs.Events.{StartsWith, events_by, AllBelow};
-ghost use Rattle.turnstile.specs.Seats.{SeatView, IsSeatOf};
+ghost use Rattle.dice_engine.specs.Seats.{SeatView, IsSeatOf};
 ghost use Rattle.shelf.specs.declared.op.Plain.{Plain};
 ghost use Rattle.shelf.specs.Ops.{row_at, IsSound};
 ghost use Rattle.dice_engine.specs.Turns.{newest_in, log_of, Later, Turn, Works};
@@ -27,7 +27,7 @@ use dice_key::{Universe, laws_of};
 pub fn turns_go_on<U: Universe>()
     ensures later { (s t u : SeatView (Told U.Key U.Value)) → Later U.Key.eq U.meaning s t
         → Later U.Key.eq U.meaning t u → Later U.Key.eq U.meaning s u }
-    ensures seat { (id : TableId) (s u : SeatView (Told U.Key U.Value))
+    ensures seat { (id : EngineId) (s u : SeatView (Told U.Key U.Value))
         → Later U.Key.eq U.meaning s u → IsSeatOf id s → IsSeatOf id u }
     ensures number { (s u : SeatView (Told U.Key U.Value)) → Later U.Key.eq U.meaning s u
         → (u.number ≡ s.number) × (u.writers ≡ s.writers) }

@@ -2,7 +2,7 @@
 ghost use Rattle.std.specs.Prelude.{◌≡◌, ◌↔◌, ◌<◌, true, false, length, All, Err, IfOk, MatchOption};
 ghost use Rattle.std.specs.Arc.{arc_value};
 ghost use Rattle.std.specs.Option.{option_map};
-ghost use Rattle.turnstile.specs.Seats.{first_seat, IsSeatOf};
+ghost use Rattle.dice_engine.specs.Seats.{first_seat, IsSeatOf};
 ghost use Rattle.shelf.specs.Ops.{row_at};
 ghost use Rattle.shelf.specs.Ends.{IsNewReader, after_refusal, door_to, Looked};
 ghost use Rattle.shelf.specs.declared.reader.LookRefusal.TheVariants as refusal;
@@ -10,9 +10,10 @@ ghost use Rattle.dice_engine.specs.Turns.{Turn};
 ghost use Rattle.dice_engine.specs.Calls.{AddsNothing};
 ghost use Rattle.dice_engine.specs.Rows.{ShelfHas};
 
-use crate::engine::{Engine, Seat};
+use crate::engine::Engine;
 use crate::ledge::Ledge;
 use crate::promise::Transaction;
+use crate::seat::{Seat, SeatOf};
 use crate::state::State;
 use dice_core::Core;
 use dice_key::{NoMemory, Universe, ValueRef};
@@ -39,10 +40,17 @@ impl<U: Universe> Engine<U> {
             (λ t. (length t.2.items ≡ readers) × All IsNewReader t.2.items) }
     {
         let core = Core::new(alloc, Arc::try_clone(&universe)?)?;
-        let state = State::new(alloc, core)?;
+        let (state, line, pass) = State::new(alloc, core)?;
         let (shelf, ends) = Ledge::boxed(rt, alloc, universe.seed(), readers)?;
         match Turnstile::new(alloc, state.with_shelf(shelf), writers) {
-            Ok((stile, seat)) => Ok((Engine { stile, universe }, seat, ends)),
+            Ok((stile, place)) => {
+                let engine = Engine {
+                    stile,
+                    line,
+                    universe,
+                };
+                Ok((engine, SeatOf { place, pass }, ends))
+            }
             Err((_, state)) => {
                 state.end(rt);
                 Err(NoMemory)
@@ -66,8 +74,10 @@ impl<U: Universe> Engine<U> {
         ensures seat { IsSeatOf self.now seat.new }
         ensures same { (seat.new.number ≡ seat.old.number) × (seat.new.writers ≡ seat.old.writers) }
     {
-        let mut turn = self.stile.enter(rt, seat);
-        let told = turn.state().tell();
+        let mut turn = self.stile.enter(rt, &mut seat.place);
+        let state = turn.state();
+        let told = state.tell();
+        state.line_up(rt);
         self.stile.leave(turn);
         learned(reader, told);
         seat.left().2 == 0

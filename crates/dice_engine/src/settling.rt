@@ -4,7 +4,7 @@ ghost use Rattle.std.specs.Prelude.{◌≡◌, ◌↔◌, ◌⊎◌, ◌+◌, �
 ghost use Rattle.std.specs.Arc.{arc_value};
 ghost use Rattle.journal.specs.declared.event.Told.{Told};
 ghost use Rattle.dice_core.specs.Cores.{CoreSeen, ToNothing, Pending, events_of, poll_of};
-ghost use Rattle.turnstile.specs.Seats.{SeatView};
+ghost use Rattle.dice_engine.specs.Seats.{SeatView};
 ghost use Rattle.dice_engine.specs.Turns.{left_of};
 ghost use Rattle.dice_engine.specs.Calls.{Closes, Leaves};
 ghost use Rattle.dice_engine.specs.Replies.{Reply, TheValue, TheCycle, NoRoom, NotYet, IsReply, IsLiveIn};
@@ -12,7 +12,7 @@ ghost use Rattle.dice_engine.specs.Doings.{TellsOfCore};
 ghost use Rattle.dice_engine.specs.Leaving.{DecidesNothing};
 
 use crate::promise::Promise;
-use dice_key::Universe;
+use dice_key::{Universe, laws_of};
 
 /// If no task is ready and no job is out, nothing hangs: a live ask is answered by a value or a
 /// cycle, or its key was lost, or memory was refused.
@@ -36,6 +36,7 @@ pub fn pending_is_exact<U: Universe>(promise: &Promise<U>)
         × (poll_of U.Key.eq U.meaning c promise.now.version (arc_value promise.now.key) ≡ ToNothing
         → r ≡ NoRoom) }
 {
+    laws_of::<U>();
     let _ = promise;
 }
 

@@ -15,40 +15,43 @@ ghost use Rattle.dice_core.specs.Cores.{Absent, came_of, events_of, poll_of, IsJ
 ghost use Rattle.dice_core.specs.Joinings.{IsToldOfMake};
 ghost use Rattle.dice_engine.specs.Turns.{newest_in, log_of, left_of, Adds, WorksOn};
 ghost use Rattle.dice_engine.specs.Calls.{AddsNothing, Opens, Closes, Asks, Leaves, Commits};
-ghost use Rattle.dice_engine.specs.Replies.{reply_of, settled_of, Tells, IsLiveIn, IsReply};
+ghost use Rattle.dice_engine.specs.Replies.{reply_of, Tells, IsLiveIn, IsReply};
 ghost use Rattle.dice_engine.specs.Lines.{AreLines, AreEventsFrom};
-ghost use Rattle.dice_engine.specs.Jobs.{GoesOut, GivesUpJob, TakesUpStep, ComesHome};
-ghost use Rattle.dice_engine.specs.Doings.{RestsByJournal, MayComeHome};
+ghost use Rattle.job_line.specs.Ends.{first_pass};
+ghost use Rattle.dice_engine.specs.Jobs.{GoesOut, LinesUp, IsKnown, GivesUpJob, TakesUpStep, ComesHome};
+ghost use Rattle.dice_engine.specs.Doings.{RestsByJournal};
 ghost use Rattle.dice_engine.specs.Rows.{Keeps, Follows, IsBare, ShelfHas};
-ghost use Rattle.dice_engine.specs.Rounds.{IsAskOf, RoundOver, settled_in, next_in};
+ghost use Rattle.dice_engine.specs.Rounds.{IsAskOf};
 
+use crate::bench::Bench;
 use crate::events::events_since;
 use crate::ledge::{Ledge, Published, shelve};
 use crate::lines::lines_of;
-use crate::promise::{Answer, Promise, Settled, Transaction};
+use crate::promise::{Answer, Promise, Transaction};
 use crate::updater::Updater;
-use crate::working::{Round, come_to};
 use dice_core::{CommitRefusal, Core, Job, JobName, Polled, Step};
+use dice_jobs::true_jobs_are_one;
 use dice_key::{KeyRef, Line, NoMemory, Universe, Version};
 use injected::cells_are_the_inputs;
-use journal::{Event, Journal, Told};
+use job_line::{JobLine, Pass};
+use journal::{Event, Told};
 use shelf::Told as News;
 use std::alloc::Global;
 use std::sync::{Arc, Wait};
 use turnstile::Tale;
 
-/// The state that the seats of an engine have in turns: its core, its shelf, if it has readers, and
-/// what it tells of itself between two turns. The last number that it tells is 0 exactly if all its
-/// rows are on a shelf, and readers can see them.
+/// The state that the seats of an engine have in turns: its core with its line of jobs, its shelf,
+/// if it has readers, and what it tells of itself between two turns. The last number that it tells
+/// is 0 exactly if all its rows are on a shelf, and readers can see them.
 #[derive(Drop)]
 pub struct State<U: Universe> {
-    core: Box<Core<U>>,
+    bench: Box<Bench<U>>,
     shelf: Option<Box<Ledge<U>>>,
     left: (u64, u64, u64),
     newest: u64,
-    ghost counted: { left ≡ left_of left.2 core.value },
-    ghost numbered: { newest ≡ newest_in (events_of core.value) },
-    ghost shelved: { ForSome shelf (λ b. Keeps (events_of core.value) left.2 b.value) },
+    ghost counted: { left ≡ left_of left.2 bench.value.core },
+    ghost numbered: { newest ≡ newest_in (events_of bench.value.core) },
+    ghost shelved: { ForSome shelf (λ b. Keeps (events_of bench.value.core) left.2 b.value) },
     ghost bare: { ForNone shelf (left.2 ≡ 1) },
 }
 
@@ -60,11 +63,13 @@ impl<U: Universe> Tale for State<U> {
 
     type Event = Told<U::Key, U::Value>;
 
-    ghost list = { λ s. events_of s.core.value };
+    ghost list = { λ s. events_of s.bench.value.core };
 
     ghost by = { event_by };
 
-    ghost counts = { λ s. left_of s.left.2 s.core.value };
+    ghost counts = { λ s. left_of s.left.2 s.bench.value.core };
+
+    ghost mark = { λ s. s.bench.value.line.web };
 
     ghost version = { newest_in };
 
@@ -112,64 +117,74 @@ fn settled<U: Universe, R: Wait>(
 }
 
 impl<U: Universe> State<U> {
-    /// A state with this core. The core lies on the heap, so that a turn moves no more than its
-    /// address.
-    pub(crate) fn new(alloc: Global, core: Core<U>) -> Result<State<U>, NoMemory>
-        ensures { IfOk result (λ s. s.core.value ≡ core) }
+    /// A state with this core, its line of jobs, and the first pass to it. The core lies on the
+    /// heap, so that a turn moves no more than its address.
+    pub(crate) fn new(
+        alloc: Global,
+        core: Core<U>,
+    ) -> Result<(State<U>, Arc<JobLine<Job<U>>>, Pass<Job<U>>), NoMemory>
+        ensures core { IfOk result (λ t. t.0.bench.value.core ≡ core) }
+        ensures line { IfOk result (λ t. t.0.bench.value.line ≡ arc_value t.1) }
+        ensures pass { IfOk result (λ t. t.2 ≡ first_pass (arc_value t.1)) }
     {
         let (left, newest) = standing(&core, 1);
-        let core = Box::new(alloc, core)?;
-        Ok(State {
-            core,
+        let (bench, line, pass) = Bench::new(alloc, core)?;
+        let state = State {
+            bench: Box::new(alloc, bench)?,
             shelf: None,
             left,
             newest,
-        })
+        };
+        Ok((state, line, pass))
     }
 
     /// The state with a shelf on which nothing is yet.
     pub(crate) fn with_shelf(self, shelf: Box<Ledge<U>>) -> State<U>
         requires bare { IsBare shelf.value }
-        requires new { events_of self.core.value ≡ [] }
-        ensures { result.core.value ≡ self.core.value }
+        requires new { events_of self.bench.value.core ≡ [] }
+        ensures core { result.bench.value.core ≡ self.bench.value.core }
+        ensures line { result.bench.value.line ≡ self.bench.value.line }
     {
         let State {
-            core,
+            bench,
             shelf: _none,
             left: (ready, out, _),
             newest,
         } = self;
         State {
-            core,
+            bench,
             shelf: Some(shelf),
             left: (ready, out, 0),
             newest,
         }
     }
 
-    /// Ends the shelf, if there is one, and hands out the core and what readers could see.
-    pub(crate) fn end<R: Wait>(self, rt: &R) -> (Box<Core<U>>, Option<Published<U>>) {
+    /// Ends the shelf, if there is one, and hands out the core with its line, and what readers
+    /// could see.
+    pub(crate) fn end<R: Wait>(self, rt: &R) -> (Box<Bench<U>>, Option<Published<U>>) {
         let State {
-            core,
+            bench,
             shelf,
             left: _,
             newest: _,
         } = self;
         let Some(shelf) = shelf else {
-            return (core, None);
+            return (bench, None);
         };
-        (core, Some(Box::into_inner(shelf).end(rt)))
+        (bench, Some(Box::into_inner(shelf).end(rt)))
     }
 
     /// What readers can see now, for a reader that learns it; `None` if there is no shelf.
     pub(crate) fn tell(&mut self) -> Option<News<U>>
-        ensures core { self.new.core.value ≡ self.old.core.value }
+        ensures core { self.new.bench.value.core ≡ self.old.bench.value.core }
         ensures told { IfSome result (λ t. IfSome t (λ xs.
-            (self.new.left.2 ≡ 0 → ShelfHas (events_of self.new.core.value) xs))) }
+            (self.new.left.2 ≡ 0 → ShelfHas (events_of self.new.bench.value.core) xs))) }
         ensures some { self.new.left.2 ≡ 0 → IsSome result }
-        ensures lawful { IsLawfulJournal U.Key.eq U.meaning (events_of self.new.core.value) }
+        ensures lawful { IsLawfulJournal U.Key.eq U.meaning (events_of self.new.bench.value.core) }
+        ensures line { self.new.bench.value.line ≡ self.old.bench.value.line }
     {
-        self.core.in_order();
+        let bench = &*self.bench;
+        bench.core.in_order();
         let Some(shelf) = &mut self.shelf else {
             return None;
         };
@@ -188,15 +203,18 @@ impl<U: Universe> State<U> {
             (λ e. IfSome (fault_of e) (IsFirstFault U.meaning (keys_of updater.now))) }
         ensures first { (f : Fault U.Key) → IsFirstFault U.meaning (keys_of updater.now) f
             → MatchResult result (λ _. ⊥) (λ e. IfSome (fault_of e) (λ g. g ≡ f)) }
-        ensures version { IfOk result (λ v. v ≡ newest_in (events_of self.new.core.value)) }
-        ensures ok { OnOk result (Adds U.Key.eq U.meaning by (events_of self.old.core.value)
-            (events_of self.new.core.value) (Commits U.Key.eq U.Value.eq U.meaning by
-            (log_of (events_of self.old.core.value)) updater.now)) }
-        ensures err { OnErr result (Adds U.Key.eq U.meaning by (events_of self.old.core.value)
-            (events_of self.new.core.value) AddsNothing) }
+        ensures version { IfOk result (λ v. v ≡ newest_in (events_of self.new.bench.value.core)) }
+        ensures ok { OnOk result (Adds U.Key.eq U.meaning by (events_of self.old.bench.value.core)
+            (events_of self.new.bench.value.core) (Commits U.Key.eq U.Value.eq U.meaning by
+            (log_of (events_of self.old.bench.value.core)) updater.now)) }
+        ensures err { OnErr result (Adds U.Key.eq U.meaning by (events_of self.old.bench.value.core)
+            (events_of self.new.bench.value.core) AddsNothing) }
+        ensures line { self.new.bench.value.line ≡ self.old.bench.value.line }
     {
+        true_jobs_are_one::<U>();
         cells_are_the_inputs::<U>();
-        let core = &mut *self.core;
+        let bench = &mut *self.bench;
+        let core = &mut bench.core;
         core.in_order();
         let result = core.commit(by, updater.pairs());
         let (left, newest) = settled(rt, &mut self.shelf, self.left.2, core);
@@ -207,15 +225,20 @@ impl<U: Universe> State<U> {
 
     /// Opens a transaction for a seat.
     pub(crate) fn open<R: Wait>(&mut self, rt: &R, by: u64) -> Result<Transaction, NoMemory>
-        ensures named { IfOk result (λ t. (t.version ≡ newest_in (events_of self.old.core.value))
-            × (t.opened ≡ length (events_of self.old.core.value))) }
-        ensures ok { OnOk result (Adds U.Key.eq U.meaning by (events_of self.old.core.value)
-            (events_of self.new.core.value) (Opens by (events_of self.old.core.value))) }
-        ensures err { OnErr result (Adds U.Key.eq U.meaning by (events_of self.old.core.value)
-            (events_of self.new.core.value) AddsNothing) }
+        ensures named { IfOk result (λ t.
+            (t.version ≡ newest_in (events_of self.old.bench.value.core))
+            × (t.opened ≡ length (events_of self.old.bench.value.core))) }
+        ensures ok { OnOk result (Adds U.Key.eq U.meaning by (events_of self.old.bench.value.core)
+            (events_of self.new.bench.value.core)
+            (Opens by (events_of self.old.bench.value.core))) }
+        ensures err { OnErr result (Adds U.Key.eq U.meaning by (events_of self.old.bench.value.core)
+            (events_of self.new.bench.value.core) AddsNothing) }
+        ensures line { self.new.bench.value.line ≡ self.old.bench.value.line }
     {
+        true_jobs_are_one::<U>();
         let version = self.newest;
-        let core = &mut *self.core;
+        let bench = &mut *self.bench;
+        let core = &mut bench.core;
         let opened = core.open(by);
         let (left, newest) = settled(rt, &mut self.shelf, self.left.2, core);
         self.left = left;
@@ -228,15 +251,20 @@ impl<U: Universe> State<U> {
 
     /// Closes a transaction.
     pub(crate) fn close<R: Wait>(&mut self, rt: &R, transaction: Transaction)
-        requires { IsLawfulJournal U.Key.eq U.meaning (events_of self.old.core.value)
+        requires { IsLawfulJournal U.Key.eq U.meaning (events_of self.old.bench.value.core)
             → (o : Opened)
-            × (open_at (reverse (events_of self.old.core.value)) transaction.opened ≡ Some o) }
-        ensures { (o : Opened)
-            × (open_at (reverse (events_of self.old.core.value)) transaction.opened ≡ Some o)
-            × Adds U.Key.eq U.meaning o.by (events_of self.old.core.value)
-            (events_of self.new.core.value) (Closes o.by transaction.opened o.version) }
+            × (open_at (reverse (events_of self.old.bench.value.core)) transaction.opened
+            ≡ Some o) }
+        ensures closes { (o : Opened)
+            × (open_at (reverse (events_of self.old.bench.value.core)) transaction.opened
+            ≡ Some o)
+            × Adds U.Key.eq U.meaning o.by (events_of self.old.bench.value.core)
+            (events_of self.new.bench.value.core) (Closes o.by transaction.opened o.version) }
+        ensures line { self.new.bench.value.line ≡ self.old.bench.value.line }
     {
-        let core = &mut *self.core;
+        true_jobs_are_one::<U>();
+        let bench = &mut *self.bench;
+        let core = &mut bench.core;
         core.in_order();
         core.close(transaction.opened);
         let (left, newest) = settled(rt, &mut self.shelf, self.left.2, core);
@@ -252,20 +280,25 @@ impl<U: Universe> State<U> {
         transaction: &Transaction,
         key: KeyRef<U>,
     ) -> Result<Promise<U>, NoMemory>
-        requires { IsLawfulJournal U.Key.eq U.meaning (events_of self.old.core.value)
+        requires { IsLawfulJournal U.Key.eq U.meaning (events_of self.old.bench.value.core)
             → (o : Opened)
-            × (open_at (reverse (events_of self.old.core.value)) transaction.now.opened ≡ Some o)
+            × (open_at (reverse (events_of self.old.bench.value.core)) transaction.now.opened
+            ≡ Some o)
             × (o.version ≡ transaction.now.version) }
         ensures named { IfOk result (λ p. (p.version ≡ transaction.now.version)
-            × (p.opened ≡ transaction.now.opened) × (p.ask ≡ length (events_of self.old.core.value))
+            × (p.opened ≡ transaction.now.opened)
+            × (p.ask ≡ length (events_of self.old.bench.value.core))
             × (arc_value p.key ≡ arc_value key)) }
-        ensures ok { OnOk result (Adds U.Key.eq U.meaning by (events_of self.old.core.value)
-            (events_of self.new.core.value)
+        ensures ok { OnOk result (Adds U.Key.eq U.meaning by (events_of self.old.bench.value.core)
+            (events_of self.new.bench.value.core)
             (Asks by transaction.now.opened transaction.now.version (arc_value key))) }
-        ensures err { OnErr result (Adds U.Key.eq U.meaning by (events_of self.old.core.value)
-            (events_of self.new.core.value) AddsNothing) }
+        ensures err { OnErr result (Adds U.Key.eq U.meaning by (events_of self.old.bench.value.core)
+            (events_of self.new.bench.value.core) AddsNothing) }
+        ensures line { self.new.bench.value.line ≡ self.old.bench.value.line }
     {
-        let core = &mut *self.core;
+        true_jobs_are_one::<U>();
+        let bench = &mut *self.bench;
+        let core = &mut bench.core;
         core.in_order();
         let ask = ask_again(core, by, transaction.opened, &key);
         let (left, newest) = settled(rt, &mut self.shelf, self.left.2, core);
@@ -281,27 +314,32 @@ impl<U: Universe> State<U> {
 
     /// Leaves an ask, if its transaction is still open.
     pub(crate) fn leave<R: Wait>(&mut self, rt: &R, promise: Promise<U>)
-        requires open { IsLawfulJournal U.Key.eq U.meaning (events_of self.old.core.value)
+        requires open { IsLawfulJournal U.Key.eq U.meaning (events_of self.old.bench.value.core)
             → (o : Opened)
-            → open_at (reverse (events_of self.old.core.value)) promise.opened ≡ Some o
+            → open_at (reverse (events_of self.old.bench.value.core)) promise.opened ≡ Some o
             → (a : Asking U.Key)
-            × (live_at (reverse (events_of self.old.core.value)) promise.ask ≡ Some a)
+            × (live_at (reverse (events_of self.old.bench.value.core)) promise.ask ≡ Some a)
             × (a.opened ≡ promise.opened) × (o.version ≡ promise.version) }
-        requires closed { IsLawfulJournal U.Key.eq U.meaning (events_of self.old.core.value)
+        requires closed { IsLawfulJournal U.Key.eq U.meaning (events_of self.old.bench.value.core)
             → (a : Asking U.Key)
-            → live_at (reverse (events_of self.old.core.value)) promise.ask ≡ Some a
+            → live_at (reverse (events_of self.old.bench.value.core)) promise.ask ≡ Some a
             → (a.opened ≡ promise.opened)
             × ((o : Opened)
-            × (open_at (reverse (events_of self.old.core.value)) promise.opened ≡ Some o)) }
-        ensures { (n : ℕ)
-            → (IsLawfulJournal U.Key.eq U.meaning (events_of self.old.core.value)
+            × (open_at (reverse (events_of self.old.bench.value.core)) promise.opened ≡ Some o)) }
+        ensures leaves { (n : ℕ)
+            → (IsLawfulJournal U.Key.eq U.meaning (events_of self.old.bench.value.core)
             → (a : Asking U.Key)
-            → live_at (reverse (events_of self.old.core.value)) promise.ask ≡ Some a → a.by ≡ n)
-            → Adds U.Key.eq U.meaning n (events_of self.old.core.value)
-            (events_of self.new.core.value)
-            (Leaves n promise.ask promise.opened promise.version (events_of self.old.core.value)) }
+            → live_at (reverse (events_of self.old.bench.value.core)) promise.ask ≡ Some a
+            → a.by ≡ n)
+            → Adds U.Key.eq U.meaning n (events_of self.old.bench.value.core)
+            (events_of self.new.bench.value.core)
+            (Leaves n promise.ask promise.opened promise.version
+            (events_of self.old.bench.value.core)) }
+        ensures line { self.new.bench.value.line ≡ self.old.bench.value.line }
     {
-        let core = &mut *self.core;
+        true_jobs_are_one::<U>();
+        let bench = &mut *self.bench;
+        let core = &mut bench.core;
         core.in_order();
         if core.stands(promise.ask) {
             core.leave(promise.ask);
@@ -313,20 +351,21 @@ impl<U: Universe> State<U> {
 
     /// What a promise has come to.
     pub(crate) fn poll(&self, promise: &Promise<U>) -> Result<Answer<U>, NoMemory>
-        requires { IsLawfulJournal U.Key.eq U.meaning (events_of self.now.core.value)
-            → IsAskOf promise.now (events_of self.now.core.value) }
-        ensures reply { IsReply U.Key.eq U.meaning (events_of self.now.core.value)
+        requires { IsLawfulJournal U.Key.eq U.meaning (events_of self.now.bench.value.core)
+            → IsAskOf promise.now (events_of self.now.bench.value.core) }
+        ensures reply { IsReply U.Key.eq U.meaning (events_of self.now.bench.value.core)
             promise.now.version (arc_value promise.now.key) promise.now.ask
-            (left_of self.now.left.2 self.now.core.value) (reply_of result) }
+            (left_of self.now.left.2 self.now.bench.value.core) (reply_of result) }
 
         // If the ask is live, what is answered is what the core has come to.
-        ensures exact { IsLiveIn (events_of self.now.core.value) promise.now.ask
-            → Tells (poll_of U.Key.eq U.meaning self.now.core.value promise.now.version
+        ensures exact { IsLiveIn (events_of self.now.bench.value.core) promise.now.ask
+            → Tells (poll_of U.Key.eq U.meaning self.now.bench.value.core promise.now.version
             (arc_value promise.now.key)) (reply_of result) }
-        ensures lawful { IsLawfulJournal U.Key.eq U.meaning (events_of self.now.core.value) }
-        ensures rests { RestsByJournal U.Key.eq U.meaning self.now.core.value }
+        ensures lawful { IsLawfulJournal U.Key.eq U.meaning (events_of self.now.bench.value.core) }
+        ensures rests { RestsByJournal U.Key.eq U.meaning self.now.bench.value.core }
     {
-        let core = &*self.core;
+        let bench = &*self.bench;
+        let core = &bench.core;
         core.in_order();
         if !core.stands(promise.ask) {
             return Ok(Answer::Gone);
@@ -337,20 +376,22 @@ impl<U: Universe> State<U> {
     /// The lines of the journal, one for each event, in order.
     pub(crate) fn lines(&self, alloc: Global, universe: &U) -> Result<Vec<Line>, NoMemory>
         ensures lines { IfOk result
-            (λ ls. AreLines U.meaning (events_of self.now.core.value) ls.items) }
-        ensures lawful { IsLawfulJournal U.Key.eq U.meaning (events_of self.now.core.value) }
+            (λ ls. AreLines U.meaning (events_of self.now.bench.value.core) ls.items) }
+        ensures lawful { IsLawfulJournal U.Key.eq U.meaning (events_of self.now.bench.value.core) }
     {
-        let core = &*self.core;
+        let bench = &*self.bench;
+        let core = &bench.core;
         core.in_order();
         lines_of(alloc, universe, core.journal())
     }
 
     /// How many events there are.
     pub(crate) fn event_count(&self) -> usize
-        ensures count { result ≡ length (events_of self.now.core.value) }
-        ensures lawful { IsLawfulJournal U.Key.eq U.meaning (events_of self.now.core.value) }
+        ensures count { result ≡ length (events_of self.now.bench.value.core) }
+        ensures lawful { IsLawfulJournal U.Key.eq U.meaning (events_of self.now.bench.value.core) }
     {
-        let core = &*self.core;
+        let bench = &*self.bench;
+        let core = &bench.core;
         core.in_order();
         core.journal().len()
     }
@@ -362,10 +403,11 @@ impl<U: Universe> State<U> {
         start: usize,
     ) -> Result<Vec<Event<U::Key, U::Value>>, NoMemory>
         ensures events { IfOk result
-            (λ es. AreEventsFrom start (events_of self.now.core.value) es.items) }
-        ensures lawful { IsLawfulJournal U.Key.eq U.meaning (events_of self.now.core.value) }
+            (λ es. AreEventsFrom start (events_of self.now.bench.value.core) es.items) }
+        ensures lawful { IsLawfulJournal U.Key.eq U.meaning (events_of self.now.bench.value.core) }
     {
-        let core = &*self.core;
+        let bench = &*self.bench;
+        let core = &bench.core;
         core.in_order();
         events_since(alloc, core.journal(), start)
     }
@@ -373,15 +415,17 @@ impl<U: Universe> State<U> {
     /// Takes the job of a task that is ready; it is out then, and nothing else changes. `None`
     /// exactly if no task is ready.
     pub(crate) fn take_job(&mut self) -> Option<Job<U>>
-        ensures adds { Adds U.Key.eq U.meaning 0 (events_of self.old.core.value)
-            (events_of self.new.core.value) AddsNothing }
-        ensures goes { GoesOut U.Key.eq result self.old.core.value self.new.core.value }
-        ensures none { IfNone result (self.new.core.value.desk.ready ≡ []) }
+        ensures adds { Adds U.Key.eq U.meaning 0 (events_of self.old.bench.value.core)
+            (events_of self.new.bench.value.core) AddsNothing }
+        ensures goes { GoesOut U.Key.eq result self.old.bench.value.core self.new.bench.value.core }
+        ensures none { IfNone result (self.new.bench.value.core.desk.ready ≡ []) }
         ensures answered { IfSome result
-            (IsAnsweredIn U.Key.eq U.meaning (log_of (events_of self.new.core.value))) }
-        ensures rests { RestsByJournal U.Key.eq U.meaning self.new.core.value }
+            (IsAnsweredIn U.Key.eq U.meaning (log_of (events_of self.new.bench.value.core))) }
+        ensures rests { RestsByJournal U.Key.eq U.meaning self.new.bench.value.core }
+        ensures line { self.new.bench.value.line ≡ self.old.bench.value.line }
     {
-        let core = &mut *self.core;
+        let bench = &mut *self.bench;
+        let core = &mut bench.core;
         let job = core.take_job();
         let (left, newest) = standing(core, self.left.2);
         self.left = left;
@@ -389,123 +433,65 @@ impl<U: Universe> State<U> {
         job
     }
 
-    /// Takes up what came of a job that was taken here: a step, or the name of the job, if there
-    /// was no memory for it. The job is out no more then.
-    pub(crate) fn take_up<R: Wait>(&mut self, rt: &R, came: Result<Step<U>, JobName<U>>)
-        requires { IfOk came
-            (λ s. AnsweredTruly U.Key.eq U.meaning (log_of (events_of self.old.core.value)) s.job) }
-        ensures adds { Adds U.Key.eq U.meaning 0 (events_of self.old.core.value)
-            (events_of self.new.core.value) (λ own work. own ≡ []) }
-        ensures home { ComesHome U.Key.eq U.meaning U.Value.eq came self.old.core.value
-            self.new.core.value }
-        ensures rests { RestsByJournal U.Key.eq U.meaning self.new.core.value }
+    /// Puts the ready jobs on the line, in order, as the last of a turn. It stops if the line had
+    /// as many puts as it may have, or if there is no memory; then the jobs that are left stay
+    /// ready.
+    pub(crate) fn line_up<R: Wait>(&mut self, rt: &R)
+        ensures lines_up { LinesUp U.Key.eq self.old.bench.value.puts self.new.bench.value.puts
+            self.old.bench.value.core self.new.bench.value.core }
+        ensures none { self.old.bench.value.core.desk.ready ≡ []
+            → self.new.bench.value.core ≡ self.old.bench.value.core }
+        ensures events { events_of self.new.bench.value.core ≡ events_of self.old.bench.value.core }
+        ensures rests { RestsByJournal U.Key.eq U.meaning self.new.bench.value.core }
+        ensures mark { self.new.left.2 ≡ self.old.left.2 }
+        ensures line { self.new.bench.value.line ≡ self.old.bench.value.line }
     {
-        let core = &mut *self.core;
+        let bench = &mut *self.bench;
+        bench.line_up(rt);
+        let (left, newest) = standing(&bench.core, self.left.2);
+        self.left = left;
+        self.newest = newest;
+    }
+
+    /// A pass to the line, for a place that has none. Nothing changes.
+    pub(crate) fn pass(&mut self) -> Pass<Job<U>>
+        ensures line { result.line ≡ self.old.bench.value.line }
+        ensures core { self.new.bench.value.core ≡ self.old.bench.value.core }
+        ensures same { self.new.bench.value.line ≡ self.old.bench.value.line }
+        ensures lawful { IsLawfulJournal U.Key.eq U.meaning (events_of self.new.bench.value.core) }
+    {
+        let bench = &mut *self.bench;
+        bench.core.in_order();
+        bench.line.pass(&mut bench.putter)
+    }
+
+    /// Takes up what came of a job that was taken here, or from the line by this pass: a step, or
+    /// the name of the job, if there was no memory for it. The job is out no more then.
+    pub(crate) fn take_up<R: Wait>(
+        &mut self,
+        rt: &R,
+        pass: &mut Pass<Job<U>>,
+        came: Result<Step<U>, JobName<U>>,
+    )
+        requires pass { pass.old.line ≡ self.old.bench.value.line }
+        requires known { IfOk came (λ s. IsKnown U.Key.eq U.meaning
+            (log_of (events_of self.old.bench.value.core)) pass.old.seen s.job) }
+        ensures adds { Adds U.Key.eq U.meaning 0 (events_of self.old.bench.value.core)
+            (events_of self.new.bench.value.core) (λ own work. own ≡ []) }
+        ensures home { ComesHome U.Key.eq U.meaning U.Value.eq came self.old.bench.value.core
+            self.new.bench.value.core }
+        ensures rests { RestsByJournal U.Key.eq U.meaning self.new.bench.value.core }
+        ensures line { self.new.bench.value.line ≡ self.old.bench.value.line }
+        ensures pass { pass.new ≡ pass.old }
+    {
+        true_jobs_are_one::<U>();
+        let bench = &mut *self.bench;
+        bench.line.meet(rt, &mut bench.putter, pass);
+        let core = &mut bench.core;
         take_in(core, came);
         let (left, newest) = settled(rt, &mut self.shelf, self.left.2, core);
         self.left = left;
         self.newest = newest;
-    }
-}
-
-impl<U: Universe> State<U> {
-    /// A round of a wait: what came of a job is taken up, if anything came; and if the promise is
-    /// pending then, a job is taken. `polled` is how many events there were when it was polled
-    /// last.
-    pub(crate) fn go_round<R: Wait>(
-        &mut self,
-        rt: &R,
-        came: Option<Result<Step<U>, JobName<U>>>,
-        promise: &Promise<U>,
-        polled: &mut Option<usize>,
-    ) -> Round<U>
-        requires answered { IfSome came (λ r. IfOk r (λ s. AnsweredTruly U.Key.eq U.meaning
-            (log_of (events_of self.old.core.value)) s.job)) }
-        requires ask { (J : List (Told U.Key U.Value))
-            → StartsWith J (events_of self.old.core.value)
-            → IsLawfulJournal U.Key.eq U.meaning J → IsAskOf promise.now J }
-        ensures adds { Adds U.Key.eq U.meaning 0 (events_of self.old.core.value)
-            (events_of self.new.core.value) (λ own work. own ≡ []) }
-        ensures over { RoundOver U.Key.eq U.meaning U.Value.eq came promise.now result
-            self.old.core.value self.new.core.value }
-        ensures reply { IfSome (settled_in result) (IsReply U.Key.eq U.meaning
-            (events_of self.new.core.value) promise.now.version (arc_value promise.now.key)
-            promise.now.ask (left_of self.new.left.2 self.new.core.value)) }
-        ensures answered { IfSome (next_in result)
-            (IsAnsweredIn U.Key.eq U.meaning (log_of (events_of self.new.core.value))) }
-        ensures rests { RestsByJournal U.Key.eq U.meaning self.new.core.value }
-    {
-        self.come_home(rt, came);
-        if let Some(settled) = self.poll_anew(promise, polled) {
-            return Round::Settled(settled);
-        }
-        Round::Next(self.take_job())
-    }
-
-    // What came of a job is taken up, if anything came.
-    fn come_home<R: Wait>(&mut self, rt: &R, came: Option<Result<Step<U>, JobName<U>>>)
-        requires { IfSome came (λ r. IfOk r (λ s. AnsweredTruly U.Key.eq U.meaning
-            (log_of (events_of self.old.core.value)) s.job)) }
-        ensures adds { Adds U.Key.eq U.meaning 0 (events_of self.old.core.value)
-            (events_of self.new.core.value) (λ own work. own ≡ []) }
-        ensures home { MayComeHome U.Key.eq U.meaning U.Value.eq came self.old.core.value
-            self.new.core.value }
-    {
-        match came {
-            Some(came) => self.take_up(rt, came),
-            None => self.core.in_order(),
-        }
-    }
-
-    // What a promise has come to, if it is not pending. It is not polled again while no event came
-    // that can decide it, since it is pending still.
-    fn poll_anew(
-        &self,
-        promise: &Promise<U>,
-        polled: &mut Option<usize>,
-    ) -> Option<Result<Settled<U>, NoMemory>>
-        requires { IsLawfulJournal U.Key.eq U.meaning (events_of self.now.core.value)
-            → IsAskOf promise.now (events_of self.now.core.value) }
-        ensures reply { IfSome result (λ r. IsReply U.Key.eq U.meaning
-            (events_of self.now.core.value) promise.now.version (arc_value promise.now.key)
-            promise.now.ask (left_of self.now.left.2 self.now.core.value) (settled_of r)) }
-        ensures exact { IfSome result (λ r. IsLiveIn (events_of self.now.core.value) promise.now.ask
-            → Tells (poll_of U.Key.eq U.meaning self.now.core.value promise.now.version
-            (arc_value promise.now.key)) (settled_of r)) }
-        ensures lawful { IsLawfulJournal U.Key.eq U.meaning (events_of self.now.core.value) }
-        ensures rests { RestsByJournal U.Key.eq U.meaning self.now.core.value }
-    {
-        let core = &*self.core;
-        core.in_order();
-        let journal = core.journal();
-        if let Some(last) = polled.replace(journal.len()) {
-            if !decides_since(journal, last) {
-                return None;
-            }
-        }
-        come_to(self.poll(promise))
-    }
-}
-
-/// Whether an event of a journal from this index on can decide a promise: it ends a task, an ask or
-/// a transaction.
-fn decides_since<U: Universe>(journal: &Journal<U>, start: usize) -> bool {
-    for index in start..journal.len() {
-        if decides(journal.event(index)) {
-            return true;
-        }
-    }
-    false
-}
-
-/// Whether an event can decide a promise.
-fn decides<K: Drop, V: Drop>(event: &Event<K, V>) -> bool {
-    match event {
-        Event::Commit(_, _) | Event::Open(_, _) | Event::Ask(_, _, _) | Event::Start(_, _, _) => {
-            false
-        }
-        Event::Close(_, _) | Event::Leave(_, _) | Event::Keep(_, _, _) | Event::End(_, _) => true,
-        Event::Cyclic(_, _) | Event::Drop(_, _) | Event::Lost(_, _) => true,
     }
 }
 

@@ -1,11 +1,12 @@
 //! Workers beside a caller: each on a seat of its own, in a thread of its own.
 ghost use Rattle.std.specs.Prelude.{◌≡◌, ◌≤◌, All, IfOk, length};
-ghost use Rattle.turnstile.specs.Seats.{IsSeatOf, spare};
-ghost use Rattle.dice_engine.specs.Seating.{GivesSeats};
+ghost use Rattle.dice_engine.specs.Seats.{IsSeatOf, spare};
+ghost use Rattle.dice_engine.specs.Seating.{GivesSeats, IsPlaceOf};
 
-use crate::engine::{Engine, Seat};
+use crate::engine::Engine;
 use crate::gate::Gate;
 use crate::promise::Worked;
+use crate::seat::{Place, Seat, SeatOf};
 use dice_key::{NoMemory, Universe};
 use std::alloc::Global;
 use std::sync::Wait;
@@ -14,29 +15,30 @@ use std::thread::{self, Threads, join};
 use std::time::Duration;
 
 /// How long a worker rests after a job, and at first if it finds none, in microseconds.
-const REST: u64 = 300;
+const REST: u64 = 1000;
 
 /// How often a rest is twice as long as the one before it, at most.
 const DOUBLED: u32 = 5;
 
 impl<U: Universe> Engine<U> {
-    /// Splits off so many seats. If memory is refused, those that were split off are let go.
+    /// Splits off so many seats for workers. If memory is refused, those that were split off are let
+    /// go.
     pub fn split_seats(
         &self,
         alloc: Global,
         seat: &mut Seat<U>,
         count: u64,
-    ) -> Result<Vec<Seat<U>>, NoMemory>
+    ) -> Result<Vec<Place<U>>, NoMemory>
         requires seat { IsSeatOf self.now seat.old }
         requires spare { count ≤ spare seat.old }
         ensures gives { GivesSeats seat.old seat.new }
-        ensures seats { IfOk result (λ v. All (IsSeatOf self.now) v.items) }
+        ensures seats { IfOk result (λ v. All (IsPlaceOf self.now) v.items) }
         ensures count { IfOk result (λ v. length v.items ≡ count) }
     {
         let mut seats = Vec::new(alloc);
         for _ in 0..count {
-            let new = self.split(seat)?;
-            seats.push(new)?;
+            let SeatOf { place, pass: _pass } = self.split(seat)?;
+            seats.push(place)?;
         }
         Ok(seats)
     }
@@ -47,11 +49,11 @@ impl<U: Universe> Engine<U> {
     pub fn with_workers<R: Threads + Wait + Sync, G: Gate, T, F: FnOnce() -> T>(
         &self,
         rt: &R,
-        seats: Vec<Seat<U>>,
+        seats: Vec<Place<U>>,
         gate: &G,
         f: F,
     ) -> T
-        requires seats { All (IsSeatOf self.now) seats.items }
+        requires seats { All (IsPlaceOf self.now) seats.items }
         requires call { F.pre f }
         ensures { F.post f result }
     {
@@ -60,8 +62,8 @@ impl<U: Universe> Engine<U> {
         beside(
             rt,
             seats,
-            &|seats: Vec<Seat<U>>| -> bool
-                requires { All (IsSeatOf self.now) seats.items }
+            &|seats: Vec<Place<U>>| -> bool
+                requires { All (IsPlaceOf self.now) seats.items }
             { self.work_all(rt, seats, gate, stop) },
             f,
             stop,
@@ -72,34 +74,42 @@ impl<U: Universe> Engine<U> {
     fn work_all<R: Threads + Wait + Sync, G: Gate>(
         &self,
         rt: &R,
-        seats: Vec<Seat<U>>,
+        seats: Vec<Place<U>>,
         gate: &G,
         stop: &AtomicU64,
     ) -> bool
-        requires { All (IsSeatOf self.now) seats.items }
+        requires { All (IsPlaceOf self.now) seats.items }
     {
         thread::map_vec(
             rt,
             seats,
-            &|seat: Seat<U>| -> bool
-                requires { IsSeatOf self.now seat }
-            { self.work_on(rt, seat, gate, stop) },
+            &|place: Place<U>| -> bool
+                requires { IsPlaceOf self.now place }
+            { self.work_on(rt, place, gate, stop) },
         )
         .is_ok()
+    }
+
+    // A seat of a worker, in its thread. Its pass is made in a turn: what is passed to a thread may
+    // not name the jobs of a line, since the engine beside it names the rule of its shelf.
+    fn seated<R: Wait>(&self, rt: &R, mut place: Place<U>) -> Seat<U>
+        requires { IsPlaceOf self.now place }
+        ensures { IsSeatOf self.now result }
+    {
+        let mut turn = self.stile.enter(rt, &mut place);
+        let state = turn.state();
+        let pass = state.pass();
+        self.stile.leave(turn);
+        SeatOf { place, pass }
     }
 
     // Does jobs until it is stopped, which it answers. After each job it rests a little, and for
     // longer while it finds none; if the engine is taken, it rests first. So the turns are left to
     // the caller: most jobs are short.
-    fn work_on<R: Wait, G: Gate>(
-        &self,
-        rt: &R,
-        mut seat: Seat<U>,
-        gate: &G,
-        stop: &AtomicU64,
-    ) -> bool
-        requires { IsSeatOf self.now seat }
+    fn work_on<R: Wait, G: Gate>(&self, rt: &R, place: Place<U>, gate: &G, stop: &AtomicU64) -> bool
+        requires { IsPlaceOf self.now place }
     {
+        let mut seat = self.seated(rt, place);
         let worker = (seat.number() % 4_294_967_296) as u32;
         let mut tries = 0u32;
         for _ in rt.forever() {

@@ -1,7 +1,7 @@
 -- The transactions that are open at a script's end are closed; and what the journal then says.
 use Rattle.std.proofs.Common.{◌≡◌, ◌⊎◌, inl, inr, ℕ, Bool, true, false, cond, List, [], ◌∷◌, ◌++◌, Option, Some, None, refl, sym, ap, ◌∙◌, subst, append-nil, append_assoc}
 use Rattle.std.specs.Str.{bytes_eq}
-use Rattle.atomic_table.specs.Seated.{TableId}
+use Rattle.dice_engine.specs.Seats.{EngineId}
 use Rattle.journal.specs.declared.event.Told.{Told}
 use Rattle.journal.specs.declared.event.Told.TheVariants as told
 use Rattle.journal.specs.Tell.{event_by}
@@ -54,7 +54,7 @@ opened_later (Close u ∷ ls) past t h = elim (opened_later ls (after past (Clos
     false_true : Some false ≡ Some true → ⊥
     false_true e = cc
 
-pub closing_first : (id : TableId) (ls : List Line) (d : Driver) → Settled id ls d → d.outlook.unpolled.items ≡ [] → Closing id ls ls d
+pub closing_first : (id : EngineId) (ls : List Line) (d : Driver) → Settled id ls d → d.outlook.unpolled.items ≡ [] → Closing id ls ls d
 closing_first id ls d s polled = record {
   polled = polled;
   past = s.past;
@@ -77,7 +77,7 @@ closing_first id ls d s polled = record {
 }
 
 -- a line that opens nothing
-pub closing_past : (id : TableId) (ls rest : List Line) (l : Line) (d : Driver) → ((n : Indices) (table : Table Bool) (es : Events) → AddsEnds n table rest es → AddsEnds n table (l ∷ rest) es) → ((t : List ℕ) → OpenedIn (l ∷ rest) t → OpenedIn rest t)
+pub closing_past : (id : EngineId) (ls rest : List Line) (l : Line) (d : Driver) → ((n : Indices) (table : Table Bool) (es : Events) → AddsEnds n table rest es → AddsEnds n table (l ∷ rest) es) → ((t : List ℕ) → OpenedIn (l ∷ rest) t → OpenedIn rest t)
     → Closing id ls (l ∷ rest) d → Closing id ls rest d
 closing_past id ls rest l d f g c = record {
   polled = c.polled;
@@ -101,7 +101,7 @@ closing_past id ls rest l d f g c = record {
 }
 
 -- a line that opened a transaction
-module _ (id : TableId) (ls rest : List Line) (t : List ℕ) (d e : Driver) where
+module _ (id : EngineId) (ls rest : List Line) (t : List ℕ) (d e : Driver) where
   false_true : Some false ≡ Some true → ⊥
   false_true e = cc
 
@@ -198,7 +198,7 @@ cut (x ∷ J) e (inl s) = ([], J, ap (λ (y : Told Key Value). y ∷ J) s)
 cut (x ∷ J) e (inr h) = (let c = cut J e h in (x ∷ c.0, c.1, ap (λ (l : Events). x ∷ l) c.2))
 
 -- after turns that added nothing too
-module _ (id : TableId) (ls : List Line) (d : Driver) (u : Place) (c : Closing id ls [] d) (rest : Rests id d.seat u) where
+module _ (id : EngineId) (ls : List Line) (d : Driver) (u : Place) (c : Closing id ls [] d) (rest : Rests id d.seat u) where
   mine_is : events_by event_by 0 u.seen ≡ d.seat.mine
   mine_is = rest.0.mine ∙ rest.2
 
@@ -240,5 +240,5 @@ module _ (id : TableId) (ls : List Line) (d : Driver) (u : Place) (c : Closing i
         by_open r i (elim (i.decided (c.answered r h n)) as (λ _. WasDecided d.seat.seen i.transaction r.version (key_of r.wish)) [ inl w ↦ w | inr p ↦ absurd (none_unpolled i.transaction r p) ]) (c.past.opened r.transaction) refl;
   }
 
-pub rests_itself : (id : TableId) (s : Place) → IsOurs id s → Rests id s s
+pub rests_itself : (id : EngineId) (s : Place) → IsOurs id s → Rests id s s
 rests_itself id s o = (o, begins_itself s.seen, refl)

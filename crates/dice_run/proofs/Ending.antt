@@ -3,7 +3,7 @@ use Rattle.std.proofs.Common.{◌≡◌, ◌≢◌, ◌≤◌, ◌<◌, ◌+◌,
 use Rattle.std.specs.Option.{option_map}
 use Rattle.std.specs.Str.{bytes_eq}
 use Rattle.std.proofs.lemmas.Slice.Eq.{bytes_eq-Decides}
-use Rattle.atomic_table.specs.Seated.{TableId}
+use Rattle.dice_engine.specs.Seats.{EngineId}
 use Rattle.script.specs.declared.line.Line.{Line}
 use Rattle.script.specs.declared.line.Line.TheVariants.{Put, Drop, Commit, Open, Ask, Action, Wait, Cancel, Close}
 use Rattle.script.specs.declared.fate.Fate.{Fate}
@@ -34,7 +34,7 @@ use Rattle.lists.proofs.Options.{none_some, some_same}
 -- ---- the lines
 
 -- the driver stands after some lines, and before the rest
-pub record Going (id : TableId) (ls rest : List Line) (d : Driver) : Type 0 where
+pub record Going (id : EngineId) (ls rest : List Line) (d : Driver) : Type 0 where
   pub plan : Plan
   pub past : Past
   pub stands : Matches id d plan past
@@ -44,7 +44,7 @@ pub record Going (id : TableId) (ls rest : List Line) (d : Driver) : Type 0 wher
   pub newest : newest_from (is_cancelled ls) no_plan ls ≡ d.newest.items ++ newest_from (is_cancelled ls) plan rest
   pub records : Records ls rest d plan past
 
-starts_stands : (id : TableId) (d : Driver) → Starts id d → Matches id d no_plan nothing
+starts_stands : (id : EngineId) (d : Driver) → Starts id d → Matches id d no_plan nothing
 starts_stands id d s = record {
   ours = s.ours;
   log = ap (λ (es : List (Told Key Value)). engine_log es) s.mine;
@@ -62,7 +62,7 @@ starts_stands id d s = record {
   touched = λ q t h. h;
 }
 
-pub going_first : (id : TableId) (ls : List Line) (d : Driver) → Starts id d → InOrder nothing ls → Going id ls ls d
+pub going_first : (id : EngineId) (ls : List Line) (d : Driver) → Starts id d → InOrder nothing ls → Going id ls ls d
 going_first id ls d s o = record {
   plan = no_plan;
   past = nothing;
@@ -74,7 +74,7 @@ going_first id ls d s o = record {
   records = records_first id ls d s;
 }
 
-pub going_more : (id : TableId) (ls rest : List Line) (l : Line) (d e : Driver) → (g : Going id ls (l ∷ rest) d) → Steps id (is_cancelled ls) g.plan g.past l d e → RecordsStep g.plan g.past l d e → Going id ls rest e
+pub going_more : (id : EngineId) (ls rest : List Line) (l : Line) (d e : Driver) → (g : Going id ls (l ∷ rest) d) → Steps id (is_cancelled ls) g.plan g.past l d e → RecordsStep g.plan g.past l d e → Going id ls rest e
 going_more id ls rest l d e g s k = record {
   plan = planned (is_cancelled ls) g.plan l;
   past = after g.past l;
@@ -86,10 +86,10 @@ going_more id ls rest l d e g s k = record {
   records = k ls rest g.records;
 }
 
-pub going_ready : (id : TableId) (ls rest : List Line) (l : Line) (d : Driver) → Going id ls (l ∷ rest) d → IsReady id d l
+pub going_ready : (id : EngineId) (ls rest : List Line) (l : Line) (d : Driver) → Going id ls (l ∷ rest) d → IsReady id d l
 going_ready id ls rest l d g = record { plan = g.plan; past = g.past; stands = g.stands; fits = g.order.0 }
 
-pub going_end : (id : TableId) (ls : List Line) (d : Driver) → Going id ls [] d → Carried id ls d
+pub going_end : (id : EngineId) (ls : List Line) (d : Driver) → Going id ls [] d → Carried id ls d
 going_end id ls d g = record {
   stands = subst (λ (p : Plan). Matches id d p (after_all nothing ls)) (sym g.whole) (subst (Matches id d g.plan) (sym g.fates) g.stands);
   newest = sym (g.newest ∙ append-nil d.newest.items);
@@ -150,18 +150,18 @@ all_say ends (Action q ∷ ls) p a = all_say ends ls (planned ends p (Action q))
 
 -- ---- waiting at the end
 
-pub settling_first : (id : TableId) (ls : List Line) (d : Driver) → (c : Carried id ls d) → Settling id ls d (after_all nothing ls)
+pub settling_first : (id : EngineId) (ls : List Line) (d : Driver) → (c : Carried id ls d) → Settling id ls d (after_all nothing ls)
 settling_first id ls d c = record { stands = c.stands; newest = c.newest; given_up = λ q. refl; records = c.records; opened = refl }
 
 true_false : true ≡ false → ⊥
 true_false e = cc
 
 -- a request that the lines do not cancel may be waited for
-pub settling_some : (id : TableId) (ls : List Line) (d : Driver) (past : Past) (q : List ℕ) → Settling id ls d past → (r : Planned) → Has (plan_of ls).requests r → r.name ≡ q → fate_of past q ≢ None
+pub settling_some : (id : EngineId) (ls : List Line) (d : Driver) (past : Past) (q : List ℕ) → Settling id ls d past → (r : Planned) → Has (plan_of ls).requests r → r.name ≡ q → fate_of past q ≢ None
 settling_some id ls d past q s r h n e =
     none_some (sym e ∙ (ap (fate_of past) (sym n) ∙ ap (option_map (λ (a : Asked). a.fate)) (s.stands.requests r h).made))
 
-pub settling_alive : (id : TableId) (ls : List Line) (d : Driver) (past : Past) (q : List ℕ) → Settling id ls d past → is_cancelled ls q ≡ false → fate_of past q ≢ Some fate.Cancelled
+pub settling_alive : (id : EngineId) (ls : List Line) (d : Driver) (past : Past) (q : List ℕ) → Settling id ls d past → is_cancelled ls q ≡ false → fate_of past q ≢ Some fate.Cancelled
 settling_alive id ls d past q s c e = true_false (sym (ap is_given_up e) ∙ (s.given_up q ∙ c))
 
 waited_fate : (past : Past) (q n : List ℕ) → fate_of past q ≢ None → (bytes_eq q n ≡ true → fate_of (after past (Wait q)) n ≡ Some fate.Answered) × (bytes_eq q n ≡ false → fate_of (after past (Wait q)) n ≡ fate_of past n)
@@ -179,7 +179,7 @@ by_bool : (b : Bool) (G : Type 0) → (b ≡ true → G) → (b ≡ false → G)
 by_bool true G f g = f refl
 by_bool false G f g = g refl
 
-pub settling_waited : (id : TableId) (ls : List Line) (d e : Driver) (past : Past) (q : List ℕ) → Settling id ls d past → fate_of past q ≢ None → is_cancelled ls q ≡ false → Steps id (is_cancelled ls) (plan_of ls) past (Wait q) d e
+pub settling_waited : (id : EngineId) (ls : List Line) (d e : Driver) (past : Past) (q : List ℕ) → Settling id ls d past → fate_of past q ≢ None → is_cancelled ls q ≡ false → Steps id (is_cancelled ls) (plan_of ls) past (Wait q) d e
     → Records ls [] e (plan_of ls) (after past (Wait q)) → Settling id ls e (after past (Wait q))
 settling_waited id ls d e past q s some alive w r = record {
   records = r;
@@ -191,7 +191,7 @@ settling_waited id ls d e past q s some alive w r = record {
       (λ f. ap is_given_up ((waited_fate past q n some).1 f) ∙ s.given_up n);
 }
 
-pub waiting_first : (id : TableId) (ls : List Line) (d : Driver) → Carried id ls d → Waiting id ls ls d
+pub waiting_first : (id : EngineId) (ls : List Line) (d : Driver) → Carried id ls d → Waiting id ls ls d
 waiting_first id ls d c = record {
   past = after_all nothing ls;
   settling = settling_first id ls d c;
@@ -200,7 +200,7 @@ waiting_first id ls d c = record {
   left = λ r h n. elim (asked_or_before (is_cancelled ls) ls no_plan r h) as (λ _. (fate_of (after_all nothing ls) r.name ≡ Some fate.Answered) ⊎ AskedIn ls r.name) [ inl a ↦ absurd a | inr b ↦ inr b ];
 }
 
-pub waiting_end : (id : TableId) (ls : List Line) (d : Driver) → Waiting id ls [] d → Settled id ls d
+pub waiting_end : (id : EngineId) (ls : List Line) (d : Driver) → Waiting id ls [] d → Settled id ls d
 waiting_end id ls d w = record {
   past = w.past;
   stands = w.settling.stands;
@@ -211,7 +211,7 @@ waiting_end id ls d w = record {
 }
 
 -- the promises that looks answered were polled
-pub settled_confirmed : (id : TableId) (ls : List Line) (d e : Driver) → Settled id ls d → Confirms id d e → Settled id ls e
+pub settled_confirmed : (id : EngineId) (ls : List Line) (d e : Driver) → Settled id ls d → Confirms id d e → Settled id ls e
 settled_confirmed id ls d e s x = record {
   past = s.past;
   stands = confirm_stands id d e (plan_of ls) s.past s.stands x;
@@ -222,7 +222,7 @@ settled_confirmed id ls d e s x = record {
 }
 
 -- a line that is no request
-pub waiting_past : (id : TableId) (ls rest : List Line) (l : Line) (d : Driver) → ((q : List ℕ) → AskedIn (l ∷ rest) q → AskedIn rest q) → Waiting id ls (l ∷ rest) d → Waiting id ls rest d
+pub waiting_past : (id : EngineId) (ls rest : List Line) (l : Line) (d : Driver) → ((q : List ℕ) → AskedIn (l ∷ rest) q → AskedIn rest q) → Waiting id ls (l ∷ rest) d → Waiting id ls rest d
 waiting_past id ls rest l d f w = record {
   past = w.past;
   settling = w.settling;
@@ -232,7 +232,7 @@ waiting_past id ls rest l d f w = record {
 }
 
 -- a request: it was waited for, unless it is cancelled
-pub waiting_more : (id : TableId) (ls rest : List Line) (l : Line) (q : List ℕ) (d e : Driver) → (w : Waiting id ls (l ∷ rest) d) → ((n : List ℕ) → AskedIn (l ∷ rest) n → (q ≡ n) ⊎ AskedIn rest n)
+pub waiting_more : (id : EngineId) (ls rest : List Line) (l : Line) (q : List ℕ) (d e : Driver) → (w : Waiting id ls (l ∷ rest) d) → ((n : List ℕ) → AskedIn (l ∷ rest) n → (q ≡ n) ⊎ AskedIn rest n)
     → fate_of w.past q ≢ None → ((past : Past) → Settling id ls d past → Settling id ls e (cond (is_cancelled ls q) past (after past (Wait q)))) → Waiting id ls rest e
 waiting_more id ls rest l q d e w f some s = by_bool (is_cancelled ls q) _
     (λ c. record {
@@ -265,7 +265,7 @@ waiting_more id ls rest l q d e w f some s = by_bool (is_cancelled ls q) _
     })
 
 -- the request of a line is one of the plan's
-pub asked_now : (id : TableId) (ls rest : List Line) (l : Line) (d : Driver) (r : Planned) → (w : Waiting id ls (l ∷ rest) d) → Has (planned (is_cancelled ls) w.plan l).requests r → Has (plan_of ls).requests r
+pub asked_now : (id : EngineId) (ls rest : List Line) (l : Line) (d : Driver) (r : Planned) → (w : Waiting id ls (l ∷ rest) d) → Has (planned (is_cancelled ls) w.plan l).requests r → Has (plan_of ls).requests r
 asked_now id ls rest l d r w h = subst (λ (p : Plan). Has p.requests r) (sym w.whole) (had_later (is_cancelled ls) rest (planned (is_cancelled ls) w.plan l) r h)
 
 -- ---- closing
@@ -292,7 +292,7 @@ told_at d r fate.Answered e i = i.1
 told_at d r fate.Pending e i = (let z : fate.Pending ≡ fate.Answered = e in cc)
 told_at d r fate.Cancelled e i = (let z : fate.Cancelled ≡ fate.Answered = e in cc)
 
-pub closing_done : (id : TableId) (ls rest : List Line) (d : Driver) → Closing id ls rest d → IsDone ls d
+pub closing_done : (id : EngineId) (ls rest : List Line) (d : Driver) → Closing id ls rest d → IsDone ls d
 closing_done id ls rest d s = record {
   newest = s.newest;
   told = λ r h n.

@@ -2,7 +2,7 @@
 use Rattle.std.proofs.Common.{Bool, true, false, ◌≡◌, ◌≤◌, ℕ, Option, Result, Ok, Err, Some, None, List, [], ◌++◌, length, refl, sym, ap, ◌∙◌, subst, arith, append-nil, append_assoc}
 use Rattle.std.specs.Prelude.{IfSome}
 use Rattle.std.specs.Option.{option_map}
-use Rattle.atomic_table.specs.Seated.{TableId}
+use Rattle.dice_engine.specs.Seats.{EngineId}
 use Rattle.dice_model.specs.Eval.{HasValue}
 use Rattle.dice_model.proofs.Stable.{value_stable}
 use Rattle.turnstile.specs.Events.{StartsWith}
@@ -63,7 +63,7 @@ sees_told s told r h n = record {
 }
 
 -- the newest version is no less when the seat goes on
-pub newest_on : (id : TableId) (s u : Place) (told : ℕ) → Goes id s u [] → told ≤ length (log_in s) → told ≤ newest_in u.seen
+pub newest_on : (id : EngineId) (s u : Place) (told : ℕ) → Goes id s u [] → told ≤ length (log_in s) → told ≤ newest_in u.seen
 newest_on id s u told g h =
     let e : length (log_of u.seen) ≡ length (log_in s) = ap length (our_log id u g.ours ∙ ap log_of (g.mine ∙ append-nil s.mine)) in
     (omega arith)

@@ -5,7 +5,7 @@ use Rattle.std.specs.HashMap.{get}
 use Rattle.std.specs.Str.{bytes_eq}
 use Rattle.std.specs.Arc.{arc_value}
 use Rattle.std.specs.Cmp.Lexicographic.{pointwise}
-use Rattle.atomic_table.specs.Seated.{TableId}
+use Rattle.dice_engine.specs.Seats.{EngineId}
 use Rattle.dice_key.specs.declared.universe.Kind.TheVariants.{Injected}
 use Rattle.journal.specs.declared.event.Told.{Told}
 use Rattle.journal.specs.declared.event.Told.TheVariants as told
@@ -64,7 +64,7 @@ next_on I J own e i b n = record {
 
 -- ---- the beginning
 
-pub records_first : (id : TableId) (ls : List Line) (d : Driver) → Starts id d → Records ls ls d no_plan nothing
+pub records_first : (id : EngineId) (ls : List Line) (d : Driver) → Starts id d → Records ls ls d no_plan nothing
 records_first id ls d s = record {
   indices = no_indices;
   knows = record {
@@ -152,7 +152,7 @@ commit_same C g p ec eg =
     ∙ (ap (λ (g : List (Key × Value)). event_of 0 (filter (differs_from (log_of p.log)) g)) eg
     ∙ ap (event_of 0) (differing_same p.log p.gathered))
 
-pub commit_records : (id : TableId) (p : Plan) (past : Past) (d e : Driver) → Matches id d p past → Goes id d.seat e.seat (event_of 0 (differing_from key_equal value_equal buck (log_in d.seat) d.gathered)) → KeepsNames d e → RecordsStep p past line.Commit d e
+pub commit_records : (id : EngineId) (p : Plan) (past : Past) (d e : Driver) → Matches id d p past → Goes id d.seat e.seat (event_of 0 (differing_from key_equal value_equal buck (log_in d.seat) d.gathered)) → KeepsNames d e → RecordsStep p past line.Commit d e
 commit_records id p past d e m goes k ls rest r =
     let own = event_of 0 (differing_from key_equal value_equal buck (log_in d.seat) d.gathered) in
     records_on ls rest line.Commit d e p past r goes.begins own r.indices (λ J s. (commit_same (log_in d.seat) d.gathered p m.log m.gathered, refl)) goes.mine
@@ -160,7 +160,7 @@ commit_records id p past d e m goes k ls rest r =
 
 -- ---- open
 
-module _ (id : TableId) (d e : Driver) (p : Plan) (past : Past) (t : List ℕ) (m : Matches id d p past) (new : past.opened t ≡ None) (x : DidOpen id t d e) where
+module _ (id : EngineId) (d e : Driver) (p : Plan) (past : Past) (t : List ℕ) (m : Matches id d p past) (new : past.opened t ≡ None) (x : DidOpen id t d e) where
   abbrev open_own : Events
   open_own = told.Open 0 x.transaction.version ∷ []
 
@@ -202,7 +202,7 @@ module _ (id : TableId) (d e : Driver) (p : Plan) (past : Past) (t : List ℕ) (
 
 -- ---- ask and action
 
-module _ (id : TableId) (d e : Driver) (p : Plan) (past : Past) (r : Request) (w : Wish) (m : Matches id d p past) (new : IsNew past r) (x : DidAsk id r (key_of w) d e) where
+module _ (id : EngineId) (d e : Driver) (p : Plan) (past : Past) (r : Request) (w : Wish) (m : Matches id d p past) (new : IsNew past r) (x : DidAsk id r (key_of w) d e) where
   abbrev ask_own : Events
   ask_own = told.Ask 0 x.pledge.opened (arc_value x.pledge.key) ∷ []
 
@@ -267,12 +267,12 @@ module _ (id : TableId) (d e : Driver) (p : Plan) (past : Past) (r : Request) (w
     indices = refl;
   }
 
-pub ask_records : (id : TableId) (p : Plan) (past : Past) (r : Request) (d e : Driver) → Matches id d p past → IsNew past r → DidAsk id r (key.Digest r.label) d e → RecordsStep p past (line.Ask r) d e
+pub ask_records : (id : EngineId) (p : Plan) (past : Past) (r : Request) (d e : Driver) → Matches id d p past → IsNew past r → DidAsk id r (key.Digest r.label) d e → RecordsStep p past (line.Ask r) d e
 ask_records id p past r d e m new x ls rest z =
     records_on ls rest (line.Ask r) d e p past z x.asks.goes.begins (ask_own id d e p past r (Digest r.label) m new x) (ask_indices id d e p past r (Digest r.label) m new x z.indices)
     (ask_adds id d e p past r (Digest r.label) m new x z.indices z.knows) x.asks.goes.mine (knows_asked id d e p past r (Digest r.label) m new x (is_cancelled ls) z.indices z.knows).0
 
-pub action_records : (id : TableId) (p : Plan) (past : Past) (r : Request) (d e : Driver) → Matches id d p past → IsNew past r → DidAsk id r (key.Action r.label) d e → RecordsStep p past (line.Action r) d e
+pub action_records : (id : EngineId) (p : Plan) (past : Past) (r : Request) (d e : Driver) → Matches id d p past → IsNew past r → DidAsk id r (key.Action r.label) d e → RecordsStep p past (line.Action r) d e
 action_records id p past r d e m new x ls rest z =
     records_on ls rest (line.Action r) d e p past z x.asks.goes.begins (ask_own id d e p past r (Text r.label) m new x) (ask_indices id d e p past r (Text r.label) m new x z.indices)
     (ask_adds id d e p past r (Text r.label) m new x z.indices z.knows) x.asks.goes.mine (knows_asked id d e p past r (Text r.label) m new x (is_cancelled ls) z.indices z.knows).1
@@ -301,14 +301,14 @@ close_by_zero (x ∷ J) by t b (inl s) = below (subst (λ (y : Told Key Value). 
     below l = omega arith
 close_by_zero (x ∷ J) by t b (inr h) = close_by_zero J by t b.1 h
 
-pub unclosed_seen : (id : TableId) (s : Place) (t : ℕ) → IsOurs id s → NotClosed t s.mine → NotClosed t s.seen
+pub unclosed_seen : (id : EngineId) (s : Place) (t : ℕ) → IsOurs id s → NotClosed t s.mine → NotClosed t s.seen
 unclosed_seen id s t o n = free_closed t s.seen (λ by h.
     let z = close_by_zero s.seen by t o.below h in
     let g : Has s.seen (told.Close 0 t) = subst (λ b. Has s.seen (told.Close b t)) z h in
     closed_free t s.mine n 0 (subst (λ (xs : Events). Has xs (told.Close 0 t)) o.mine (events_have s.seen (told.Close 0 t) g refl)))
 
 -- a promise whose key is decided while it is live
-pub decided_live : (id : TableId) (s : Place) (x : Pledge) → IsOurs id s → IsLive s x → IsDecidedIn s.seen x.version (arc_value x.key) → WasDecided s.seen x.opened x.version (arc_value x.key)
+pub decided_live : (id : EngineId) (s : Place) (x : Pledge) → IsOurs id s → IsLive s x → IsDecidedIn s.seen x.version (arc_value x.key) → WasDecided s.seen x.opened x.version (arc_value x.key)
 decided_live id s x o l d = record {
   earlier = s.seen;
   begins = begins_itself s.seen;
@@ -322,7 +322,7 @@ decided_as : (x : Pledge) (t v : ℕ) (k : Key) (J : Events) → x.opened ≡ t 
 decided_as x t v k J et ev ek w =
     subst (λ n. WasDecided J n v k) et (subst (λ u. WasDecided J x.opened u k) ev (subst (WasDecided J x.opened x.version) ek w))
 
-module _ (id : TableId) (d e : Driver) (p : Plan) (past : Past) (q : List ℕ) (m : Matches id d p past) (alive : fate_of past q ≢ Some fate.Cancelled) where
+module _ (id : EngineId) (d e : Driver) (p : Plan) (past : Past) (q : List ℕ) (m : Matches id d p past) (alive : fate_of past q ≢ Some fate.Cancelled) where
   abbrev waits : Past
   waits = after past (line.Wait q)
 
@@ -432,7 +432,7 @@ module _ (id : TableId) (d e : Driver) (p : Plan) (past : Past) (q : List ℕ) (
 
 -- ---- promises that are polled
 
-module _ (id : TableId) (ls rest : List Line) (d e : Driver) (p : Plan) (past : Past) (m : Matches id d p past) (x : Confirms id d e) where
+module _ (id : EngineId) (ls rest : List Line) (d e : Driver) (p : Plan) (past : Past) (m : Matches id d p past) (x : Confirms id d e) where
   confirmed : (n : Indices) (r : Planned) → IsRecorded d.seat.seen d.outlook.unpolled.items n past r → IsRecorded e.seat.seen e.outlook.unpolled.items n past r
   confirmed n r i = record {
     transaction = i.transaction;
@@ -462,7 +462,7 @@ module _ (id : TableId) (ls rest : List Line) (d e : Driver) (p : Plan) (past : 
 
 -- ---- cancel
 
-module _ (id : TableId) (d e : Driver) (p : Plan) (past : Past) (q : List ℕ) (m : Matches id d p past) (x : DidCancel id q d e) where
+module _ (id : EngineId) (d e : Driver) (p : Plan) (past : Past) (q : List ℕ) (m : Matches id d p past) (x : DidCancel id q d e) where
   abbrev cancels : Past
   cancels = after past (line.Cancel q)
 
@@ -492,7 +492,7 @@ module _ (id : TableId) (d e : Driver) (p : Plan) (past : Past) (q : List ℕ) (
 
 -- ---- close
 
-module _ (id : TableId) (d e : Driver) (p : Plan) (past : Past) (t : List ℕ) (x : DidClose id t d e) where
+module _ (id : EngineId) (d e : Driver) (p : Plan) (past : Past) (t : List ℕ) (x : DidClose id t d e) where
   abbrev closes : Past
   closes = after past (line.Close t)
 

@@ -1,7 +1,7 @@
 -- What the driver's seat keeps from one turn to the next.
 use Rattle.std.proofs.Common.{◌≡◌, ◌≤◌, ◌<◌, ℕ, List, [], ◌∷◌, ◌++◌, length, reverse, refl, sym, ap, ◌∙◌, subst, arith, append_assoc, append-nil, length-append}
 use Rattle.std.proofs.lemmas.List.{reverse-append, length-reverse}
-use Rattle.atomic_table.specs.Seated.{TableId}
+use Rattle.dice_engine.specs.Seats.{EngineId}
 use Rattle.journal.specs.declared.event.Told.{Told}
 use Rattle.journal.specs.declared.event.Told.TheVariants.{Commit, Open, Close, Ask, Leave}
 use Rattle.journal.specs.Events.{NotClosed, commits_of, event_of, StandsAt, NotLeft}
@@ -29,7 +29,7 @@ pub record Onward (s u : Place) (own : List (Told Key Value)) : Type 0 where
   pub begins : StartsWith u.seen s.seen
   pub mine : u.mine ≡ s.mine ++ own
 
-pub onward : (id : TableId) (s u : Place) (own : List (Told Key Value)) → Goes id s u own → Onward s u own
+pub onward : (id : EngineId) (s u : Place) (own : List (Told Key Value)) → Goes id s u own → Onward s u own
 onward id s u own g = record { number = g.number; begins = g.begins; mine = g.mine }
 
 pub onward_same : (s u : Place) → u ≡ s → Onward s u []

@@ -8,7 +8,7 @@ use Rattle.std.specs.HashMap.{get}
 use Rattle.std.specs.Arc.{arc_value}
 use Rattle.std.specs.Cmp.Lexicographic.{pointwise, nat_list_eq_equiv}
 use Rattle.std.proofs.lemmas.Slice.Eq.{bytes_eq-Decides}
-use Rattle.atomic_table.specs.Seated.{TableId}
+use Rattle.dice_engine.specs.Seats.{EngineId}
 use mathlib.Core.List.{map-append}
 use Rattle.dice_model.proofs.Stable.{value_stable, reaches_stable, cycle_stable}
 use Rattle.journal.specs.declared.event.Told.{Told}
@@ -114,7 +114,7 @@ put_touched past path q xs t e h = elim (has_last xs path q h) as (λ _. ⊥) [
   | inr s ↦ (let b : bytes_eq path q ≡ true = (bytes_eq-Decides path q).1 s in let f : cond true true (past.touched q) ≡ false = subst (λ (x : Bool). cond x true (past.touched q) ≡ false) b e in cc)
 ]
 
-module _ (id : TableId) (d e : Driver) (p : Plan) (past : Past) (m : Matches id d p past) (seat : e.seat ≡ d.seat) (k : KeepsNames d e) where
+module _ (id : EngineId) (d e : Driver) (p : Plan) (past : Past) (m : Matches id d p past) (seat : e.seat ≡ d.seat) (k : KeepsNames d e) where
   same_transaction : (t : List ℕ) → transaction_of e t ≡ transaction_of d t
   same_transaction t = ap (λ v. get (pointwise nat_eq) v t) k.transactions
 
@@ -173,7 +173,7 @@ committed_same C g p ec eg =
     ∙ (ap (λ (g : List (Key × Value)). with_pairs (log_of p.log) (filter (differs_from (log_of p.log)) g)) eg
     ∙ (ap (with_pairs (log_of p.log)) (differing_same p.log p.gathered) ∙ with_same p.log (filter (differs p.log) p.gathered)))
 
-pub commit_stands : (id : TableId) (ends : Ends) (d e : Driver) (p : Plan) (past : Past) → Matches id d p past → Goes id d.seat e.seat (event_of 0 (differing_from key_equal value_equal buck (log_in d.seat) d.gathered))
+pub commit_stands : (id : EngineId) (ends : Ends) (d e : Driver) (p : Plan) (past : Past) → Matches id d p past → Goes id d.seat e.seat (event_of 0 (differing_from key_equal value_equal buck (log_in d.seat) d.gathered))
     → e.gathered ≡ [] → KeepsNames d e → e.newest.items ≡ d.newest.items ++ length (log_in e.seat) ∷ [] → Steps id ends p past line.Commit d e
 commit_stands id ends d e p past m goes eg k en =
     let C = log_in d.seat in
@@ -241,7 +241,7 @@ open_within t q n opened w = by_test (bytes_eq q t)
     by_test true = omega arith
     by_test false = w
 
-module _ (id : TableId) (ends : Ends) (d e : Driver) (p : Plan) (past : Past) (t : List ℕ) (m : Matches id d p past) (new : past.opened t ≡ None) (x : DidOpen id t d e) where
+module _ (id : EngineId) (ends : Ends) (d e : Driver) (p : Plan) (past : Past) (t : List ℕ) (m : Matches id d p past) (new : past.opened t ≡ None) (x : DidOpen id t d e) where
   abbrev pub opens_own : List (Told Key Value)
   opens_own = Open 0 x.transaction.version ∷ []
 
@@ -328,10 +328,10 @@ module _ (id : TableId) (ends : Ends) (d e : Driver) (p : Plan) (past : Past) (t
 -- ---- requests that are made
 
 -- a request that was made before has another name than a new one
-pub other_request : (id : TableId) (d : Driver) (p : Plan) (past : Past) (q : List ℕ) (r : Planned) → Matches id d p past → past.asked q ≡ None → Has p.requests r → bytes_eq q r.name ≡ false
+pub other_request : (id : EngineId) (d : Driver) (p : Plan) (past : Past) (q : List ℕ) (r : Planned) → Matches id d p past → past.asked q ≡ None → Has p.requests r → bytes_eq q r.name ≡ false
 other_request id d p past q r m new h = differ q r.name (λ s. none_some (sym new ∙ (ap past.asked s ∙ (m.requests r h).made)))
 
-module _ (id : TableId) (ends : Ends) (d e : Driver) (p : Plan) (past : Past) (r : Request) (w : Wish) (m : Matches id d p past) (new : IsNew past r) (x : DidAsk id r (key_of w) d e) where
+module _ (id : EngineId) (ends : Ends) (d e : Driver) (p : Plan) (past : Past) (r : Request) (w : Wish) (m : Matches id d p past) (new : IsNew past r) (x : DidAsk id r (key_of w) d e) where
   abbrev pub asks_own : List (Told Key Value)
   asks_own = Ask 0 x.pledge.opened (arc_value x.pledge.key) ∷ []
 
@@ -451,10 +451,10 @@ fate_there : (past : Past) (q : List ℕ) (a : Asked) (f : Fate) → past.asked 
 fate_there past q a f h e = some_same (sym (ap (option_map (λ (b : Asked). b.fate)) h) ∙ e)
 
 -- a pending request is live
-pub live_there : (id : TableId) (d : Driver) (p : Plan) (past : Past) (r : Planned) → Matches id d p past → (i : IsPending d r) → NotClosed i.pledge.opened d.seat.mine
+pub live_there : (id : EngineId) (d : Driver) (p : Plan) (past : Past) (r : Planned) → Matches id d p past → (i : IsPending d r) → NotClosed i.pledge.opened d.seat.mine
 live_there id d p past r m i = subst (λ n. NotClosed n d.seat.mine) i.same (m.open_ r.transaction i.transaction i.within).0.not_closed
 
-module _ (id : TableId) (d : Driver) (p : Plan) (past : Past) (m : Matches id d p past) where
+module _ (id : EngineId) (d : Driver) (p : Plan) (past : Past) (m : Matches id d p past) where
   pub has_transaction : (t : List ℕ) → past.opened t ≡ Some true → HasTransaction d t
   has_transaction t k = (let x = m.known t k in record { transaction = x.0; held = x.1; has = (m.open_ t x.0 x.1).0 })
 
@@ -495,7 +495,7 @@ module _ (id : TableId) (d : Driver) (p : Plan) (past : Past) (m : Matches id d 
 
 -- ---- a request that was waited for
 
-module _ (id : TableId) (ends : Ends) (d e : Driver) (p : Plan) (past : Past) (q : List ℕ) (m : Matches id d p past) (some : fate_of past q ≢ None) (alive : fate_of past q ≢ Some fate.Cancelled) where
+module _ (id : EngineId) (ends : Ends) (d e : Driver) (p : Plan) (past : Past) (q : List ℕ) (m : Matches id d p past) (some : fate_of past q ≢ None) (alive : fate_of past q ≢ Some fate.Cancelled) where
   abbrev pub waits : Past
   waits = after past (line.Wait q)
 
@@ -640,7 +640,7 @@ module _ (id : TableId) (ends : Ends) (d e : Driver) (p : Plan) (past : Past) (q
 
 -- ---- promises that are polled
 
-module _ (id : TableId) (d e : Driver) (p : Plan) (past : Past) (m : Matches id d p past) (x : Confirms id d e) where
+module _ (id : EngineId) (d e : Driver) (p : Plan) (past : Past) (m : Matches id d p past) (x : Confirms id d e) where
   confirms_onward : Onward d.seat e.seat []
   confirms_onward = onward id d.seat e.seat [] x.goes
 
@@ -673,12 +673,12 @@ module _ (id : TableId) (d e : Driver) (p : Plan) (past : Past) (m : Matches id 
   }
 
 -- a step after that
-pub after_confirming : (id : TableId) (ends : Ends) (d b e : Driver) (p : Plan) (past : Past) (l : Line) → Confirms id d b → Steps id ends p past l b e → Steps id ends p past l d e
+pub after_confirming : (id : EngineId) (ends : Ends) (d b e : Driver) (p : Plan) (past : Past) (l : Line) → Confirms id d b → Steps id ends p past l b e → Steps id ends p past l d e
 after_confirming id ends d b e p past l x s = record { stands = s.stands; newest = s.newest ∙ ap (λ v. v.items ++ newest_of p l) x.newest }
 
 -- ---- a request that is given up
 
-module _ (id : TableId) (ends : Ends) (d e : Driver) (p : Plan) (past : Past) (q : List ℕ) (m : Matches id d p past) (pending : fate_of past q ≡ Some fate.Pending) (x : DidCancel id q d e) where
+module _ (id : EngineId) (ends : Ends) (d e : Driver) (p : Plan) (past : Past) (q : List ℕ) (m : Matches id d p past) (pending : fate_of past q ≡ Some fate.Pending) (x : DidCancel id q d e) where
   abbrev pub cancels : Past
   cancels = after past (line.Cancel q)
 
@@ -753,7 +753,7 @@ module _ (id : TableId) (ends : Ends) (d e : Driver) (p : Plan) (past : Past) (q
 
 -- ---- a transaction that is closed
 
-module _ (id : TableId) (ends : Ends) (d e : Driver) (p : Plan) (past : Past) (t : List ℕ) (m : Matches id d p past) (polled : d.outlook.unpolled.items ≡ []) (x : DidClose id t d e) where
+module _ (id : EngineId) (ends : Ends) (d e : Driver) (p : Plan) (past : Past) (t : List ℕ) (m : Matches id d p past) (polled : d.outlook.unpolled.items ≡ []) (x : DidClose id t d e) where
   abbrev pub closes : Past
   closes = after past (line.Close t)
 
@@ -849,14 +849,14 @@ module _ (id : TableId) (ends : Ends) (d e : Driver) (p : Plan) (past : Past) (t
 
 -- ---- put and drop, as steps
 
-pub put_steps : (id : TableId) (ends : Ends) (d e : Driver) (p : Plan) (past : Past) (path bytes : List ℕ) → Matches id d p past → past.touched path ≡ false → e.seat ≡ d.seat
+pub put_steps : (id : EngineId) (ends : Ends) (d e : Driver) (p : Plan) (past : Past) (path bytes : List ℕ) → Matches id d p past → past.touched path ≡ false → e.seat ≡ d.seat
     → e.gathered ≡ d.gathered ++ (key.Source path, value.Source (Some bytes)) ∷ [] → KeepsNames d e → e.newest ≡ d.newest → Steps id ends p past (line.Put path bytes) d e
 put_steps id ends d e p past path bytes m fresh seat eg k en = record {
   stands = gathered_stands id d e p past m seat k path (Some bytes) fresh eg;
   newest = ap (λ v. v.items) en ∙ sym (append-nil d.newest.items);
 }
 
-pub drop_steps : (id : TableId) (ends : Ends) (d e : Driver) (p : Plan) (past : Past) (path : List ℕ) → Matches id d p past → past.touched path ≡ false → e.seat ≡ d.seat
+pub drop_steps : (id : EngineId) (ends : Ends) (d e : Driver) (p : Plan) (past : Past) (path : List ℕ) → Matches id d p past → past.touched path ≡ false → e.seat ≡ d.seat
     → e.gathered ≡ d.gathered ++ (key.Source path, value.Source None) ∷ [] → KeepsNames d e → e.newest ≡ d.newest → Steps id ends p past (line.Drop path) d e
 drop_steps id ends d e p past path m fresh seat eg k en = record {
   stands = gathered_stands id d e p past m seat k path None fresh eg;
@@ -865,10 +865,10 @@ drop_steps id ends d e p past path m fresh seat eg k en = record {
 
 -- ---- requests, as steps
 
-pub ask_steps : (id : TableId) (ends : Ends) (d e : Driver) (p : Plan) (past : Past) (r : Request) → Matches id d p past → IsNew past r → DidAsk id r (key.Digest r.label) d e → Steps id ends p past (line.Ask r) d e
+pub ask_steps : (id : EngineId) (ends : Ends) (d e : Driver) (p : Plan) (past : Past) (r : Request) → Matches id d p past → IsNew past r → DidAsk id r (key.Digest r.label) d e → Steps id ends p past (line.Ask r) d e
 ask_steps id ends d e p past r m n x = record { stands = ask_stands id ends d e p past r (Digest r.label) m n x; newest = ap (λ v. v.items) x.newest ∙ sym (append-nil d.newest.items) }
 
-pub action_steps : (id : TableId) (ends : Ends) (d e : Driver) (p : Plan) (past : Past) (r : Request) → Matches id d p past → IsNew past r → DidAsk id r (key.Action r.label) d e → Steps id ends p past (line.Action r) d e
+pub action_steps : (id : EngineId) (ends : Ends) (d e : Driver) (p : Plan) (past : Past) (r : Request) → Matches id d p past → IsNew past r → DidAsk id r (key.Action r.label) d e → Steps id ends p past (line.Action r) d e
 action_steps id ends d e p past r m n x =
     let s = ask_stands id ends d e p past r (Text r.label) m n x in
     record {
@@ -877,5 +877,5 @@ action_steps id ends d e p past r m n x =
     }
 
 -- a transaction that is held is open
-pub has_held : (id : TableId) (d : Driver) (p : Plan) (past : Past) (t : List ℕ) → Matches id d p past → (x : Transaction) → transaction_of d t ≡ Some x → HasTransaction d t
+pub has_held : (id : EngineId) (d : Driver) (p : Plan) (past : Past) (t : List ℕ) → Matches id d p past → (x : Transaction) → transaction_of d t ≡ Some x → HasTransaction d t
 has_held id d p past t m x h = record { transaction = x; held = h; has = (m.open_ t x h).0 }

@@ -3,7 +3,7 @@ use Rattle.std.proofs.Common.{◌≡◌, ◌≤◌, ◌++◌, ◌∷◌, ℕ, Bo
 use Rattle.std.specs.Arc.{arc_value}
 use Rattle.std.specs.Map.{keys_of}
 use Rattle.std.specs.List.{AllByRecursion}
-use Rattle.atomic_table.specs.Seated.{TableId}
+use Rattle.dice_engine.specs.Seats.{EngineId}
 use Rattle.dice_key.specs.declared.universe.Kind.TheVariants.{Injected}
 use Rattle.dice_core.specs.Commits.{Fault, NotInjected, Twice, fault_of, IsFirstFault}
 use Rattle.dice_core.specs.declared.commit.CommitRefusal.{CommitRefusal}
@@ -17,7 +17,7 @@ use Rattle.journal.specs.declared.event.Told.TheVariants.{Open, Close, Ask, Leav
 use Rattle.journal.specs.Events.{NotClosed, open_at, live_at, event_of}
 use Rattle.journal.specs.Tell.{event_by}
 use Rattle.turnstile.specs.Events.{events_by, AllBelow}
-use Rattle.turnstile.specs.Seats.{IsSeatOf, IsWriter}
+use Rattle.dice_engine.specs.Seats.{IsSeatOf, IsWriter}
 use Rattle.dice_engine.specs.Turns.{log_of, newest_in, Later, Turn}
 use Rattle.dice_engine.specs.Calls.{AddsNothing, Opens as OpensIn, Asks as AsksIn, Closes as ClosesIn, Leaves as LeavesIn, Commits as CommitsIn, differing_from}
 use Rattle.dice_engine.specs.Conditions.{HasOpen, HasAsk}
@@ -44,10 +44,10 @@ below_first : (n : ℕ) (xs ys : Events) → AllBelow event_by n (xs ++ ys) → 
 below_first n [] ys b = tt
 below_first n (x ∷ xs) ys b = (b.0, below_first n xs ys b.1)
 
-pub our_writer : (id : TableId) (s : Place) → IsOurs id s → IsSeatOf id s × IsWriter s
+pub our_writer : (id : EngineId) (s : Place) → IsOurs id s → IsSeatOf id s × IsWriter s
 our_writer id s o = (o.seat, (let a = o.number in let b = o.writers in omega arith))
 
-pub later_ours : (id : TableId) (s u : Place) → IsOurs id s → Later key_equal buck s u → IsOurs id u
+pub later_ours : (id : EngineId) (s u : Place) → IsOurs id s → Later key_equal buck s u → IsOurs id u
 later_ours id s u o l =
     let n : u.number ≡ 0 = same_number key_equal buck s u l ∙ o.number in
     let w : u.writers ≡ 1 = same_writers key_equal buck s u l ∙ o.writers in
@@ -60,14 +60,14 @@ later_ours id s u o l =
       below = subst (λ m. AllBelow event_by m u.seen) w l.below;
     }
 
-pub our_log : (id : TableId) (s : Place) → IsOurs id s → log_of s.seen ≡ log_in s
+pub our_log : (id : EngineId) (s : Place) → IsOurs id s → log_of s.seen ≡ log_in s
 our_log id s o = sym (log_of_one s.seen o.below) ∙ ap log_of o.mine
 
 take_first : (xs ys : Events) → take (length xs) (xs ++ ys) ≡ xs
 take_first [] ys = refl
 take_first (x ∷ xs) ys = ap (λ (zs : Events). x ∷ zs) (take_first xs ys)
 
-module _ (id : TableId) (s u : Place) (o : IsOurs id s) (P : Events → Events → Events → Type 0) (t : IsTurn s u P) where
+module _ (id : EngineId) (s u : Place) (o : IsOurs id s) (P : Events → Events → Events → Type 0) (t : IsTurn s u P) where
   found_log : log_of t.found ≡ log_in s
   found_log =
       let b : AllBelow event_by 1 u.seen = (later_ours id s u o t.later).below in
@@ -94,13 +94,13 @@ module _ (id : TableId) (s u : Place) (o : IsOurs id s) (P : Events → Events �
       let f : Place = record s { seen = t.found } in
       open_in_seen key_equal buck f i v (found_lawful key_equal buck s u P t) t.found_mine (record { opening = stands_longer s.seen t.found i (Open s.number v) t.begins h.opening; not_closed = h.not_closed })
 
-pub turn_commits : (id : TableId) (s u : Place) (ps : List (Key × Value)) → (o : IsOurs id s) → IsTurn s u (λ found. CommitsIn key_equal value_equal buck s.number (log_of found) ps) → Commits id s u ps
+pub turn_commits : (id : EngineId) (s u : Place) (ps : List (Key × Value)) → (o : IsOurs id s) → IsTurn s u (λ found. CommitsIn key_equal value_equal buck s.number (log_of found) ps) → Commits id s u ps
 turn_commits id s u ps o t =
     turn_goes id s u o _ t (event_of 0 (differing_from key_equal value_equal buck (log_in s) ps))
     (t.adds.did.0 ∙ (ap (λ n. event_of n (differing_from key_equal value_equal buck (log_of t.found) ps)) o.number
     ∙ ap (λ C. event_of 0 (differing_from key_equal value_equal buck C ps)) (found_log id s u o _ t)))
 
-pub turn_opens : (id : TableId) (s u : Place) (opened version : ℕ) → (o : IsOurs id s) → HasOpen u opened version → IsTurn s u (λ found own work. OpensIn s.number found own work × (version ≡ newest_in found) × (opened ≡ length found)) → Opens id s u opened version
+pub turn_opens : (id : EngineId) (s u : Place) (opened version : ℕ) → (o : IsOurs id s) → HasOpen u opened version → IsTurn s u (λ found own work. OpensIn s.number found own work × (version ≡ newest_in found) × (opened ≡ length found)) → Opens id s u opened version
 turn_opens id s u opened version o h t = record {
   goes = turn_goes id s u o _ t (Open 0 version ∷ []) (t.adds.did.0.0 ∙ (ap (λ n. Open n (newest_in t.found) ∷ []) o.number ∙ ap (λ v. Open 0 v ∷ []) (sym t.adds.did.1)));
   newest = t.adds.did.1 ∙ ap length (found_log id s u o _ t);
@@ -109,7 +109,7 @@ turn_opens id s u opened version o h t = record {
   before = turn_before id s u o _ t opened t.adds.did.2;
 }
 
-pub turn_asks : (id : TableId) (s u : Place) (ask opened version : ℕ) (k q : Key) → (o : IsOurs id s) → HasAsk u ask opened version q → (i v : ℕ) → opened ≡ i → q ≡ k → IsTurn s u (λ found own work. AsksIn s.number i v k own work × (ask ≡ length found)) → Asks id s u ask opened version q
+pub turn_asks : (id : EngineId) (s u : Place) (ask opened version : ℕ) (k q : Key) → (o : IsOurs id s) → HasAsk u ask opened version q → (i v : ℕ) → opened ≡ i → q ≡ k → IsTurn s u (λ found own work. AsksIn s.number i v k own work × (ask ≡ length found)) → Asks id s u ask opened version q
 turn_asks id s u ask opened version k q o h i v ei ek t = record {
   goes = turn_goes id s u o _ t (Ask 0 opened q ∷ []) (t.adds.did.0.0 ∙ (ap (λ n. Ask n i k ∷ []) o.number ∙ (ap (λ j. Ask 0 j k ∷ []) (sym ei) ∙ ap (λ j. Ask 0 opened j ∷ []) (sym ek))));
   has = h;
@@ -117,10 +117,10 @@ turn_asks id s u ask opened version k q o h i v ei ek t = record {
   before = turn_before id s u o _ t ask t.adds.did.1;
 }
 
-pub turn_closes : (id : TableId) (s u : Place) (opened v : ℕ) → IsOurs id s → IsTurn s u (λ found. ClosesIn s.number opened v) → Goes id s u (Close 0 opened ∷ [])
+pub turn_closes : (id : EngineId) (s u : Place) (opened v : ℕ) → IsOurs id s → IsTurn s u (λ found. ClosesIn s.number opened v) → Goes id s u (Close 0 opened ∷ [])
 turn_closes id s u opened v o t = turn_goes id s u o _ t (Close 0 opened ∷ []) (t.adds.did.0 ∙ ap (λ n. Close n opened ∷ []) o.number)
 
-pub turn_leaves : (id : TableId) (s u : Place) (ask opened v : ℕ) (k : Key) → IsOurs id s → HasAsk s ask opened v k → NotClosed opened s.mine → IsTurn s u (λ found. LeavesIn s.number ask opened v found) → Goes id s u (Leave 0 ask ∷ [])
+pub turn_leaves : (id : EngineId) (s u : Place) (ask opened v : ℕ) (k : Key) → IsOurs id s → HasAsk s ask opened v k → NotClosed opened s.mine → IsTurn s u (λ found. LeavesIn s.number ask opened v found) → Goes id s u (Leave 0 ask ∷ [])
 turn_leaves id s u ask opened v k o h n t =
     let open_there = found_open id s u o _ t opened v (record { opening = h.opening; not_closed = n }) in
     let did = when_open (is_some (open_at (reverse t.found) opened)) _ _ (ap is_some open_there) t.adds.did in
@@ -131,32 +131,32 @@ turn_leaves id s u ask opened v k o h n t =
     when_open false A B e x = (let z : false ≡ true = e in cc)
 
 -- a turn that adds nothing
-pub turn_rests : (id : TableId) (s u : Place) → IsOurs id s → IsTurn s u (λ found. AddsNothing) → Goes id s u []
+pub turn_rests : (id : EngineId) (s u : Place) → IsOurs id s → IsTurn s u (λ found. AddsNothing) → Goes id s u []
 turn_rests id s u o t = turn_goes id s u o _ t [] t.adds.did.0
 
-pub opens_if : (id : TableId) (s u : Place) → IsOurs id s → (r : Result Transaction NoMemory) → IfOk r (λ t. IsTurn s u (λ found own work. OpensIn s.number found own work × (t.version ≡ newest_in found) × (t.opened ≡ length found)))
+pub opens_if : (id : EngineId) (s u : Place) → IsOurs id s → (r : Result Transaction NoMemory) → IfOk r (λ t. IsTurn s u (λ found own work. OpensIn s.number found own work × (t.version ≡ newest_in found) × (t.opened ≡ length found)))
     → IfOk r (λ t. HasOpen u t.opened t.version) → IfOk r (λ t. Opens id s u t.opened t.version)
 opens_if id s u o (Ok t) p h = turn_opens id s u t.opened t.version o h p
 opens_if id s u o (Err e) p h = tt
 
-pub asks_if : (id : TableId) (s u : Place) (i v : ℕ) (k : Key) → IsOurs id s → (r : Result Pledge NoMemory) → IfOk r (λ p. IsTurn s u (λ found own work. AsksIn s.number i v k own work × (p.ask ≡ length found)))
+pub asks_if : (id : EngineId) (s u : Place) (i v : ℕ) (k : Key) → IsOurs id s → (r : Result Pledge NoMemory) → IfOk r (λ p. IsTurn s u (λ found own work. AsksIn s.number i v k own work × (p.ask ≡ length found)))
     → IfOk r (λ p. (p.version ≡ v) × (p.opened ≡ i) × (arc_value p.key ≡ k)) → IfOk r (λ p. HasAsk u p.ask p.opened p.version (arc_value p.key)) → IfOk r (λ p. Asks id s u p.ask p.opened p.version (arc_value p.key))
 asks_if id s u i v k o (Ok p) t n h = turn_asks id s u p.ask p.opened p.version k (arc_value p.key) o h i v n.1 n.2 t
 asks_if id s u i v k o (Err e) t n h = tt
 
-pub later_goes : (id : TableId) (s u : Place) → IsOurs id s → Later key_equal buck s u → u.mine ≡ s.mine → Goes id s u []
+pub later_goes : (id : EngineId) (s u : Place) → IsOurs id s → Later key_equal buck s u → u.mine ≡ s.mine → Goes id s u []
 later_goes id s u o l e = record { ours = later_ours id s u o l; number = same_number key_equal buck s u l; begins = l.begins; mine = e ∙ sym (append-nil s.mine) }
 
-pub later_log : (id : TableId) (s u : Place) → IsOurs id s → Later key_equal buck s u → u.mine ≡ s.mine → log_of u.seen ≡ log_in s
+pub later_log : (id : EngineId) (s u : Place) → IsOurs id s → Later key_equal buck s u → u.mine ≡ s.mine → log_of u.seen ≡ log_in s
 later_log id s u o l e = our_log id u (later_ours id s u o l) ∙ ap log_of e
 
 -- an ask of the seat, in a transaction that it has not closed, is live after a wait
-pub later_live : (id : TableId) (s u : Place) (ask opened v : ℕ) (k : Key) → IsOurs id s → Later key_equal buck s u → u.mine ≡ s.mine → HasAsk s ask opened v k → NotClosed opened s.mine → live_at (reverse u.seen) ask ≡ Some (record { by = u.number; opened = opened; key = k })
+pub later_live : (id : EngineId) (s u : Place) (ask opened v : ℕ) (k : Key) → IsOurs id s → Later key_equal buck s u → u.mine ≡ s.mine → HasAsk s ask opened v k → NotClosed opened s.mine → live_at (reverse u.seen) ask ≡ Some (record { by = u.number; opened = opened; key = k })
 later_live id s u ask opened v k o l e h n =
     live_in_seen key_equal buck u ask opened v k l.lawful (sym l.mine) (still_asks s u [] (onward id s u [] (later_goes id s u o l e)) ask opened v k tt h) (subst (NotClosed opened) (sym e) n)
 
 -- whatever a call answered, its turn leaves the seat ours
-pub either_ours : {A E : Type 0} (id : TableId) (s u : Place) → IsOurs id s → (r : Result A E) (P : A → Events → Events → Events → Type 0) (Q : Events → Events → Events → Type 0) → IfOk r (λ a. IsTurn s u (P a)) → OnErr r (IsTurn s u Q) → IsOurs id u
+pub either_ours : {A E : Type 0} (id : EngineId) (s u : Place) → IsOurs id s → (r : Result A E) (P : A → Events → Events → Events → Type 0) (Q : Events → Events → Events → Type 0) → IfOk r (λ a. IsTurn s u (P a)) → OnErr r (IsTurn s u Q) → IsOurs id u
 either_ours id s u o (Ok a) P Q p q = later_ours id s u o p.later
 either_ours id s u o (Err e) P Q p q = later_ours id s u o q.later
 

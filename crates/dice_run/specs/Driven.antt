@@ -1,6 +1,6 @@
 -- A script whose lines were carried out, and whose requests are waited for at its end.
 use Rattle.std.specs.Prelude.{◌≡◌, ◌⊎◌, ℕ, false, List, [], ◌∷◌, cond, Some, None}
-use Rattle.atomic_table.specs.Seated.{TableId}
+use Rattle.dice_engine.specs.Seats.{EngineId}
 use Rattle.script.specs.declared.line.Line.{Line}
 use Rattle.script.specs.declared.line.Line.TheVariants.{Put, Drop, Commit, Open, Ask, Action, Wait, Cancel, Close}
 use Rattle.script.specs.declared.fate.Fate.TheVariants as fate
@@ -12,13 +12,13 @@ use Rattle.dice_run.specs.declared.driver.Driver.{Driver}
 use Rattle.lists.specs.Lists.{Has}
 
 -- the lines were carried out
-pub record Carried (id : TableId) (ls : List Line) (d : Driver) : Type 0 where
+pub record Carried (id : EngineId) (ls : List Line) (d : Driver) : Type 0 where
   pub stands : Matches id d (plan_of ls) (after_all nothing ls)
   pub newest : d.newest.items ≡ newest_from (is_cancelled ls) no_plan ls
   pub records : Records ls [] d (plan_of ls) (after_all nothing ls)
 
 -- and then all requests that the lines do not cancel were waited for
-pub record Settled (id : TableId) (ls : List Line) (d : Driver) : Type 0 where
+pub record Settled (id : EngineId) (ls : List Line) (d : Driver) : Type 0 where
   pub past : Past
   pub stands : Matches id d (plan_of ls) past
   pub newest : d.newest.items ≡ newest_from (is_cancelled ls) no_plan ls
@@ -27,7 +27,7 @@ pub record Settled (id : TableId) (ls : List Line) (d : Driver) : Type 0 where
   pub opened : past.opened ≡ (after_all nothing ls).opened
 
 -- and then the transactions that the lines before the rest opened were closed
-pub record Closing (id : TableId) (ls rest : List Line) (d : Driver) : Type 0 where
+pub record Closing (id : EngineId) (ls rest : List Line) (d : Driver) : Type 0 where
   pub past : Past
   pub stands : Matches id d (plan_of ls) past
   pub newest : d.newest.items ≡ newest_from (is_cancelled ls) no_plan ls
@@ -36,11 +36,11 @@ pub record Closing (id : TableId) (ls rest : List Line) (d : Driver) : Type 0 wh
   pub polled : d.outlook.unpolled.items ≡ []
 
 -- a transaction is closed, if it is open
-abbrev pub ClosesOpen : TableId → List ℕ → Driver → Driver → Type 0
+abbrev pub ClosesOpen : EngineId → List ℕ → Driver → Driver → Type 0
 ClosesOpen id t d e = (transaction_of d t ≡ None) × (e ≡ d) ⊎ DidClose id t d e
 
 -- while this is done: which requests are given up has not changed
-pub record Settling (id : TableId) (ls : List Line) (d : Driver) (past : Past) : Type 0 where
+pub record Settling (id : EngineId) (ls : List Line) (d : Driver) (past : Past) : Type 0 where
   pub stands : Matches id d (plan_of ls) past
   pub newest : d.newest.items ≡ newest_from (is_cancelled ls) no_plan ls
   pub given_up : (q : List ℕ) → is_given_up (fate_of past q) ≡ is_cancelled ls q
@@ -48,7 +48,7 @@ pub record Settling (id : TableId) (ls : List Line) (d : Driver) (past : Past) :
   pub opened : past.opened ≡ (after_all nothing ls).opened
 
 -- a request of this name was made, and it may be waited for, unless it is cancelled
-pub record MaySettle (id : TableId) (ls : List Line) (d : Driver) (q : List ℕ) : Type 0 where
+pub record MaySettle (id : EngineId) (ls : List Line) (d : Driver) (q : List ℕ) : Type 0 where
   pub past : Past
   pub settling : Settling id ls d past
   pub request : Planned
@@ -56,7 +56,7 @@ pub record MaySettle (id : TableId) (ls : List Line) (d : Driver) (q : List ℕ)
   pub named : request.name ≡ q
 
 -- it was waited for, unless it is cancelled
-abbrev pub SettlesOne : TableId → List Line → List ℕ → Driver → Driver → Type 0
+abbrev pub SettlesOne : EngineId → List Line → List ℕ → Driver → Driver → Type 0
 SettlesOne id ls q d e = (past : Past) → Settling id ls d past
     → Settling id ls e (cond (is_cancelled ls q) past (after past (Wait q)))
 
@@ -74,7 +74,7 @@ AskedIn (Cancel n ∷ ls) q = AskedIn ls q
 AskedIn (Close t ∷ ls) q = AskedIn ls q
 
 -- the requests that are neither answered nor cancelled stand among the rest of the lines
-pub record Waiting (id : TableId) (ls rest : List Line) (d : Driver) : Type 0 where
+pub record Waiting (id : EngineId) (ls rest : List Line) (d : Driver) : Type 0 where
   pub past : Past
   pub settling : Settling id ls d past
   pub plan : Plan

@@ -6,7 +6,7 @@ use Rattle.std.specs.Str.{bytes_eq}
 use Rattle.std.specs.HashMap.{get}
 use Rattle.std.specs.Cmp.Lexicographic.{pointwise}
 use Rattle.std.specs.Option.{option_map}
-use Rattle.atomic_table.specs.Seated.{TableId}
+use Rattle.dice_engine.specs.Seats.{EngineId}
 use Rattle.dice_key.specs.declared.universe.Kind.TheVariants.{Injected}
 use Rattle.journal.specs.declared.event.Told.TheVariants.{Close, Leave}
 use Rattle.journal.specs.Events.{NotClosed}
@@ -88,7 +88,7 @@ pub record Looks (d : Driver) : Type 0 where
 
 -- the driver has the log, the gathered changes and the requests of this plan; those of its transactions that are not closed are
 -- open, and each has an index of its own; and so has each ask
-pub record Matches (id : TableId) (d : Driver) (p : Plan) (past : Past) : Type 0 where
+pub record Matches (id : EngineId) (d : Driver) (p : Plan) (past : Past) : Type 0 where
   pub ours : IsOurs id d.seat
   pub log : log_in d.seat ≡ log_of p.log
   pub gathered : d.gathered ≡ pairs_of_changes p.gathered
@@ -105,7 +105,7 @@ pub record Matches (id : TableId) (d : Driver) (p : Plan) (past : Past) : Type 0
   pub looks : Looks d
 
 -- the driver stands for a plan, and the line fits what came before it
-pub record IsReady (id : TableId) (d : Driver) (l : Line) : Type 0 where
+pub record IsReady (id : EngineId) (d : Driver) (l : Line) : Type 0 where
   pub plan : Plan
   pub past : Past
   pub stands : Matches id d plan past
@@ -129,7 +129,7 @@ newest_from ends p [] = []
 newest_from ends p (l ∷ ls) = newest_of p l ++ newest_from ends (planned ends p l) ls
 
 -- one line more was carried out
-pub record Steps (id : TableId) (ends : Ends) (p : Plan) (past : Past) (l : Line) (d e : Driver) : Type 0 where
+pub record Steps (id : EngineId) (ends : Ends) (p : Plan) (past : Past) (l : Line) (d e : Driver) : Type 0 where
   pub stands : Matches id e (planned ends p l) (after past l)
   pub newest : e.newest.items ≡ d.newest.items ++ newest_of p l
 
@@ -167,7 +167,7 @@ MayClose d t = HasTransaction d t
 abbrev pub with_named : {X : Type 0} → List ℕ → Option X → (List ℕ → Option X) → List ℕ → Option X
 with_named t x f q = if pointwise nat_eq t q then x else f q
 
-pub record DidOpen (id : TableId) (t : List ℕ) (d e : Driver) : Type 0 where
+pub record DidOpen (id : EngineId) (t : List ℕ) (d e : Driver) : Type 0 where
   pub transaction : Transaction
   pub opens : Opens id d.seat e.seat transaction.opened transaction.version
   pub sees : Sees e.seat e.outlook
@@ -178,7 +178,7 @@ pub record DidOpen (id : TableId) (t : List ℕ) (d e : Driver) : Type 0 where
   pub gathered : e.gathered ≡ d.gathered
   pub newest : e.newest ≡ d.newest
 
-pub record DidAsk (id : TableId) (r : Request) (k : Key) (d e : Driver) : Type 0 where
+pub record DidAsk (id : EngineId) (r : Request) (k : Key) (d e : Driver) : Type 0 where
   pub transaction : Transaction
   pub held : transaction_of d r.transaction ≡ Some transaction
   pub pledge : Pledge
@@ -199,7 +199,7 @@ IsKnown x d e = (e.outlook.unpolled.items ≡ d.outlook.unpolled.items ++ x ∷ 
     ⊎ (e.outlook.unpolled.items ≡ d.outlook.unpolled.items) × (buck.kind (arc_value x.key) ≢ Injected → IsDecidedIn e.seat.seen x.version (arc_value x.key))
 
 -- it became known
-pub record Comes (id : TableId) (x : Pledge) (d e : Driver) : Type 0 where
+pub record Comes (id : EngineId) (x : Pledge) (d e : Driver) : Type 0 where
   pub goes : Goes id d.seat e.seat []
   pub known : IsKnown x d e
   pub sees : Sees e.seat e.outlook
@@ -210,7 +210,7 @@ pub record Comes (id : TableId) (x : Pledge) (d e : Driver) : Type 0 where
   pub newest : e.newest ≡ d.newest
 
 -- the promises that looks answered were polled, and nothing else was done
-pub record Confirms (id : TableId) (d e : Driver) : Type 0 where
+pub record Confirms (id : EngineId) (d e : Driver) : Type 0 where
   pub goes : Goes id d.seat e.seat []
   pub decided : WereDecided e.seat.seen d.outlook.unpolled.items
   pub unpolled : e.outlook.unpolled.items ≡ []
@@ -222,14 +222,14 @@ pub record Confirms (id : TableId) (d e : Driver) : Type 0 where
   pub newest : e.newest ≡ d.newest
 
 -- the request was answered before, and nothing is done; or it is answered now
-pub data DidWait (id : TableId) (q : List ℕ) (d e : Driver) : Type 0 where
+pub data DidWait (id : EngineId) (q : List ℕ) (d e : Driver) : Type 0 where
   was_told : pledge_of d q ≡ None → e ≡ d → DidWait id q d e
   is_told : (x : Pledge) (text : List ℕ) → pledge_of d q ≡ Some x → Goes id d.seat e.seat [] → IsToldOf (log_in d.seat) x.version (arc_value x.key) text
       → IsKnown x d e → Sees e.seat e.outlook
       → ((p : List ℕ) → pledge_of e p ≡ with_named q None (pledge_of d) p) → ((p : List ℕ) → answer_of e p ≡ with_named q (Some text) (answer_of d) p)
       → e.transactions ≡ d.transactions → e.gathered ≡ d.gathered → e.newest ≡ d.newest → DidWait id q d e
 
-pub record DidCancel (id : TableId) (q : List ℕ) (d e : Driver) : Type 0 where
+pub record DidCancel (id : EngineId) (q : List ℕ) (d e : Driver) : Type 0 where
   pub pledge : Pledge
   pub held : pledge_of d q ≡ Some pledge
   pub goes : Goes id d.seat e.seat (Leave 0 pledge.ask ∷ [])
@@ -240,7 +240,7 @@ pub record DidCancel (id : TableId) (q : List ℕ) (d e : Driver) : Type 0 where
   pub gathered : e.gathered ≡ d.gathered
   pub newest : e.newest ≡ d.newest
 
-pub record DidClose (id : TableId) (t : List ℕ) (d e : Driver) : Type 0 where
+pub record DidClose (id : EngineId) (t : List ℕ) (d e : Driver) : Type 0 where
   pub transaction : Transaction
   pub held : transaction_of d t ≡ Some transaction
   pub goes : Goes id d.seat e.seat (Close 0 transaction.opened ∷ [])
@@ -252,7 +252,7 @@ pub record DidClose (id : TableId) (t : List ℕ) (d e : Driver) : Type 0 where
   pub newest : e.newest ≡ d.newest
 
 -- nothing was done yet
-pub record Starts (id : TableId) (d : Driver) : Type 0 where
+pub record Starts (id : EngineId) (d : Driver) : Type 0 where
   pub ours : IsOurs id d.seat
   pub mine : d.seat.mine ≡ []
   pub gathered : d.gathered ≡ []

@@ -14,8 +14,8 @@ ghost use Rattle.dice_run.specs.Seats.{IsOurs, log_in, Commits, Opens, Asks, Goe
 
 use action_digest::{Buck, Key, Value};
 use dice_engine::{
-    CommitRefusal, Engine, Gate, Promise, Seat, Settled, Transaction, Updater, conditions_stay,
-    one_writer_knows_all, own_asks_are_live, turns_go_on,
+    CommitRefusal, Engine, Gate, Promise, Seat, Settled, Transaction, Updater, Worked,
+    conditions_stay, one_writer_knows_all, own_asks_are_live, turns_go_on,
 };
 use dice_key::{Line, NoMemory, Path};
 use std::alloc::Global;
@@ -114,6 +114,29 @@ pub(crate) fn wait<R: Wait, G: Gate>(
         Settled::Cycle(path) => Ok(Came::Cycle(path)),
         Settled::Gone => unreachable!(),
     }
+}
+
+/// Does jobs while more than so many are out, on the line or in the hands of workers, and one can
+/// be had.
+pub(crate) fn help<R: Wait, G: Gate>(
+    rt: &R,
+    engine: &Engine<Buck>,
+    seat: &mut Seat<Buck>,
+    gate: &G,
+    most: u64,
+)
+    requires { IsOurs engine.now seat.old }
+    ensures { Goes engine.now seat.old seat.new [] }
+{
+    for _ in rt.forever() {
+        if seat.left().1 <= most {
+            return;
+        }
+        if let Worked::Idle = engine.work(rt, seat, gate, DRIVER) {
+            return;
+        }
+    }
+    unreachable!()
 }
 
 /// Waits for each of these promises.

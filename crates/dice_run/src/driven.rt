@@ -30,6 +30,7 @@ pub(crate) fn drive_alone<R: Wait, G: Gate>(
     reader: Option<Reader<Buck>>,
     script: &Script,
     trace: bool,
+    patience: u64,
     gate: &G,
 ) -> (Seat<Buck>, Result<Vec<u8>, NoMemory>)
     requires ours { IsOurs engine.now seat }
@@ -49,6 +50,7 @@ pub(crate) fn drive_alone<R: Wait, G: Gate>(
         transactions: HashMap::with_hasher(alloc, seed),
         promises: with_room(alloc, seed, requests),
         answers: with_room(alloc, seed, requests),
+        patience,
     };
     let output = driver.script(rt, engine, gate, script, trace);
     (driver.into_seat(), output)

@@ -30,7 +30,8 @@ use std::sync::{Arc, Wait};
 
 /// What has been done of a script: the seat at the engine, and what is seen without a turn; what
 /// was gathered since the last commit; the newest version after each commit; the transactions that
-/// are open; the requests that are still to be answered; and the answers.
+/// are open; the requests that are still to be answered; the answers; and how many jobs may be out
+/// that it leaves to others.
 #[derive(Drop)]
 pub(crate) struct Driver {
     pub(crate) alloc: Global,
@@ -41,6 +42,7 @@ pub(crate) struct Driver {
     pub(crate) transactions: HashMap<Text, Transaction, Seed>,
     pub(crate) promises: HashMap<Text, Promise<Buck>, Seed>,
     pub(crate) answers: HashMap<Text, Vec<u8>, Seed>,
+    pub(crate) patience: u64,
 }
 
 impl Driver {
@@ -67,11 +69,11 @@ impl Driver {
             Line::Open(name) => self.open(rt, engine, name)?,
             Line::Ask(request) => {
                 let key = Arc::new(self.alloc, Key::Digest(request.label.try_clone()?))?;
-                self.ask(rt, engine, request, key)?
+                self.ask(rt, engine, gate, request, key)?
             }
             Line::Action(request) => {
                 let key = Arc::new(self.alloc, Key::Action(request.label.try_clone()?))?;
-                self.ask(rt, engine, request, key)?
+                self.ask(rt, engine, gate, request, key)?
             }
             Line::Wait(name) => self.wait(rt, engine, gate, name)?,
             Line::Cancel(name) => self.cancel(rt, engine, name),
@@ -126,11 +128,13 @@ impl Driver {
         note(&mut self.transactions, name, transaction)
     }
 
-    /// Asks for a key.
-    fn ask<R: Wait>(
+    /// Asks for a key. Before that it does jobs, while more of earlier requests are out than it has
+    /// patience for.
+    fn ask<R: Wait, G: Gate>(
         &mut self,
         rt: &R,
         engine: &Engine<Buck>,
+        gate: &G,
         request: &Request,
         key: Arc<Key>,
     ) -> Result<(), NoMemory>
@@ -140,6 +144,7 @@ impl Driver {
         ensures did { OnOk result
             (DidAsk engine.now request.now (arc_value key) self.old self.new) }
     {
+        client::help(rt, engine, &mut self.seat, gate, self.patience);
         let Some(transaction) = self.transactions.get(request.transaction.as_text()) else {
             unreachable!()
         };
@@ -193,6 +198,7 @@ impl Driver {
             self.outlook.unpolled.push(promise)?;
             return Ok(Came::Value(value));
         }
+        client::help(rt, engine, &mut self.seat, gate, self.patience);
         client::wait(rt, engine, &mut self.seat, &promise, gate)
     }
 

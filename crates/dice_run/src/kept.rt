@@ -1,5 +1,5 @@
 //! What a run leaves.
-ghost use Rattle.turnstile.specs.Seats.{IsSeatOf};
+ghost use Rattle.dice_engine.specs.Seats.{IsSeatOf};
 
 use action_digest::Buck;
 use dice_engine::{Ended, Engine, Seat};

@@ -1,13 +1,14 @@
 //! The workers beside the driver of a script: each on a seat of its own, in a thread of its own.
 ghost use Rattle.std.specs.Prelude.{◌≡◌, ◌<◌, [], All, IfOk, OnOk};
-ghost use Rattle.turnstile.specs.Seats.{IsSeatOf, spare};
+ghost use Rattle.dice_engine.specs.Seats.{spare};
+ghost use Rattle.dice_engine.specs.Seating.{IsPlaceOf};
 ghost use Rattle.script_trace.specs.Tracing.{IsPrintout};
 ghost use Rattle.script_trace.specs.Events.{IsJournalOf};
 ghost use Rattle.dice_run.specs.Seats.{IsOurs};
 
 use crate::driven::drive_alone;
 use action_digest::Buck;
-use dice_engine::{Engine, Gate, Reader, Seat};
+use dice_engine::{Engine, Gate, Place, Reader, Seat};
 use dice_key::NoMemory;
 use script::Script;
 use std::alloc::Global;
@@ -45,12 +46,12 @@ pub fn drive<R: Threads + Wait + Sync, G: Gate>(
     ensures journal { OnOk result.1 (IsJournalOf script.now result.0.seen) }
 {
     if workers == 0 {
-        return drive_alone(rt, alloc, engine, seat, reader, script, trace, gate);
+        return drive_alone(rt, alloc, engine, seat, reader, script, trace, 0, gate);
     }
     let mut seat = seat;
     match engine.split_seats(alloc, &mut seat, u64::from(workers)) {
         Ok(seats) => drive_with(rt, alloc, engine, seat, reader, seats, script, trace, gate),
-        Err(NoMemory) => drive_alone(rt, alloc, engine, seat, reader, script, trace, gate),
+        Err(NoMemory) => drive_alone(rt, alloc, engine, seat, reader, script, trace, 0, gate),
     }
 }
 
@@ -61,18 +62,19 @@ fn drive_with<R: Threads + Wait + Sync, G: Gate>(
     engine: &Engine<Buck>,
     seat: Seat<Buck>,
     reader: Option<Reader<Buck>>,
-    seats: Vec<Seat<Buck>>,
+    seats: Vec<Place<Buck>>,
     script: &Script,
     trace: bool,
     gate: &G,
 ) -> (Seat<Buck>, Result<Vec<u8>, NoMemory>)
     requires ours { IsOurs engine.now seat }
     requires first { seat.mine ≡ [] }
-    requires seats { All (IsSeatOf engine.now) seats.items }
+    requires seats { All (IsPlaceOf engine.now) seats.items }
     ensures ours { IsOurs engine.now result.0 }
     ensures output { IfOk result.1 (λ out. IsPrintout trace script.now result.0.seen out.items) }
     ensures journal { OnOk result.1 (IsJournalOf script.now result.0.seen) }
 {
+    let patience = 16u64.saturating_mul(seats.len() as u64);
     engine.with_workers(
         rt,
         seats,
@@ -82,6 +84,10 @@ fn drive_with<R: Threads + Wait + Sync, G: Gate>(
             ensures { IsOurs engine.entry.now result.0
                 × IfOk result.1 (λ out. IsPrintout trace script.entry.now result.0.seen out.items)
                 × OnOk result.1 (IsJournalOf script.entry.now result.0.seen) }
-        { drive_alone(rt, alloc, engine, seat, reader, script, trace, gate) },
+        {
+            drive_alone(
+                rt, alloc, engine, seat, reader, script, trace, patience, gate,
+            )
+        },
     )
 }

@@ -5,7 +5,7 @@ use Rattle.std.specs.Arc.{arc_value}
 use Rattle.std.specs.List.{AllByRecursion, AllZip}
 use Rattle.std.specs.declared.sync.Arc.{Arc}
 use Rattle.std.specs.declared.vec.Vec.{Vec}
-use Rattle.atomic_table.specs.Seated.{TableId}
+use Rattle.dice_engine.specs.Seats.{EngineId}
 use Rattle.dice_key.specs.Meaning.{Meaning}
 use Rattle.dice_model.specs.Eval.{HasValue}
 use Rattle.journal.specs.Law.{CycleStands}
@@ -14,7 +14,7 @@ use Rattle.journal.specs.declared.event.Told.TheVariants.{Open, Close, Ask, Leav
 use Rattle.journal.specs.Events.{NotClosed, live_at, event_of, NotLeft}
 use Rattle.journal.specs.Tell.{event_by}
 use Rattle.turnstile.specs.Events.{StartsWith, events_by, AllBelow}
-use Rattle.turnstile.specs.Seats.{SeatView, IsSeatOf, first_seat}
+use Rattle.dice_engine.specs.Seats.{SeatView, IsSeatOf, first_seat}
 use Rattle.dice_core.specs.declared.commit.CommitRefusal.{CommitRefusal}
 use Rattle.dice_core.specs.Commits.{Fault, fault_of}
 use Rattle.dice_engine.specs.Turns.{log_of, newest_in, Later, Turn}
@@ -56,10 +56,10 @@ none_some : {X : Type 0} {x : X} → None ≡ Some x → ⊥
 none_some e = cc
 
 -- the first seat of an engine with one writer
-pub first_sole : {K V : Type 0} (id : TableId) → IsSole {K = K} {V = V} id (first_seat id 1)
+pub first_sole : {K V : Type 0} (id : EngineId) → IsSole {K = K} {V = V} id (first_seat id 1)
 first_sole id = record { seat = (refl, refl); number = refl; writers = refl; mine = refl; below = tt }
 
-module _ {K V : Type 0} (id : TableId) where
+module _ {K V : Type 0} (id : EngineId) where
   -- a seat that gives seats away
   pub sole_gives : (s u : SeatView (Told K V)) → IsSole id s → GivesSeats s u → IsSole id u
   sole_gives s u o e = subst (IsSole id) (sym e) (record { seat = o.seat; number = o.number; writers = o.writers; mine = o.mine; below = o.below })
@@ -83,7 +83,7 @@ module _ {K V : Type 0} (id : TableId) where
   pub asks_asks : (s t u : SeatView (Told K V)) (i v : ℕ) → AsksOn id s t i v → AsksOn id t u i v → AsksOn id s u i v
   asks_asks s t u i v g h = record { goes = goes_goes s t u g.goes h.goes; still = h.still; keeps = λ ask k a. h.keeps ask k (g.keeps ask k a) }
 
-module _ {K V : Type 0} (eq : K → K → Bool) (m : Meaning K V) (id : TableId) (s u : SeatView (Told K V)) (o : IsSole id s) where
+module _ {K V : Type 0} (eq : K → K → Bool) (m : Meaning K V) (id : EngineId) (s u : SeatView (Told K V)) (o : IsSole id s) where
   pub sole_later : Later eq m s u → IsSole id u
   sole_later l =
       let n : u.number ≡ 0 = same_number eq m s u l ∙ o.number in
@@ -119,7 +119,7 @@ module _ {K V : Type 0} (eq : K → K → Bool) (m : Meaning K V) (id : TableId)
       let a = ask_later s u ask opened v k (same_number eq m s u l.0) l.0.begins (subst (NotLeft ask) (sym l.1) h.not_left) h in
       none_some (sym gone ∙ live_in_seen eq m u ask opened v k l.0.lawful (sym l.0.mine) a (subst (NotClosed opened) (sym l.1) n))
 
-module _ {K V : Type 0} (eq : K → K → Bool) (m : Meaning K V) (id : TableId) (s u : SeatView (Told K V)) (o : IsSole id s)
+module _ {K V : Type 0} (eq : K → K → Bool) (m : Meaning K V) (id : EngineId) (s u : SeatView (Told K V)) (o : IsSole id s)
     (P : List (Told K V) → List (Told K V) → List (Told K V) → Type 0) (t : Turn eq m s u P) where
   log_added : (own : List (Told K V)) → t.adds.own ≡ own → log_of u.seen ≡ log_of s.seen ++ log_of own
   log_added own e =
@@ -151,7 +151,7 @@ module _ {K V : Type 0} (eq : K → K → Bool) (m : Meaning K V) (id : TableId)
         keeps = λ ask k h. turn_ask eq m s u P t ask i v k (subst (NotLeft ask) (sym e) (left ask)) h;
       }
 
-module _ {K V : Type 0} (eq : K → K → Bool) (m : Meaning K V) (id : TableId) (s u : SeatView (Told K V)) (o : IsSole id s) where
+module _ {K V : Type 0} (eq : K → K → Bool) (m : Meaning K V) (id : EngineId) (s u : SeatView (Told K V)) (o : IsSole id s) where
   pub goes_nothing : Turn eq m s u (λ found. AddsNothing) → Goes id s u
   goes_nothing t = goes_turn eq m id s u o _ t [] t.adds.did.0 refl
 
@@ -218,11 +218,11 @@ module _ {U K V R : Type 0} where
   pub saw_ask : (s : SeatView (Told K V)) (opened version : ℕ) (k : K) (p : Promise U K V R) → IsAsked s opened version k p → SawAsk s p.ask p.opened p.version (arc_value p.key)
   saw_ask s opened version k p a = saw_own s p.ask p.opened p.version (arc_value p.key) (has_ask s opened version k p a)
 
-  pub asked_stays : (id : TableId) (s u : SeatView (Told K V)) (opened version : ℕ) (k : K) (p : Promise U K V R) → AsksOn id s u opened version → IsAsked s opened version k p → IsAsked u opened version k p
+  pub asked_stays : (id : EngineId) (s u : SeatView (Told K V)) (opened version : ℕ) (k : K) (p : Promise U K V R) → AsksOn id s u opened version → IsAsked s opened version k p → IsAsked u opened version k p
   asked_stays id s u opened version k p g a = record { same_key = a.same_key; same_opened = a.same_opened; same_version = a.same_version; has = g.keeps p.ask k a.has }
 
 -- what a call comes to, whether memory was refused or not
-module _ {K V : Type 0} (eq : K → K → Bool) (m : Meaning K V) (id : TableId) (s u : SeatView (Told K V)) (o : IsSole id s) where
+module _ {K V : Type 0} (eq : K → K → Bool) (m : Meaning K V) (id : EngineId) (s u : SeatView (Told K V)) (o : IsSole id s) where
   abbrev pub IsNothing : Type 0
   IsNothing = Turn eq m s u (λ found. AddsNothing)
 
@@ -298,7 +298,7 @@ module _ {U K V R : Type 0} where
   owned_fault P (Err f) (Err e) h x = one_fault P f e h x
 
 -- the session as its caller sees it, after turns that committed nothing
-pub rests_goes : {K V : Type 0} (id : TableId) (s u : SeatView (Told K V)) (ps : List (K × V)) (X : SessionView K V) → record { commits = log_of s.seen; changes = ps; events = s.seen } ≡ X → Goes id s u
+pub rests_goes : {K V : Type 0} (id : EngineId) (s u : SeatView (Told K V)) (ps : List (K × V)) (X : SessionView K V) → record { commits = log_of s.seen; changes = ps; events = s.seen } ≡ X → Goes id s u
     → Rests X (record { commits = log_of u.seen; changes = ps; events = u.seen })
 rests_goes id s u ps X e g = subst (λ Y. Rests Y (record { commits = log_of u.seen; changes = ps; events = u.seen })) e (record { commits = g.log; changes = refl; events = g.begins })
 

@@ -3,11 +3,11 @@
 use Rattle.std.specs.Prelude.{◌≡◌, ℕ, List, Option, IfSome}
 use Rattle.std.specs.Arc.{arc_value}
 use Rattle.std.specs.List.{AllByRecursion}
-use Rattle.atomic_table.specs.Seated.{TableId}
+use Rattle.dice_engine.specs.Seats.{EngineId}
 use Rattle.journal.specs.declared.event.Told.{Told}
 use Rattle.journal.specs.Tell.{event_by}
 use Rattle.turnstile.specs.Events.{StartsWith, events_by, AllBelow}
-use Rattle.turnstile.specs.Seats.{SeatView, IsSeatOf}
+use Rattle.dice_engine.specs.Seats.{SeatView, IsSeatOf}
 use Rattle.dice_engine.specs.Turns.{log_of, newest_in}
 use Rattle.dice_engine.specs.Conditions.{HasOpen, HasAsk}
 use Rattle.dice_engine.specs.declared.promise.Promise.{Promise}
@@ -16,7 +16,7 @@ use Rattle.dice_engine.specs.declared.promise.Transaction.{Transaction}
 module _ {K V : Type 0} where
   -- the seat is the first of this engine, and the one writer: it knows of all events that tell a
   -- number
-  pub record IsSole (id : TableId) (s : SeatView (Told K V)) : Type 0 where
+  pub record IsSole (id : EngineId) (s : SeatView (Told K V)) : Type 0 where
     pub seat : IsSeatOf id s
     pub number : s.number ≡ 0
     pub writers : s.writers ≡ 1
@@ -24,7 +24,7 @@ module _ {K V : Type 0} where
     pub below : AllBelow event_by 1 s.seen
 
   -- after turns of its own that committed nothing
-  pub record Goes (id : TableId) (s u : SeatView (Told K V)) : Type 0 where
+  pub record Goes (id : EngineId) (s u : SeatView (Told K V)) : Type 0 where
     pub sole : IsSole id u
     pub begins : StartsWith u.seen s.seen
     pub log : log_of u.seen ≡ log_of s.seen
@@ -36,12 +36,12 @@ module _ {K V : Type 0} where
 
   -- between two calls: it is the one writer, and has open the transaction that is kept for the next
   -- call, if any
-  pub record IsReady (id : TableId) (s : SeatView (Told K V)) (kept : Option Transaction) : Type 0 where
+  pub record IsReady (id : EngineId) (s : SeatView (Told K V)) (kept : Option Transaction) : Type 0 where
     pub sole : IsSole id s
     pub still : IfSome kept (λ t. IsOpen s t.opened t.version)
 
   -- after turns of its own in this transaction, which stays open, as its asks stay
-  pub record Asks (id : TableId) (s u : SeatView (Told K V)) (opened version : ℕ) : Type 0 where
+  pub record Asks (id : EngineId) (s u : SeatView (Told K V)) (opened version : ℕ) : Type 0 where
     pub goes : Goes id s u
     pub still : IsOpen u opened version
     pub keeps : (ask : ℕ) (k : K) → HasAsk s ask opened version k → HasAsk u ask opened version k

@@ -1,9 +1,9 @@
 //! Workers beside a session.
 ghost use Rattle.std.specs.Prelude.{All};
 ghost use Rattle.std.specs.Arc.{arc_value};
-ghost use Rattle.turnstile.specs.Seats.{IsSeatOf};
+ghost use Rattle.dice_engine.specs.Seating.{IsPlaceOf};
 
-use dice_engine::{Engine, Open, Seat};
+use dice_engine::{Engine, Open, Place};
 use dice_key::Universe;
 use std::sync::{Arc, Wait};
 use std::thread::Threads;
@@ -12,8 +12,8 @@ use std::thread::Threads;
 #[derive(Drop)]
 pub struct Workers<U: Universe> {
     pub(crate) engine: Arc<Engine<U>>,
-    pub(crate) seats: Vec<Seat<U>>,
-    ghost theirs: { All (IsSeatOf (arc_value engine)) seats.items },
+    pub(crate) seats: Vec<Place<U>>,
+    ghost theirs: { All (IsPlaceOf (arc_value engine)) seats.items },
 }
 
 impl<U: Universe> Workers<U> {

@@ -1,6 +1,6 @@
 //! An engine on the example universe: calls one after another, by one seat and by two.
 ghost use Rattle.std.specs.Prelude.{◌≡◌};
-ghost use Rattle.turnstile.specs.Seats.{IsSeatOf, IsWriter};
+ghost use Rattle.dice_engine.specs.Seats.{IsSeatOf, IsWriter};
 
 use crate::way::{Came, Course, course_of, start, waited};
 use dice_engine::{
@@ -132,15 +132,16 @@ fn course_of_sum<R: Wait>(rt: &R, alloc: Global) -> Result<Course<Tiny>, NoMemor
     course_of(rt, alloc, universe, &updater, key)
 }
 
-/// Whether the sum of the cells is computed once, by one job, and the promise goes when its
-/// transaction is closed.
+/// Whether the sum of the cells is computed once, by one job, which is on the line once the sum is
+/// asked for, and the promise goes when its transaction is closed.
 fn comes_to_five(course: &Course<Tiny>) -> bool {
     let way = &course.way;
     let worked = way.worked == Worked::Did && way.idle == Worked::Idle;
+    let line = way.asked == (0, 1) && way.empties == 1;
     let first = seen_of(&way.first) == Seen::Pending;
     let last = seen_of(&way.last) == Seen::Number(5);
     let gone = seen_of(&way.gone) == Seen::Gone;
-    !course.taken && way.version == 1 && worked && first && last && gone
+    !course.taken && way.version == 1 && worked && line && first && last && gone
 }
 
 #[test]

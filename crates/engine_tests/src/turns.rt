@@ -30,6 +30,8 @@ impl Tale for Ledger {
 
     ghost counts = { λ s. (length s.entries.items, 0, 0) };
 
+    ghost mark = { λ s. (0, 0) };
+
     ghost version = { length };
 
     fn tally(&self) -> (u64, u64, u64) {
@@ -159,7 +161,7 @@ fn start(
     writers: u64,
     room: usize,
 ) -> Result<(Turnstile<Ledger>, Seat<Entry>), AllocError>
-    ensures { IfOk result (λ t. t.1 ≡ first_seat t.0 writers) }
+    ensures { IfOk result (λ t. t.1 ≡ first_seat t.0 writers (0, 0)) }
 {
     let entries = Vec::with_capacity(alloc, room)?;
     match Turnstile::new(alloc, Ledger { entries }, writers) {

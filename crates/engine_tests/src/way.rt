@@ -1,6 +1,6 @@
 //! One promise on its way, on an engine over any universe.
 ghost use Rattle.std.specs.Prelude.{◌≡◌, IfOk};
-ghost use Rattle.turnstile.specs.Seats.{first_seat, IsSeatOf, IsWriter};
+ghost use Rattle.dice_engine.specs.Seats.{first_seat, IsSeatOf, IsWriter};
 
 use dice_engine::{Answer, Engine, Open, Seat, Settled, Updater, Worked};
 use dice_key::{KeyRef, Line, NoMemory, Universe, ValueRef, Version};
@@ -59,11 +59,15 @@ pub(crate) struct Way<U: Universe> {
     /// The version that its transaction reads.
     pub(crate) version: Version,
     pub(crate) first: Came<U>,
+    /// How many tasks are ready and how many jobs are out once the key was asked for.
+    pub(crate) asked: (u64, u64),
     pub(crate) worked: Worked,
     pub(crate) last: Came<U>,
     /// The lines of the journal then.
     pub(crate) lines: Vec<Line>,
     pub(crate) idle: Worked,
+    /// How often the seat found the line of jobs empty in that call.
+    pub(crate) empties: u64,
     /// What a poll answers once the transaction is closed.
     pub(crate) gone: Came<U>,
 }
@@ -74,10 +78,12 @@ impl<U: Universe> Drop for Way<U> {
         let Way {
             version: _,
             first: _first,
+            asked: _,
             worked: _,
             last: _last,
             lines: _lines,
             idle: _,
+            empties: _,
             gone: _gone,
         } = self;
     }
@@ -97,22 +103,27 @@ pub(crate) fn way_of<U: Universe, R: Wait>(
     let transaction = engine.open(rt, seat)?;
     let version = transaction.version;
     let promise = engine.ask(rt, seat, &transaction, key)?;
+    let (ready, out, _) = seat.left();
     let first = engine.poll(rt, seat, &promise)?;
     let first = answered(first);
     let worked = engine.work(rt, seat, &Open, 0);
     let last = engine.wait(rt, seat, &promise, &Open, 0)?;
     let last = settled(last);
     let lines = engine.log(rt, alloc, seat)?;
+    let before = seat.empties();
     let idle = engine.work(rt, seat, &Open, 0);
+    let empties = seat.empties().saturating_sub(before);
     engine.close(rt, seat, transaction);
     let gone = engine.poll(rt, seat, &promise)?;
     Ok(Way {
         version,
         first,
+        asked: (ready, out),
         worked,
         last,
         lines,
         idle,
+        empties,
         gone: answered(gone),
     })
 }

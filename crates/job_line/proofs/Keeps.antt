@@ -12,7 +12,7 @@ use Rattle.lists.proofs.Members.{has_either}
 use Rattle.lists.proofs.Distinct.{distinct_both}
 use Rattle.job_line.specs.declared.view.View.{View}
 use Rattle.job_line.specs.Ends.{longer}
-use Rattle.job_line.specs.Rule.{Owns, viewed, first_view, no_view, Fits, Lined, pushed, popped, looked, child_view, joined_view}
+use Rattle.job_line.specs.Rule.{Owns, viewed, first_view, no_view, Fits, Lined, pushed, popped, looked, child_view, joined_view, met_view, met_all}
 
 -- the takers once the place t is given to id
 abbrev given : (ℕ → ℕ) → ℕ → ℕ → ℕ → ℕ
@@ -75,7 +75,7 @@ module _ {J : Type 0} where
   begins = record { putter = 0; puts = []; taken = 0; taker = λ _. 0; within = zero-le; left = refl; each = one }
     where
       one : (id : ℕ) (v : View J) → get_elem? (first_view ∷ []) id ≡ some v → Fits 0 [] 0 (λ _. 0) id v
-      one zero v e = subst (Fits 0 [] 0 (λ _. 0) 0) (some-injective _ _ e) (record { whole = λ _. (refl, refl); begins = ([], refl); own = λ p h. absurd h; apart = tt })
+      one zero v e = subst (Fits 0 [] 0 (λ _. 0) 0) (some-injective _ _ e) (record { whole = λ _. (refl, refl); begins = ([], refl); own = λ p h. absurd h; apart = tt; met = ([], refl) })
       one (suc id) v e = absurd (some-ne-none v (sym e))
 
   pub pushes : (id : ℕ) (v : View J) (job : J) → v.putter ≡ true → (n : ℕ) → Pushes Lined n id v job (pushed v job)
@@ -93,12 +93,13 @@ module _ {J : Type 0} where
           within = omega (arith, length-append h.puts (job ∷ []));
           left = drop-append-le h.taken h.puts (job ∷ []) within ∙ ap (λ (l : List J). l ++ job ∷ []) h.left;
           each = seats_set (Fits h.putter (h.puts ++ job ∷ []) h.taken h.taker) views id w
-              (record { whole = λ _. ((mine.whole may).0, ap (λ (l : List J). l ++ job ∷ []) all); begins = subst (λ (l : List J). IsPrefix (v.seen ++ job ∷ []) (l ++ job ∷ [])) all (whole (v.seen ++ job ∷ [])); own = mine.own; apart = mine.apart })
+              (record { whole = λ _. ((mine.whole may).0, ap (λ (l : List J). l ++ job ∷ []) all); begins = subst (λ (l : List J). IsPrefix (v.seen ++ job ∷ []) (l ++ job ∷ [])) all (whole (v.seen ++ job ∷ [])); own = mine.own; apart = mine.apart; met = (h.puts ++ job ∷ [], refl) })
               (λ j u other e. let f = h.each j u e in record {
                 whole = λ p. absurd (other ((f.whole p).0 ∙ sym (mine.whole may).0));
                 begins = further u.seen h.puts (job ∷ []) f.begins;
                 own = f.own;
                 apart = f.apart;
+                met = further u.met h.puts (job ∷ []) f.met;
               });
         },
         (refl, refl, refl),
@@ -120,8 +121,8 @@ module _ {J : Type 0} where
           within = omega arith;
           left = next.2;
           each = seats_set (Fits h.putter h.puts (suc h.taken) (given h.taker h.taken id)) views id w
-              (record { whole = λ p. ((mine.whole p).0, refl); begins = whole h.puts; own = owns_next h.taker h.taken id v.places mine.own; apart = apart })
-              (λ j u other e. let f = h.each j u e in record { whole = f.whole; begins = f.begins; own = owns_still h.taker h.taken id j u.places f.own; apart = f.apart });
+              (record { whole = λ p. ((mine.whole p).0, refl); begins = whole h.puts; own = owns_next h.taker h.taken id v.places mine.own; apart = apart; met = (h.puts, refl) })
+              (λ j u other e. let f = h.each j u e in record { whole = f.whole; begins = f.begins; own = owns_still h.taker h.taken id j u.places f.own; apart = f.apart; met = f.met });
         },
         (refl, record { place = h.taken; job_there = next.1; begins = mine.begins; first = λ p q. (mine.own p q).1; gained = refl; apart = apart }),
       )
@@ -134,7 +135,7 @@ module _ {J : Type 0} where
   forks id v items views h at =
       let mine = h.each id v at in
       let child : (j : ℕ) → Fits h.putter h.puts h.taken h.taker j (child_view v) =
-      λ j. record { whole = λ p. absurd (true≢false (sym p)); begins = mine.begins; own = λ p q. absurd q; apart = tt } in
+      λ j. record { whole = λ p. absurd (true≢false (sym p)); begins = mine.begins; own = λ p q. absurd q; apart = tt; met = (h.puts, refl) } in
       record {
         putter = h.putter;
         puts = h.puts;
@@ -174,6 +175,7 @@ module _ {J : Type 0} where
         begins = longer_one (λ l. IsPrefix l h.puts) v.seen u.seen mine.begins theirs.begins;
         own = owns_both h.taker h.taken other id v.places u.places two mine.own theirs.own;
         apart = distinct_both v.places u.places mine.apart theirs.apart (λ p a b. two (sym (mine.own p a).0 ∙ (theirs.own p b).0));
+        met = (h.puts, refl);
       } in
       record {
         putter = h.putter;
@@ -183,7 +185,33 @@ module _ {J : Type 0} where
         within = h.within;
         left = h.left;
         each = seats_set K (set views id w) other no_view
-            (record { whole = λ p. absurd (true≢false (sym p)); begins = (h.puts, refl); own = λ p q. absurd q; apart = tt })
+            (record { whole = λ p. absurd (true≢false (sym p)); begins = (h.puts, refl); own = λ p q. absurd q; apart = tt; met = (h.puts, refl) })
             (λ j y a e. seats_set (λ i z. i ≢ other → K i z) views id w (λ _. both)
-            (λ i z b e' c. let f = h.each i z e' in record { whole = f.whole; begins = f.begins; own = owns_apart h.taker h.taken other id i z.places c f.own; apart = f.apart }) j y e a);
+            (λ i z b e' c. let f = h.each i z e' in record { whole = f.whole; begins = f.begins; own = owns_apart h.taker h.taken other id i z.places c f.own; apart = f.apart; met = f.met }) j y e a);
       }
+
+  -- an end meets a pass
+  pub meets : (id : ℕ) (v : View J) (other : ℕ) (u : View J) → Merges Lined id v other u (met_view v u) no_view
+  meets id v other u items views h at apart there =
+      let w : View J = met_view v u in
+      let mine = h.each id v at in
+      let was : get_elem? views other ≡ some u =
+      ⊎_elim (λ (t : (other ≡ id) × (w ≡ u)). absurd (apart t.0)) (λ (t : (other ≢ id) × (get_elem? views other ≡ some u)). t.1) (at_set views id other w u there) in
+      let theirs = h.each other u was in
+      let K : ℕ → View J → Type 0 = Fits h.putter h.puts h.taken h.taker in
+      let both : K id w = record { whole = mine.whole; begins = mine.begins; own = mine.own; apart = mine.apart; met = theirs.begins } in
+      record {
+        putter = h.putter;
+        puts = h.puts;
+        taken = h.taken;
+        taker = h.taker;
+        within = h.within;
+        left = h.left;
+        each = seats_set K (set views id w) other no_view
+            (record { whole = λ p. absurd (true≢false (sym p)); begins = (h.puts, refl); own = λ p q. absurd q; apart = tt; met = (h.puts, refl) })
+            (λ j y a e. seats_set K views id w both (λ i z b e'. h.each i z e') j y e);
+      }
+
+  pub knows_met : (id : ℕ) (v : View J) → Learns Lined id v (met_all v)
+  knows_met id v items views h at = let mine = h.each id v at in
+      λ p. subst (IsPrefix v.met) (sym (mine.whole p).1) mine.met

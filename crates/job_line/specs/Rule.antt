@@ -15,7 +15,7 @@ Owns taker taken id places = (p : ℕ) → Has places p → (taker p ≡ id) × 
 
 module _ {J : Type 0} where
   abbrev pub viewed : Bool → List J → List ℕ → View J
-  viewed putter seen places = record { putter = putter; seen = seen; places = places }
+  viewed putter seen places = record { putter = putter; seen = seen; places = places; met = [] }
 
   abbrev pub first_view : View J
   first_view = viewed true [] []
@@ -30,6 +30,7 @@ module _ {J : Type 0} where
     pub begins : IsPrefix v.seen puts
     pub own : Owns taker taken id v.places
     pub apart : AreDistinct v.places
+    pub met : IsPrefix v.met puts
 
   pub record Lined (items : List J) (views : List (View J)) : Type 0 where
     pub putter : ℕ
@@ -58,3 +59,11 @@ module _ {J : Type 0} where
 
   abbrev pub joined_view : View J → View J → View J
   joined_view v w = viewed v.putter (longer v.seen w.seen) (v.places ++ w.places)
+
+  -- the view of an end that met a pass
+  abbrev pub met_view : View J → View J → View J
+  met_view v w = record v { met = w.seen }
+
+  -- a putter has put all that a pass had seen that it met
+  abbrev pub met_all : View J → List J → Type 0
+  met_all v items = v.putter ≡ true → IsPrefix v.met v.seen

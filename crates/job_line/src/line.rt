@@ -1,12 +1,13 @@
 //! The line, and what its ends do.
 ghost use Rattle.std.specs.Prelude.{◌≡◌, ℕ, ◌^◌, ◌<◌, List, [], length, IsOk, IfOk, IfErr, IfSome, IfNone};
 ghost use Rattle.lists.specs.Lists.{AreDistinct};
+ghost use mathlib.Core.List.{IsPrefix};
 ghost use Rattle.job_line.specs.Ends.{first_putter, first_pass, with_job, Took, after_empty, Held, split_off, joined};
 
 use crate::no_memory::NoMemory;
 use crate::pass::Pass;
 use crate::putter::Putter;
-use crate::rule::{Pair, Pop, Push, RawLine};
+use crate::rule::{Meet, Pair, Pop, Push, RawLine};
 use std::alloc::Global;
 use std::marker::Model;
 use std::sync::Wait;
@@ -83,6 +84,33 @@ impl<J: Drop> JobLine<J> {
         ensures pass { pass.new ≡ pass.old }
     {
         self.queue.len_as::<Pop, R>(rt, &mut pass.raw)
+    }
+
+    /// The putter has put all that a pass has seen. Nothing changes. It may wait for a step of
+    /// another thread.
+    #[tactic(auto, using(crate::proofs::Keeps::forks, crate::proofs::Keeps::meets, crate::proofs::Keeps::knows_met))]
+    pub fn meet<R: Wait>(&self, rt: &R, putter: &mut Putter<J>, pass: &mut Pass<J>)
+        requires own { putter.old.line ≡ self.now }
+        requires own_pass { pass.old.line ≡ self.now }
+        ensures begins { IsPrefix pass.old.seen putter.old.puts }
+        ensures putter { putter.new ≡ putter.old }
+        ensures pass { pass.new ≡ pass.old }
+    {
+        let other = self.queue.another::<Pair>(&mut pass.raw);
+        self.queue.absorb::<Meet>(&mut putter.raw, other);
+        self.queue.len_as::<Meet, R>(rt, &mut putter.raw);
+    }
+
+    /// A new pass, which has seen all that the putter put. It takes no memory.
+    #[tactic(auto, using(crate::proofs::Keeps::forks))]
+    pub fn pass(&self, putter: &mut Putter<J>) -> Pass<J>
+        requires own { putter.old.line ≡ self.now }
+        ensures new { result
+            ≡ record { line = putter.old.line; seen = putter.old.puts; places = []; empties = 0 } }
+        ensures putter { putter.new ≡ putter.old }
+    {
+        let raw = self.queue.another::<Pair>(&mut putter.raw);
+        Pass { raw, empties: 0 }
     }
 
     /// A new pass, which has seen what this one has. It takes no memory, and is never refused.

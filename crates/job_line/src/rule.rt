@@ -55,6 +55,23 @@ impl<J> Join<View<J>> for Pair {
     ghost spent = { no_view };
 }
 
+// A putter meets a pass that was split off for it.
+pub(crate) struct Meet;
+
+impl<J> Join<View<J>> for Meet {
+    ghost use Rattle.job_line.specs.Rule.{met_view, no_view};
+
+    ghost both = { met_view };
+
+    ghost spent = { no_view };
+}
+
+impl<J> Lesson<J, View<J>> for Meet {
+    ghost use Rattle.job_line.specs.Rule.{met_all};
+
+    ghost fact = { met_all };
+}
+
 pub(crate) type RawLine<J> = RuledSegQueue<J, View<J>, InLine>;
 
 pub(crate) type RawPass<J> = SegPass<J, View<J>>;

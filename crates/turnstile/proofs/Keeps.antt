@@ -56,7 +56,7 @@ waited (Waits t) = t
 waited (Serves t) = t
 waited _ = 0
 
-module _ {S E : Type 0} (list : S → List E) (by : E → Option ℕ) (version : List E → ℕ) (writers : ℕ) where
+module _ {S E : Type 0} (list : S → List E) (by : E → Option ℕ) (version : List E → ℕ) (mark : S → ℕ × ℕ) (writers : ℕ) (m : ℕ × ℕ) where
   abbrev V : Type 0
   V = View E
 
@@ -64,19 +64,19 @@ module _ {S E : Type 0} (list : S → List E) (by : E → Option ℕ) (version :
   St = State (Option S) V
 
   abbrev Rule : St → Type 0
-  Rule = Turns list by version writers
+  Rule = Turns list by version mark writers m
 
   abbrev SitsIn : World E → ℕ → V → Type 0
-  SitsIn = Sits by version writers
+  SitsIn = Sits by version writers m
 
   abbrev FitsIn : World E → ℕ → V → Type 0
-  FitsIn = Fits by version writers
+  FitsIn = Fits by version writers m
 
   abbrev KnowsIn : World E → ℕ → List E → Stage → Type 0
-  KnowsIn = Knows by version writers
+  KnowsIn = Knows by version writers m
 
   abbrev StandsIn : World E → ℕ → ℕ → ℕ → List E → Type 0
-  StandsIn = Stands by version writers
+  StandsIn = Stands by version writers m
 
   alive : (w : World E) (id : ℕ) (v : V) → (v.stage ≡ Spent → ⊥) → FitsIn w id v → SitsIn w id v
   alive w id v not f = ⊎_elim (λ e. absurd (not e)) (λ t. t) f
@@ -91,10 +91,11 @@ module _ {S E : Type 0} (list : S → List E) (by : E → Option ℕ) (version :
         own = stands 0 v.number v.mine t.own;
         mine = t.mine;
         spare = λ n a b. stands 1 n [] (t.spare n a b);
-        noted = each_map by (IsNoted by version writers w id) (IsNoted by version writers w' id) (λ x q. (stands 2 x.number x.mine q.0, prefix x.seen q.1, prefix x.theirs q.2)) v.ended t.noted;
+        noted = each_map by (IsNoted by version writers m w id) (IsNoted by version writers m w' id) (λ x q. (stands 2 x.number x.mine q.0, prefix x.seen q.1, prefix x.theirs q.2)) v.ended t.noted;
         once = t.once;
         floor = le_trans t.floor shown;
         same_writers = t.same_writers;
+        same_mark = t.same_mark;
       }) f
 
   -- a ticket is in the hands of one seat, and there are no more seats than 2^32
@@ -155,6 +156,7 @@ module _ {S E : Type 0} (list : S → List E) (by : E → Option ℕ) (version :
           words = ap (λ (ws : List ℕ). set ws 0 ((get_or ws 0 0 + 1) % 2 ^ 64)) r.words ∙ ap (λ (n : ℕ). n ∷ w.serving % 2 ^ 64 ∷ w.shown ∷ []) (mod-add-mod t (2 ^ 64) 1);
           homes = r.homes;
           at_home = r.at_home;
+          marked = r.marked;
           order = omega arith;
           busy = λ o. let b = r.busy o in omega arith;
           tickets = λ x low high. dite (ℕ_discrete x t)
@@ -172,6 +174,7 @@ module _ {S E : Type 0} (list : S → List E) (by : E → Option ℕ) (version :
                 once = mine.once;
                 floor = mine.floor;
                 same_writers = mine.same_writers;
+                same_mark = mine.same_mark;
               })
               (λ j y other e. sits_on w w' j y (knows_more w t id j y.seen refl y.stage) (λ xs p. p) (λ k n es p. p) (le_refl w.shown) (r.seats j y e));
           below = r.below;
@@ -189,7 +192,7 @@ module _ {S E : Type 0} (list : S → List E) (by : E → Option ℕ) (version :
       knows_more w t id j seen is Spent k = k
 
   -- a seat that waits looks which ticket is served, and takes the state if it is its own
-  pub looks : (slots id : ℕ) (me : Seated S E) (t : ℕ) → me.0.stage ≡ Waits t → Allows Rule slots id me 1 (λ n. n) (looked list by version (step slots 1 0 0 core.none) me)
+  pub looks : (slots id : ℕ) (me : Seated S E) (t : ℕ) → me.0.stage ≡ Waits t → Allows Rule slots id me 1 (λ n. n) (looked list by version mark (step slots 1 0 0 core.none) me)
   looks slots id me t is s r wide at small =
       let v : V = me.0 in
       let w = r.w in
@@ -217,6 +220,7 @@ module _ {S E : Type 0} (list : S → List E) (by : E → Option ℕ) (version :
           words = words;
           homes = ap (λ (hs : List (core.Option (Option S))). set hs 0 core.none) r.homes;
           at_home = λ o. absurd (true≢false o);
+          marked = λ o. absurd (true≢false o);
           order = r.order;
           busy = λ _. omega arith;
           tickets = keeps_ticket w s.views id v u r.tickets at (λ x has. subst (λ (st : Stage). HasTicket st x) is has);
@@ -231,12 +235,13 @@ module _ {S E : Type 0} (list : S → List E) (by : E → Option ℕ) (version :
                 once = mine.once;
                 floor = mine.floor;
                 same_writers = mine.same_writers;
+                same_mark = mine.same_mark;
               })
               (λ j y other a. sits_on w w' j y (knows_out w t id j y.seen same k.2 off other y.stage) (λ xs p. p) (λ kind n es p. p) (le_refl w.shown) (r.seats j y a));
           below = r.below;
           current = r.current;
         },
-        λ t' is'. subst (λ (z : ℕ). LookedFor list by version z me (get_or s.words 1 0) (u, (0, Some r.state) ∷ me.1)) (ap waited (sym is ∙ is')) (
+        λ t' is'. subst (λ (z : ℕ). LookedFor list by version mark z me (get_or s.words 1 0) (u, (0, Some r.state) ∷ me.1)) (ap waited (sym is ∙ is')) (
           (λ _. (
             r.state,
             refl,
@@ -244,9 +249,10 @@ module _ {S E : Type 0} (list : S → List E) (by : E → Option ℕ) (version :
               subst (λ (l : List E). StartsWith l v.seen) (sym home) mine.prefix,
               subst₂ (λ (n : ℕ) (l : List E). AllBelow by n l) (sym mine.same_writers) (sym home) r.below,
               own,
-              each_map by (IsNoted by version writers w id) (NotedIn by (list r.state)) (λ x q. subst (λ (l : List E). NotedIn by l x) (sym home) (q.1, q.2, q.0.3)) v.ended mine.noted,
+              each_map by (IsNoted by version writers m w id) (NotedIn by (list r.state)) (λ x q. subst (λ (l : List E). NotedIn by l x) (sym home) (q.1, q.2, q.0.3)) v.ended mine.noted,
               le_trans mine.floor (subst (λ (l : List E). w.shown ≤ version l) (sym home) r.current),
             ),
+            r.marked off ∙ sym mine.same_mark,
           )),
           λ miss. absurd (miss (word ∙ e)),
         ),
@@ -262,6 +268,7 @@ module _ {S E : Type 0} (list : S → List E) (by : E → Option ℕ) (version :
               words = words;
               homes = r.homes;
               at_home = r.at_home;
+              marked = r.marked;
               order = r.order;
               busy = r.busy;
               tickets = r.tickets;
@@ -269,7 +276,7 @@ module _ {S E : Type 0} (list : S → List E) (by : E → Option ℕ) (version :
               below = r.below;
               current = r.current;
             },
-        λ t' is'. subst (λ (z : ℕ). LookedFor list by version z me (get_or s.words 1 0) me) (ap waited (sym is ∙ is'))
+        λ t' is'. subst (λ (z : ℕ). LookedFor list by version mark z me (get_or s.words 1 0) me) (ap waited (sym is ∙ is'))
             ((λ hit. absurd (miss (sym word ∙ hit))), λ _. refl),
       ))
     where
@@ -287,8 +294,8 @@ module _ {S E : Type 0} (list : S → List E) (by : E → Option ℕ) (version :
   apart_kinds w n m a b x y other e = other (sym x ∙ (ap w.kind e ∙ y))
 
   -- a seat in its turn gives the state back
-  pub leaves : (law : (xs ys : List E) → version xs ≤ version (xs ++ ys)) (tally : S → ℕ × ℕ × ℕ) (slots id : ℕ) (me : Seated S E) (t : ℕ) (x : S) → me.0.stage ≡ Serves t → me.1 ≡ in_hand x → Grows by me.0.number me.0.writers me.0.seen (list x) → Allows Rule slots id me 1 (λ n. (n + 1) % 2 ^ 64) (left list by tally (step slots 1 1 0 core.none) me)
-  leaves law tally slots id me t x is has grows s r wide at small =
+  pub leaves : (law : (xs ys : List E) → version xs ≤ version (xs ++ ys)) (tally : S → ℕ × ℕ × ℕ) (slots id : ℕ) (me : Seated S E) (t : ℕ) (x : S) → me.0.stage ≡ Serves t → me.1 ≡ in_hand x → mark x ≡ me.0.mark → Grows by me.0.number me.0.writers me.0.seen (list x) → Allows Rule slots id me 1 (λ n. (n + 1) % 2 ^ 64) (left list by tally (step slots 1 1 0 core.none) me)
+  leaves law tally slots id me t x is has kept grows s r wide at small =
       let v : V = me.0 in
       let w = r.w in
       let mine = alive w id v (living v.stage (ap is_spent is)) (r.seats id v at) in
@@ -315,6 +322,7 @@ module _ {S E : Type 0} (list : S → List E) (by : E → Option ℕ) (version :
           words = ap (λ (ws : List ℕ). set ws 1 ((get_or ws 1 0 + 1) % 2 ^ 64)) r.words ∙ ap (λ (n : ℕ). w.next % 2 ^ 64 ∷ n ∷ w.shown ∷ []) (mod-add-mod w.serving (2 ^ 64) 1);
           homes = ap (put_back s.homes) has ∙ ap (λ (hs : List (core.Option (Option S))). set hs 0 (core.some (Some x))) r.homes;
           at_home = λ _. refl;
+          marked = λ _. kept ∙ mine.same_mark;
           order = omega arith;
           busy = λ o. absurd (true≢false (sym o));
           tickets = λ y l h. let q = r.tickets y (omega arith) h in
@@ -327,11 +335,12 @@ module _ {S E : Type 0} (list : S → List E) (by : E → Option ℕ) (version :
                 own = (mine.own.0, mine.own.1, mine.own.2, refl);
                 mine = refl;
                 spare = λ n a b. let q = mine.spare n a b in (q.0, q.1, q.2, still n [] (apart_kinds w n v.number 1 0 q.1 mine.own.1 (λ e. omega arith)) q.3);
-                noted = each_map by (IsNoted by version writers w id) (IsNoted by version writers w' id)
+                noted = each_map by (IsNoted by version writers m w id) (IsNoted by version writers m w' id)
                     (λ y q. ((q.0.0, q.0.1, q.0.2, still y.number y.mine (noted_apart y q.0.1) q.0.3), prefix y.seen q.1, prefix y.theirs q.2)) v.ended mine.noted;
                 once = mine.once;
                 floor = mine.floor;
                 same_writers = mine.same_writers;
+                same_mark = mine.same_mark;
               })
               (λ j y other a. sits_on w w' j y (knows_next w id j (list x) y.seen owner k.3 other y.stage) prefix
               (λ kind n fs q. (q.0, q.1, q.2, still n fs (λ e. other (sym q.0 ∙ (ap w.keeper e ∙ mine.own.0))) q.3)) (le_refl w.shown) (r.seats j y a));
@@ -343,7 +352,7 @@ module _ {S E : Type 0} (list : S → List E) (by : E → Option ℕ) (version :
               (ap (λ (z : S). nothing v (back by v (list z) (tally z))) same),
           subst (λ (z : S). Agrees by v (list z)) same (
             subst (λ (n : ℕ). AllBelow by n (list x)) (sym mine.same_writers) below,
-            each_map by (IsNoted by version writers w id) (NotedIn by (list x))
+            each_map by (IsNoted by version writers m w id) (NotedIn by (list x))
                 (λ z q. (prefix z.seen q.1, prefix z.theirs q.2, still z.number z.mine (noted_apart z q.0.1) q.0.3)) v.ended mine.noted,
           ),
         ),
@@ -395,6 +404,7 @@ module _ {S E : Type 0} (list : S → List E) (by : E → Option ℕ) (version :
           words = ap (λ (ws : List ℕ). set ws 2 (max (get_or ws 2 0) k)) r.words;
           homes = r.homes;
           at_home = r.at_home;
+          marked = r.marked;
           order = r.order;
           busy = r.busy;
           tickets = keeps_ticket w s.views id v u r.tickets at (λ x has. absurd (no_ticket v.stage Raises (λ y h. h) is x has));
@@ -409,6 +419,7 @@ module _ {S E : Type 0} (list : S → List E) (by : E → Option ℕ) (version :
                 once = mine.once;
                 floor = le_refl top;
                 same_writers = mine.same_writers;
+                same_mark = mine.same_mark;
               })
               (λ j y other a. sits_on w w' j y (knows_up w top j y.seen up y.stage) (λ xs p. p) (λ kind n es p. p) up (r.seats j y a));
           below = r.below;
@@ -444,6 +455,7 @@ module _ {S E : Type 0} (list : S → List E) (by : E → Option ℕ) (version :
           words = ap (λ (ws : List ℕ). set ws 2 (get_or ws 2 0)) r.words;
           homes = r.homes;
           at_home = r.at_home;
+          marked = r.marked;
           order = r.order;
           busy = r.busy;
           tickets = keeps_ticket w s.views id v u r.tickets at (λ x has. has);
@@ -458,6 +470,7 @@ module _ {S E : Type 0} (list : S → List E) (by : E → Option ℕ) (version :
                 once = mine.once;
                 floor = subst (λ (z : ℕ). z ≤ w.shown) (sym word) (le_refl w.shown);
                 same_writers = mine.same_writers;
+                same_mark = mine.same_mark;
               })
               (λ j y other a. r.seats j y a);
           below = r.below;
@@ -484,6 +497,7 @@ module _ {S E : Type 0} (list : S → List E) (by : E → Option ℕ) (version :
           words = ap (λ (ws : List ℕ). set ws 1 (get_or ws 1 0)) r.words;
           homes = ap (put_back s.homes) has ∙ ap (λ (hs : List (core.Option (Option S))). set hs 0 (core.some None)) r.homes;
           at_home = λ o. absurd (true≢false o);
+          marked = λ o. absurd (true≢false o);
           order = r.order;
           busy = λ _. r.busy k.3;
           tickets = keeps_ticket w s.views id v u r.tickets at (λ x q. subst (λ (st : Stage). HasTicket st x) is q);
@@ -498,6 +512,7 @@ module _ {S E : Type 0} (list : S → List E) (by : E → Option ℕ) (version :
                 once = mine.once;
                 floor = mine.floor;
                 same_writers = mine.same_writers;
+                same_mark = mine.same_mark;
               })
               (λ j y other a. sits_on w w' j y (knows_over w id j y.seen (ap w.owner (sym k.0) ∙ k.2) k.3 other y.stage) (λ xs p. p) (λ kind n es p. p) (le_refl w.shown) (r.seats j y a));
           below = r.below;
@@ -545,6 +560,7 @@ module _ {S E : Type 0} (list : S → List E) (by : E → Option ℕ) (version :
         words = r.words;
         homes = r.homes;
         at_home = r.at_home;
+        marked = r.marked;
         order = r.order;
         busy = r.busy;
         tickets = λ x low high. let q = held x low high in (q.0, at_longer vs (child_view v ∷ []) (w.owner x) q.0 q.1, q.2);
@@ -556,10 +572,11 @@ module _ {S E : Type 0} (list : S → List E) (by : E → Option ℕ) (version :
               own = stands id 0 v.number v.mine (apart_kinds w v.number n 0 1 mine.own.1 spare.1 (λ e. omega arith)) mine.own;
               mine = mine.mine;
               spare = λ m a b. stands id 1 m [] (λ e. omega arith) (mine.spare m (omega arith) b);
-              noted = each_map by (IsNoted by version writers w id) (IsNoted by version writers w' id) (λ y q. (stands id 2 y.number y.mine (apart_kinds w y.number n 2 1 q.0.1 spare.1 (λ e. omega arith)) q.0, q.1, q.2)) v.ended mine.noted;
+              noted = each_map by (IsNoted by version writers m w id) (IsNoted by version writers m w' id) (λ y q. (stands id 2 y.number y.mine (apart_kinds w y.number n 2 1 q.0.1 spare.1 (λ e. omega arith)) q.0, q.1, q.2)) v.ended mine.noted;
               once = mine.once;
               floor = mine.floor;
               same_writers = mine.same_writers;
+              same_mark = mine.same_mark;
             })
             (λ i y other a. sits_on w w' i y (λ k. same_knows w i y.seen (given w.keeper n new) (given w.kind n 0) y.stage k) (λ xs p. p) (λ kind m es q. stands i kind m es (λ e. other (sym q.0 ∙ (ap w.keeper e ∙ spare.0))) q) (le_refl w.shown) (r.seats i y a)) j u)
             (λ (t : (j ≡ new) × (child_view v ≡ u)). subst₂ (FitsIn w') (sym t.0) t.1 (inr record {
@@ -572,6 +589,7 @@ module _ {S E : Type 0} (list : S → List E) (by : E → Option ℕ) (version :
               once = tt;
               floor = mine.floor;
               same_writers = mine.same_writers;
+              same_mark = mine.same_mark;
             }))
             (snoc_here vs (child_view v) u j e);
         below = r.below;
@@ -626,6 +644,7 @@ module _ {S E : Type 0} (list : S → List E) (by : E → Option ℕ) (version :
         words = r.words;
         homes = r.homes;
         at_home = r.at_home;
+        marked = r.marked;
         order = r.order;
         busy = r.busy;
         tickets = keeps_ticket w vs other u spent_view held there (λ x has. absurd (no_ticket u.stage Away (λ y h. h) is' x has));
@@ -641,24 +660,25 @@ module _ {S E : Type 0} (list : S → List E) (by : E → Option ℕ) (version :
               spare = λ n x y. stays id 1 n [] two (mine.spare n x y);
               noted = (
                 (comes 0 u.number u.mine theirs.own, mine.prefix, theirs.prefix),
-                each_both by (IsNoted by version writers w' id) v.ended u.ended
-                    (each_map by (IsNoted by version writers w id) (IsNoted by version writers w' id) (λ x q. (stays id 2 x.number x.mine two q.0, q.1, q.2)) v.ended mine.noted)
-                    (each_map by (IsNoted by version writers w other) (IsNoted by version writers w' id) (λ x q. (comes 2 x.number x.mine q.0, q.1, q.2)) u.ended theirs.noted),
+                each_both by (IsNoted by version writers m w' id) v.ended u.ended
+                    (each_map by (IsNoted by version writers m w id) (IsNoted by version writers m w' id) (λ x q. (stays id 2 x.number x.mine two q.0, q.1, q.2)) v.ended mine.noted)
+                    (each_map by (IsNoted by version writers m w other) (IsNoted by version writers m w' id) (λ x q. (comes 2 x.number x.mine q.0, q.1, q.2)) u.ended theirs.noted),
               );
-              once = once_joined by (IsNoted by version writers w id) (IsNoted by version writers w other) (view_note v u) v.ended u.ended
+              once = once_joined by (IsNoted by version writers m w id) (IsNoted by version writers m w other) (view_note v u) v.ended u.ended
                   (λ x y a b e. two (sym a.0.0 ∙ (ap w.keeper e ∙ b.0.0)))
                   (λ x a e. two (sym (sym theirs.own.0 ∙ (ap w.keeper e ∙ a.0.0))))
                   (λ y b. apart_kinds w u.number y.number 0 2 theirs.own.1 b.0.1 (λ e. omega arith)) mine.noted theirs.noted mine.once theirs.once;
               floor = omega arith;
               same_writers = mine.same_writers;
+              same_mark = mine.same_mark;
             })
             (λ i z b e' c. sits_on w w' i z (same_knows w i z.seen keeper kind z.stage) (λ xs p. p) (λ kd n es q. stays i kd n es c q) (le_refl w.shown) (r.seats i z e')) j y e a);
         below = r.below;
         current = r.current;
       }
 
-  pub begins : (x : S) (k : ℕ) → list x ≡ [] → k ≡ version (list x) → Rule (opening (0 ∷ 0 ∷ k ∷ []) (Some x ∷ []) (first_view writers))
-  begins x k empty same =
+  pub begins : (x : S) (k : ℕ) → list x ≡ [] → k ≡ version (list x) → m ≡ mark x → Rule (opening (0 ∷ 0 ∷ k ∷ []) (Some x ∷ []) (first_view writers m))
+  begins x k empty same is =
       let w : World E = record { next = 0; serving = 0; shown = k; out = false; over = false; owner = λ _. 0; tale = []; keeper = λ _. 0; kind = λ n. cond (eqb n 0) 0 1 } in
       let here : version [] ≡ k = ap version (sym empty) ∙ sym same in record {
         w = w;
@@ -666,6 +686,7 @@ module _ {S E : Type 0} (list : S → List E) (by : E → Option ℕ) (version :
         words = refl;
         homes = refl;
         at_home = λ _. empty;
+        marked = λ _. sym is;
         order = le_refl 0;
         busy = λ o. absurd (true≢false (sym o));
         tickets = λ t l h. absurd (omega arith);
@@ -674,7 +695,7 @@ module _ {S E : Type 0} (list : S → List E) (by : E → Option ℕ) (version :
         current = omega arith;
       }
     where
-      one : (w : World E) → version [] ≡ w.shown → w.tale ≡ [] → w.keeper ≡ (λ _. 0) → w.kind ≡ (λ n. cond (eqb n 0) 0 1) → w.out ≡ false → (id : ℕ) (v : V) → get_elem? (first_view writers ∷ []) id ≡ core.some v → FitsIn w id v
+      one : (w : World E) → version [] ≡ w.shown → w.tale ≡ [] → w.keeper ≡ (λ _. 0) → w.kind ≡ (λ n. cond (eqb n 0) 0 1) → w.out ≡ false → (id : ℕ) (v : V) → get_elem? (first_view writers m ∷ []) id ≡ core.some v → FitsIn w id v
       one w shown tale keeper kind out zero v e = subst (FitsIn w 0) (core.some-injective _ _ e) (inr record {
         knows = omega arith;
         prefix = ([], tale);
@@ -685,6 +706,7 @@ module _ {S E : Type 0} (list : S → List E) (by : E → Option ℕ) (version :
         once = tt;
         floor = zero-le;
         same_writers = refl;
+        same_mark = refl;
       })
       one w shown tale keeper kind out (suc id) v e = absurd (core.some-ne-none v (sym e))
 

@@ -23,18 +23,18 @@ module _ {E : Type 0} where
   OnceEach [] = Unit {0}
   OnceEach (x ∷ xs) = Misses x.number xs × OnceEach xs
 
-  abbrev pub first_view : ℕ → View E
-  first_view n = record { stage = Away; number = 0; spare_start = 1; spare_end = 2 ^ 32; seen = []; mine = []; ended = []; floor = 0; left = (0, 0, 0); turns = 0; writers = n }
+  abbrev pub first_view : ℕ → ℕ × ℕ → View E
+  first_view n m = record { stage = Away; number = 0; spare_start = 1; spare_end = 2 ^ 32; seen = []; mine = []; ended = []; floor = 0; left = (0, 0, 0); turns = 0; writers = n; mark = m }
 
   abbrev pub spent_view : View E
-  spent_view = record { stage = Spent; number = 0; spare_start = 0; spare_end = 0; seen = []; mine = []; ended = []; floor = 0; left = (0, 0, 0); turns = 0; writers = 0 }
+  spent_view = record { stage = Spent; number = 0; spare_start = 0; spare_end = 0; seen = []; mine = []; ended = []; floor = 0; left = (0, 0, 0); turns = 0; writers = 0; mark = (0, 0) }
 
   -- a seat that keeps all spare numbers but the least
   abbrev pub parent_view : View E → View E
   parent_view v = record v { spare_start = v.spare_start + 1 }
 
   abbrev pub child_view : View E → View E
-  child_view v = record { stage = Away; number = v.spare_start; spare_start = 0; spare_end = 0; seen = v.seen; mine = []; ended = []; floor = v.floor; left = (0, 0, 0); turns = 0; writers = v.writers }
+  child_view v = record { stage = Away; number = v.spare_start; spare_start = 0; spare_end = 0; seen = v.seen; mine = []; ended = []; floor = v.floor; left = (0, 0, 0); turns = 0; writers = v.writers; mark = v.mark }
 
   abbrev pub view_note : View E → View E → Note E
   view_note v w = record { number = w.number; mine = w.mine; seen = v.seen; theirs = w.seen }
@@ -60,7 +60,7 @@ pub record World (E : Type 0) : Type 0 where
   pub keeper : ℕ → ℕ
   pub kind : ℕ → ℕ
 
-module _ {E : Type 0} (by : E → Option ℕ) (version : List E → ℕ) (writers : ℕ) (w : World E) where
+module _ {E : Type 0} (by : E → Option ℕ) (version : List E → ℕ) (writers : ℕ) (m : ℕ × ℕ) (w : World E) where
   -- what is known of a seat by where it is: a ticket that it has is one of those from `serving` up to `next`, and the state is out with the seat whose ticket is `serving` alone
   abbrev pub Knows : ℕ → List E → Stage → Type 0
   Knows id seen Away = version seen ≤ w.shown
@@ -87,6 +87,7 @@ module _ {E : Type 0} (by : E → Option ℕ) (version : List E → ℕ) (writer
     pub once : OnceEach v.ended
     pub floor : v.floor ≤ w.shown
     pub same_writers : v.writers ≡ writers
+    pub same_mark : v.mark ≡ m
 
   abbrev pub Fits : ℕ → View E → Type 0
   Fits id v = (v.stage ≡ Spent) ⊎ Sits id v
@@ -94,15 +95,16 @@ module _ {E : Type 0} (by : E → Option ℕ) (version : List E → ℕ) (writer
 abbrev pub slot_of : {S : Type 0} → Bool → Bool → S → core.Option (Option S)
 slot_of out over x = if out then (if over then core.some None else core.none) else core.some (Some x)
 
-pub record Turns {S E : Type 0} (list : S → List E) (by : E → Option ℕ) (version : List E → ℕ) (writers : ℕ) (s : State (Option S) (View E)) : Type 0 where
+pub record Turns {S E : Type 0} (list : S → List E) (by : E → Option ℕ) (version : List E → ℕ) (mark : S → ℕ × ℕ) (writers : ℕ) (m : ℕ × ℕ) (s : State (Option S) (View E)) : Type 0 where
   pub w : World E
   pub state : S
   pub words : s.words ≡ w.next % 2 ^ 64 ∷ w.serving % 2 ^ 64 ∷ w.shown ∷ []
   pub homes : s.homes ≡ slot_of w.out w.over state ∷ []
   pub at_home : w.out ≡ false → list state ≡ w.tale
+  pub marked : w.out ≡ false → mark state ≡ m
   pub order : w.serving ≤ w.next
   pub busy : w.out ≡ true → w.serving < w.next
   pub tickets : (t : ℕ) → w.serving ≤ t → t < w.next → (v : View E) × (get_elem? s.views (w.owner t) ≡ core.some v) × HasTicket v.stage t
-  pub seats : (id : ℕ) (v : View E) → get_elem? s.views id ≡ core.some v → Fits by version writers w id v
+  pub seats : (id : ℕ) (v : View E) → get_elem? s.views id ≡ core.some v → Fits by version writers m w id v
   pub below : AllBelow by writers w.tale
   pub current : w.shown ≤ version w.tale

@@ -8,7 +8,7 @@ use Rattle.turnstile.specs.declared.view.View.{View}
 use Rattle.turnstile.specs.Events.{StartsWith, events_by}
 
 -- A seat as its holder sees it: which turnstile it is of, and whether it is away, that is outside a turn.
--- It has a number, and spare numbers from `spare_start` up to `spare_end`, which is not one of them. `seen` is a beginning of the turnstile's list, and `mine` its events there. `ended` notes the seats that were joined to it. The shown version is `floor` or more. `left` is the tally of the state as this seat last gave it back, and `turns` counts its turns. `writers` is the turnstile's.
+-- It has a number, and spare numbers from `spare_start` up to `spare_end`, which is not one of them. `seen` is a beginning of the turnstile's list, and `mine` its events there. `ended` notes the seats that were joined to it. The shown version is `floor` or more. `left` is the tally of the state as this seat last gave it back, and `turns` counts its turns. `writers` and `mark` are the turnstile's.
 pub record SeatView (E : Type 0) : Type 0 where
   pub turnstile : TableId
   pub away : Bool
@@ -22,6 +22,7 @@ pub record SeatView (E : Type 0) : Type 0 where
   pub left : ℕ × ℕ × ℕ
   pub turns : ℕ
   pub writers : ℕ
+  pub mark : ℕ × ℕ
 
 abbrev pub is_away : Stage → Bool
 is_away Away = true
@@ -44,9 +45,9 @@ module _ {E : Type 0} where
   abbrev pub IsWriter : SeatView E → Type 0
   IsWriter s = s.number < s.writers
 
-  -- the first seat of a turnstile with so many writers
-  abbrev pub first_seat : TableId → ℕ → SeatView E
-  first_seat turnstile writers = record {
+  -- the first seat of a turnstile with so many writers and this mark
+  abbrev pub first_seat : TableId → ℕ → ℕ × ℕ → SeatView E
+  first_seat turnstile writers mark = record {
     turnstile = turnstile;
     away = true;
     number = 0;
@@ -59,6 +60,7 @@ module _ {E : Type 0} where
     left = (0, 0, 0);
     turns = 0;
     writers = writers;
+    mark = mark;
   }
 
   -- the seat in a turn, in which it found the list xs
@@ -101,10 +103,11 @@ module _ {E : Type 0} where
     left = v.left;
     turns = v.turns;
     writers = v.writers;
+    mark = v.mark;
   }
 
   abbrev pub no_view : View E
-  no_view = record { stage = Spent; number = 0; spare_start = 0; spare_end = 0; seen = []; mine = []; ended = []; floor = 0; left = (0, 0, 0); turns = 0; writers = 0 }
+  no_view = record { stage = Spent; number = 0; spare_start = 0; spare_end = 0; seen = []; mine = []; ended = []; floor = 0; left = (0, 0, 0); turns = 0; writers = 0; mark = (0, 0) }
 
   -- a badge with a view shows that, and a blank one shows nothing
   abbrev pub badge_view : TableId → List (View E) → SeatView E

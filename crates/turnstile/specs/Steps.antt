@@ -53,12 +53,12 @@ module _ {S E : Type 0} where
   drawn st m n m' = (t : ℕ) × Ticket t n × (m' ≡ (waiting m.0 t, m.1))
 
   -- if the ticket t is served the seat has the state, and otherwise nothing has changed
-  abbrev pub LookedFor : (S → List E) → (E → Option ℕ) → (List E → ℕ) → ℕ → Seated S E → ℕ → Seated S E → Type 0
-  LookedFor list by version t m n m' =
-      (Ticket t n → (x : S) × (m' ≡ (serving m.0 t (list x), (0, Some x) ∷ m.1)) × Found by version m.0 (list x)) × ((Ticket t n → ⊥) → m' ≡ m)
+  abbrev pub LookedFor : (S → List E) → (E → Option ℕ) → (List E → ℕ) → (S → ℕ × ℕ) → ℕ → Seated S E → ℕ → Seated S E → Type 0
+  LookedFor list by version mark t m n m' =
+      (Ticket t n → (x : S) × (m' ≡ (serving m.0 t (list x), (0, Some x) ∷ m.1)) × Found by version m.0 (list x) × (mark x ≡ m.0.mark)) × ((Ticket t n → ⊥) → m' ≡ m)
 
-  abbrev pub looked : (S → List E) → (E → Option ℕ) → (List E → ℕ) → Step (Option S) → Seated S E → ℕ → Seated S E → Type 0
-  looked list by version st m n m' = (t : ℕ) → m.0.stage ≡ Waits t → LookedFor list by version t m n m'
+  abbrev pub looked : (S → List E) → (E → Option ℕ) → (List E → ℕ) → (S → ℕ × ℕ) → Step (Option S) → Seated S E → ℕ → Seated S E → Type 0
+  looked list by version mark st m n m' = (t : ℕ) → m.0.stage ≡ Waits t → LookedFor list by version mark t m n m'
 
   abbrev pub left : (S → List E) → (E → Option ℕ) → (S → ℕ × ℕ × ℕ) → Step (Option S) → Seated S E → ℕ → Seated S E → Type 0
   left list by tally st m n m' = (x : S) → m.1 ≡ in_hand x → (m' ≡ (back by m.0 (list x) (tally x), [])) × Agrees by m.0 (list x)
@@ -83,8 +83,8 @@ module _ {S E : Type 0} where
   IsSameSeat old new = (new.table_id ≡ old.table_id) × (new.id ≡ old.id)
 
   -- the seat has taken the state x out of the slot
-  abbrev pub Taken : (S → List E) → (E → Option ℕ) → (List E → ℕ) → Seated S E → Seated S E → S → Type 0
-  Taken list by version m m' x = (t : ℕ) × (m' ≡ (serving m.0 t (list x), (0, None) ∷ [])) × Found by version m.0 (list x)
+  abbrev pub Taken : (S → List E) → (E → Option ℕ) → (List E → ℕ) → (S → ℕ × ℕ) → Seated S E → Seated S E → S → Type 0
+  Taken list by version mark m m' x = (t : ℕ) × (m' ≡ (serving m.0 t (list x), (0, None) ∷ [])) × Found by version m.0 (list x) × (mark x ≡ m.0.mark)
 
   abbrev pub IsFree : Seated S E → Type 0
   IsFree m = (m.0.stage ≡ Away) × (m.1 ≡ [])

@@ -26,6 +26,7 @@ impl<S: Tale> Turnstile<S> {
         ensures mine { events_by S.by seat.old.number (S.list result.state) ≡ seat.old.mine }
         ensures noted { EachNote (NotedIn S.by (S.list result.state)) seat.old.ended }
         ensures floor { seat.old.floor ≤ S.version (S.list result.state) }
+        ensures mark { S.mark result.state ≡ seat.old.mark }
     {
         let (mut raw, numbers, _left) = seat.lift();
         let state = self.take(rt, &mut raw);
@@ -37,11 +38,13 @@ impl<S: Tale> Turnstile<S> {
     }
 
     /// Ends the turn. The state's list has to be the one that the turn found, and then events that
-    /// tell no number, or that of this seat, which has to be a writer.
+    /// tell no number, or that of this seat, which has to be a writer; and its
+    /// mark the one that it had.
     pub fn leave(&self, turn: Turn<'_, S>)
         requires own { (seat_in turn).turnstile ≡ self.now }
         requires grows { Grows S.by (seat_in turn).number (seat_in turn).writers (seat_in turn).seen
             (S.list turn.state) }
+        requires mark { S.mark turn.state ≡ (seat_in turn).mark }
         ensures seen { turn.exit.0.now.seen ≡ S.list turn.entry.state }
         ensures mine { turn.exit.0.now.mine
             ≡ events_by S.by turn.exit.0.now.number turn.exit.0.now.seen }

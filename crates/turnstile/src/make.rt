@@ -5,14 +5,15 @@ ghost use Rattle.turnstile.specs.Seats.{first_seat, IsAway, EachNote, NotedIn};
 
 use crate::no_memory::NoMemory;
 use crate::seat::{Numbers, Seat};
-use crate::table::{InTurns, RawSeat, Turnstile};
+use crate::table::{About, InTurns, RawSeat, Turnstile};
 use crate::tale::Tale;
 use crate::view::View;
 use atomic_table::{Refused, Table};
 use std::alloc::{AllocFailed, Global};
+use std::snapshot::Snapshot;
 use std::sync::Wait;
 
-type Held<S> = Table<Option<S>, View<<S as Tale>::Event>, u64, InTurns, Global>;
+type Held<S> = Table<Option<S>, View<<S as Tale>::Event>, About<S>, InTurns, Global>;
 
 const FIRST: Numbers = Numbers {
     own: 0,
@@ -40,9 +41,10 @@ impl<S: Tale> Turnstile<S> {
         writers: u64,
     ) -> Result<(Turnstile<S>, Seat<S::Event>), (NoMemory, S)>
         requires { S.list state ≡ [] }
-        ensures made { IfOk result (λ t. t.1 ≡ first_seat t.0 writers) }
+        ensures made { IfOk result (λ t. t.1 ≡ first_seat t.0 writers (S.mark state)) }
         ensures refused { IfErr result (λ e. e.1 ≡ state) }
     {
+        let about = (writers, Snapshot::of(&state));
         let version = state.list_version();
         let mut slots = Vec::new(alloc);
         if let Err(failed) = slots.push(Some(state)) {
@@ -54,7 +56,7 @@ impl<S: Tale> Turnstile<S> {
             alloc,
             &[0, 0, version],
             slots,
-            &writers,
+            &about,
         );
         match made {
             Ok((table, raw)) => Ok((Turnstile { table }, Seat::settle(raw, FIRST, (0, 0, 0)))),
@@ -69,6 +71,7 @@ impl<S: Tale> Turnstile<S> {
         requires away { IsAway seat }
         ensures seen { StartsWith (S.list result) seat.seen }
         ensures below { AllBelow S.by seat.writers (S.list result) }
+        ensures mark { S.mark result ≡ seat.mark }
         ensures mine { events_by S.by seat.number (S.list result) ≡ seat.mine }
         ensures noted { EachNote (NotedIn S.by (S.list result)) seat.ended }
         ensures floor { seat.floor ≤ S.version (S.list result) }

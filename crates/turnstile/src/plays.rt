@@ -16,7 +16,7 @@ pub(crate) struct Look;
 impl<S: Tale> Play<Option<S>, View<S::Event>> for Look {
     ghost use Rattle.turnstile.specs.Steps.{looked};
 
-    ghost then = { looked S.list S.by S.version };
+    ghost then = { looked S.list S.by S.version S.mark };
 }
 
 pub(crate) struct Leave;

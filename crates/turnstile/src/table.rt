@@ -4,23 +4,28 @@ use crate::view::View;
 use atomic_table::{Seat, Table, TableRule};
 use std::alloc::Global;
 use std::marker::Model;
+use std::snapshot::Snapshot;
 
 /// The rule that holds between any two steps: `specs/Rule.antt`.
 pub struct InTurns;
 
-impl<S: Tale> TableRule<Option<S>, View<S::Event>, u64> for InTurns {
+impl<S: Tale> TableRule<Option<S>, View<S::Event>, About<S>> for InTurns {
     ghost use Rattle.turnstile.specs.Rule.{Turns, first_view};
 
-    ghost holds = { λ writers. Turns S.list S.by S.version writers };
+    ghost holds = { λ key. Turns S.list S.by S.version S.mark key.0 (S.mark key.1.value) };
 
-    ghost first = { first_view };
+    ghost first = { λ key. first_view key.0 (S.mark key.1.value) };
 }
+
+// What the table is told once: how many writers there are, and the state that it begins with, as
+// contracts see it.
+pub(crate) type About<S> = (u64, Snapshot<S>);
 
 /// Turns on a state `S`. It may be shared by threads, each with a seat of its own. Contracts see it
 /// as the identity of its table.
 #[derive(Drop)]
 pub struct Turnstile<S: Tale> {
-    pub(crate) table: Table<Option<S>, View<S::Event>, u64, InTurns, Global>,
+    pub(crate) table: Table<Option<S>, View<S::Event>, About<S>, InTurns, Global>,
 }
 
 impl<S: Tale> Model for Turnstile<S> {

@@ -15,6 +15,9 @@ pub trait Tale {
     // The numbers of `tally`.
     ghost counts: { Self → ℕ × ℕ × ℕ };
 
+    // Two numbers of the state that no turn changes.
+    ghost mark: { Self → ℕ × ℕ };
+
     // The version of a list of events.
     ghost version: { List Self.Event → ℕ };
 

@@ -45,7 +45,7 @@ impl<S: Tale> Turnstile<S> {
         requires waits { Waiting ticket seat.old.me.0.stage }
         ensures seat { IsSameSeat seat.old seat.new }
         ensures taken { MatchOption result (seat.new.me ≡ seat.old.me)
-            (Taken S.list S.by S.version seat.old.me seat.new.me) }
+            (Taken S.list S.by S.version S.mark seat.old.me seat.new.me) }
     {
         let served = self.table.shared.load::<Look>(seat, SERVING);
         if served != ticket {
@@ -61,7 +61,7 @@ impl<S: Tale> Turnstile<S> {
         requires empty_handed { seat.old.me.1 ≡ [] }
         requires waits { Waiting ticket seat.old.me.0.stage }
         ensures seat { IsSameSeat seat.old seat.new }
-        ensures taken { Taken S.list S.by S.version seat.old.me seat.new.me result }
+        ensures taken { Taken S.list S.by S.version S.mark seat.old.me seat.new.me result }
     {
         let backoff = Backoff::new();
         let mut looks = 0u32;
@@ -110,7 +110,7 @@ impl<S: Tale> Turnstile<S> {
         requires own { seat.old.table_id ≡ self.now }
         requires free { IsFree seat.old.me }
         ensures seat { IsSameSeat seat.old seat.new }
-        ensures taken { Taken S.list S.by S.version seat.old.me seat.new.me result }
+        ensures taken { Taken S.list S.by S.version S.mark seat.old.me seat.new.me result }
     {
         let ticket = self.draw(seat);
         self.wait_turn(rt, seat, ticket)
@@ -122,6 +122,7 @@ impl<S: Tale> Turnstile<S> {
         requires turn { IsTurn seat.old.me }
         requires grows { Grows S.by seat.old.me.0.number seat.old.me.0.writers seat.old.me.0.seen
             (S.list state) }
+        requires mark { S.mark state ≡ seat.old.me.0.mark }
         ensures seat { IsSameSeat seat.old seat.new }
         ensures left { Left S.by S.version seat.old.me seat.new.me (S.list state) (S.counts state) }
         ensures agrees { Agrees S.by seat.old.me.0 (S.list state) }
@@ -143,6 +144,7 @@ impl<S: Tale> Turnstile<S> {
         requires free { IsFree seat.old.me }
         ensures seat { IsSameSeat seat.old seat.new }
         ensures found { Found S.by S.version seat.old.me.0 (S.list result) }
+        ensures mark { S.mark result ≡ seat.old.me.0.mark }
         ensures empty { (t : ℕ) × (seat.new.me.0.stage ≡ Empties t) }
     {
         let state = self.take(rt, seat);

@@ -28,7 +28,7 @@ pub struct Note<E> {
     pub theirs: LinkedList<E>,
 }
 
-/// All that a seat knows: `writers` is the turnstile's, and the spare numbers go from `spare_start`
+/// All that a seat knows: `writers` and `mark` are the turnstile's, and the spare numbers go from `spare_start`
 /// up to `spare_end`, which is not one of them.
 pub struct View<E> {
     pub stage: Stage,
@@ -42,4 +42,5 @@ pub struct View<E> {
     pub left: (u64, u64, u64),
     pub turns: u64,
     pub writers: u64,
+    pub mark: (u64, u64),
 }

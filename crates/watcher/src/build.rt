@@ -1,5 +1,5 @@
 //! The builder: versions one after another, and the sum at each.
-ghost use Rattle.turnstile.specs.Seats.{IsSeatOf, IsWriter};
+ghost use Rattle.dice_engine.specs.Seats.{IsSeatOf, IsWriter};
 
 use dice_engine::{Engine, Open, Seat, Updater};
 use dice_key::NoMemory;

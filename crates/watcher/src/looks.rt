@@ -1,6 +1,6 @@
 //! The benchmark: readers that look all the time, beside one builder.
 ghost use Rattle.std.specs.Prelude.{◌≤◌, ◌<◌};
-ghost use Rattle.turnstile.specs.Seats.{IsSeatOf, IsWriter};
+ghost use Rattle.dice_engine.specs.Seats.{IsSeatOf, IsWriter};
 
 use crate::beside::beside;
 use crate::build::{SUM, build};

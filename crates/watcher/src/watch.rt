@@ -1,7 +1,7 @@
 //! The reader that watches the builder.
 ghost use Rattle.std.specs.Prelude.{◌≡◌, Some, IfSome};
 ghost use Rattle.std.specs.Arc.{arc_value};
-ghost use Rattle.turnstile.specs.Seats.{IsSeatOf, IsWriter};
+ghost use Rattle.dice_engine.specs.Seats.{IsSeatOf, IsWriter};
 ghost use Rattle.shelf.specs.Ops.{IsSound, row_at};
 
 use crate::beside::beside;

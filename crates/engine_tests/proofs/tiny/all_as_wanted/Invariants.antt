@@ -1,4 +1,4 @@
-use Rattle.turnstile.specs.Seats.{IsSeatOf, IsWriter}
+use Rattle.dice_engine.specs.Seats.{IsSeatOf, IsWriter}
 use Rattle.engine_tests.proofs.tiny.all_as_wanted.Given as goal
 
 abbrev pub invariant-loop-changes : goal.invariant-loop-changes

@@ -1,4 +1,4 @@
-use Rattle.turnstile.specs.Seats.{IsSeatOf, IsWriter}
+use Rattle.dice_engine.specs.Seats.{IsSeatOf, IsWriter}
 use Rattle.watcher.proofs.build.build.Given as goal
 
 abbrev pub invariant-loop-number : goal.invariant-loop-number

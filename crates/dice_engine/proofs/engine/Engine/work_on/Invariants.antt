@@ -1,4 +1,4 @@
-use Rattle.turnstile.specs.Seats.{IsSeatOf}
+use Rattle.dice_engine.specs.Seats.{IsSeatOf}
 use Rattle.dice_engine.proofs.engine.Engine.work_on.Given as goal
 
 abbrev pub invariant-loop : goal.invariant-loop

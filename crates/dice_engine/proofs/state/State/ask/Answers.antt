@@ -13,13 +13,14 @@ use Rattle.std.proofs.Common.{refl}
 use Rattle.dice_engine.specs.Rows.{Keeps}
 use Rattle.dice_engine.proofs.Adding.{on_either, are_made}
 use Rattle.dice_engine.proofs.Shelved.{follows, grew_one, grew_nothing}
+use Rattle.dice_engine.proofs.Lining.{core_same, grown_later}
 use Rattle.dice_engine.proofs.state.State.ask.Goals as goal
 
 pub returns-in_err-ask-clause-err : goal.returns-in_err-ask-clause-err
 returns-in_err-ask-clause-err g c =
     let eq = g.U.Key.PartialEq.eq in
     let m = g.U.Universe.meaning in
-    subst (λ (s : CoreSeen g.row.U-Key.Denot g.row.U-Value.Denot). OnErr c.from_residual.result (Adds eq m c.args.by (events_of s) (events_of c.ask_again-ask.new.core) AddsNothing)) c.deref_mut-core.ensures.value
+    subst (λ (s : CoreSeen g.row.U-Key.Denot g.row.U-Value.Denot). OnErr c.from_residual.result (Adds eq m c.args.by (events_of s) (events_of c.ask_again-ask.new.core) AddsNothing)) (core_same (c.bench.view_is ∙ c.deref_mut-bench.ensures.value))
     (always_err c.from_residual.result _ (nothing eq m _ _ c.settled-newest.ensures.lawful c.args.by c.in_err-ask.ensures.err))
 
 pub returns-clause-ok : goal.returns-clause-ok
@@ -29,7 +30,7 @@ returns-clause-ok g c =
     let t = c.args.transaction.now in
     subst
     (λ (s : CoreSeen g.row.U-Key.Denot g.row.U-Value.Denot). (IsLawfulJournal eq m (events_of s) → (o : Opened) × (open_at (reverse (events_of s)) t.opened ≡ Some o) × (o.version ≡ t.version)) → Adds eq m c.args.by (events_of s) (events_of c.ask_again-ask.new.core) (Asks c.args.by t.opened t.version (arc_value c.args.key)))
-    c.deref_mut-core.ensures.value
+    (core_same (c.bench.view_is ∙ c.deref_mut-bench.ensures.value))
     (λ given.
     let l = c.in_ok-ask.ensures.ok in
     let r = given c.in_order.ensures.lawful in
@@ -41,6 +42,14 @@ returns-clause-ok g c =
 
 pub settled-newest-requires-after_bounds : goal.settled-newest-requires-after_bounds
 settled-newest-requires-after_bounds g c κs within = λ b e.
-    let J = events_of c.deref_mut-core.result.now in
-    follows J _ _ b.value (subst (λ (s : CoreSeen g.row.U-Key.Denot g.row.U-Value.Denot). Keeps (events_of s) c.args.self.now.left.2 b.value) (sym c.deref_mut-core.ensures.value) (c.args.self.now.shelved b e))
+    let J = events_of c.bench.inside.core in
+    follows J _ _ b.value (subst (λ (s : CoreSeen g.row.U-Key.Denot g.row.U-Value.Denot). Keeps (events_of s) c.args.self.now.left.2 b.value) (sym (core_same (c.bench.view_is ∙ c.deref_mut-bench.ensures.value))) (c.args.self.now.shelved b e))
     (on_either c.ask_again-ask.result _ _ _ c.ask_again-ask.ensures.ok c.ask_again-ask.ensures.err (λ l. grew_one J _ c.args.by l.0.version _ _ refl (are_made l.0.version (arc_value c.args.key) l.1 l.3) l.4) (λ h. grew_nothing J _ h))
+
+pub invariant_of-bench : goal.invariant_of-bench
+invariant_of-bench g c =
+    let J = events_of c.bench.inside.core in (
+      c.bench.invariant.0,
+      grown_later g.U.Key.PartialEq.eq g.U.Universe.meaning c.true_jobs_are_one.ensures.longer J _ _
+          (on_either c.ask_again-ask.result _ _ _ c.ask_again-ask.ensures.ok c.ask_again-ask.ensures.err (λ l. grew_one J _ c.args.by l.0.version _ _ refl (are_made l.0.version (arc_value c.args.key) l.1 l.3) l.4) (λ h. grew_nothing J _ h)) c.bench.invariant.1,
+    )

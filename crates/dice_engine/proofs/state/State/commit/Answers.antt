@@ -10,6 +10,7 @@ use Rattle.dice_engine.proofs.Adding.{nothing, commits, map_ok, map_err}
 use Rattle.dice_engine.specs.Rows.{Keeps}
 use Rattle.dice_engine.proofs.Adding.{on_either}
 use Rattle.dice_engine.proofs.Shelved.{follows, grew_commit, grew_nothing}
+use Rattle.dice_engine.proofs.Lining.{core_same, grown_later}
 use Rattle.dice_engine.proofs.state.State.commit.Goals as goal
 
 pub returns-clause-first : goal.returns-clause-first
@@ -20,10 +21,10 @@ returns-clause-ok g c =
     let eq = g.U.Key.PartialEq.eq in
     let veq = g.U.Value.PartialEq.eq in
     let m = g.U.Universe.meaning in
-    let core = c.deref_mut-core.result.now in
+    let core = c.bench.inside.core in
     subst
     (λ (s : CoreSeen g.row.U-Key.Denot g.row.U-Value.Denot). OnOk c.commit-result.result (Adds eq m c.args.by (events_of s) (events_of c.commit-result.new.self) (Commits eq veq m c.args.by (log_of (events_of s)) c.args.updater.now)))
-    c.deref_mut-core.ensures.value
+    (core_same (c.bench.view_is ∙ c.deref_mut-bench.ensures.value))
     (map_ok c.commit-result.result _ _ c.commit-result.ensures.events
     (λ e. commits eq m (events_of core) (events_of c.commit-result.new.self) c.settled-newest.ensures.lawful veq c.args.by core.cells c.args.updater.now
     (c.cells_are_the_inputs.ensures.newest (commits_of (past_of core)) core.cells c.in_order.ensures.cells.are)
@@ -35,11 +36,19 @@ returns-clause-err g c =
     let m = g.U.Universe.meaning in
     subst
     (λ (s : CoreSeen g.row.U-Key.Denot g.row.U-Value.Denot). OnErr c.commit-result.result (Adds eq m c.args.by (events_of s) (events_of c.commit-result.new.self) AddsNothing))
-    c.deref_mut-core.ensures.value
+    (core_same (c.bench.view_is ∙ c.deref_mut-bench.ensures.value))
     (map_err c.commit-result.result _ _ c.commit-result.ensures.err (λ b. nothing eq m _ _ c.settled-newest.ensures.lawful c.args.by b.hands.events))
 
 pub settled-newest-requires-after_bounds : goal.settled-newest-requires-after_bounds
 settled-newest-requires-after_bounds g c κs within = λ b e.
-    let J = events_of c.deref_mut-core.result.now in
-    follows J _ _ b.value (subst (λ (s : CoreSeen g.row.U-Key.Denot g.row.U-Value.Denot). Keeps (events_of s) c.args.self.now.left.2 b.value) (sym c.deref_mut-core.ensures.value) (c.args.self.now.shelved b e))
+    let J = events_of c.bench.inside.core in
+    follows J _ _ b.value (subst (λ (s : CoreSeen g.row.U-Key.Denot g.row.U-Value.Denot). Keeps (events_of s) c.args.self.now.left.2 b.value) (sym (core_same (c.bench.view_is ∙ c.deref_mut-bench.ensures.value))) (c.args.self.now.shelved b e))
     (on_either c.commit-result.result _ _ _ c.commit-result.ensures.events c.commit-result.ensures.err (λ e. grew_commit J _ c.args.by _ e) (λ h. grew_nothing J _ h.hands.events))
+
+pub invariant_of-bench : goal.invariant_of-bench
+invariant_of-bench g c =
+    let J = events_of c.bench.inside.core in (
+      c.bench.invariant.0,
+      grown_later g.U.Key.PartialEq.eq g.U.Universe.meaning c.true_jobs_are_one.ensures.longer J _ _
+          (on_either c.commit-result.result _ _ _ c.commit-result.ensures.events c.commit-result.ensures.err (λ e. grew_commit J _ c.args.by _ e) (λ h. grew_nothing J _ h.hands.events)) c.bench.invariant.1,
+    )

@@ -7,15 +7,16 @@ use Rattle.dice_engine.proofs.Adding.{nothing}
 use Rattle.dice_engine.proofs.Jobs.{goes_out}
 use Rattle.dice_engine.specs.Rows.{Keeps}
 use Rattle.dice_engine.proofs.Shelved.{mark_is, marked_so}
+use Rattle.dice_engine.proofs.Lining.{core_same}
 use Rattle.dice_engine.proofs.state.State.take_job.Goals as goal
 
 pub returns-clause-adds : goal.returns-clause-adds
-returns-clause-adds g c = subst (λ (s : CoreSeen g.row.U-Key.Denot g.row.U-Value.Denot). Adds g.U.Key.PartialEq.eq g.U.Universe.meaning 0 (events_of s) (events_of c.take_job-job.new.self) AddsNothing) c.deref_mut-core.ensures.value
+returns-clause-adds g c = subst (λ (s : CoreSeen g.row.U-Key.Denot g.row.U-Value.Denot). Adds g.U.Key.PartialEq.eq g.U.Universe.meaning 0 (events_of s) (events_of c.take_job-job.new.self) AddsNothing) (core_same (c.bench.view_is ∙ c.deref_mut-bench.ensures.value))
     (nothing g.U.Key.PartialEq.eq g.U.Universe.meaning _ _ c.standing-newest.ensures.lawful 0 c.take_job-job.ensures.events)
 
 pub returns-clause-goes : goal.returns-clause-goes
-returns-clause-goes g c = subst (λ (s : CoreSeen g.row.U-Key.Denot g.row.U-Value.Denot). GoesOut g.U.Key.PartialEq.eq c.take_job-job.result s c.take_job-job.new.self) c.deref_mut-core.ensures.value
-    (goes_out g.U.Key.PartialEq.eq c.take_job-job.result c.deref_mut-core.result.now c.take_job-job.new.self c.take_job-job.ensures.some c.take_job-job.ensures.none)
+returns-clause-goes g c = subst (λ (s : CoreSeen g.row.U-Key.Denot g.row.U-Value.Denot). GoesOut g.U.Key.PartialEq.eq c.take_job-job.result s c.take_job-job.new.self) (core_same (c.bench.view_is ∙ c.deref_mut-bench.ensures.value))
+    (goes_out g.U.Key.PartialEq.eq c.take_job-job.result c.bench.inside.core c.take_job-job.new.self c.take_job-job.ensures.some c.take_job-job.ensures.none)
 
 pub invariant_of-self : goal.invariant_of-self
 invariant_of-self g c =
@@ -25,6 +26,6 @@ invariant_of-self g c =
       counted = marked_so left c.args.self.now.left.2 c.take_job-job.new.self c.standing-newest.ensures.left;
       numbered = c.standing-newest.ensures.newest;
       shelved = λ x e. subst (λ n. Keeps (events_of c.take_job-job.new.self) n x.value) (sym mark)
-          (subst (λ J. Keeps J c.args.self.now.left.2 x.value) (sym (c.take_job-job.ensures.events ∙ ap events_of c.deref_mut-core.ensures.value)) (c.args.self.now.shelved x e));
+          (subst (λ J. Keeps J c.args.self.now.left.2 x.value) (sym (c.take_job-job.ensures.events ∙ ap events_of (core_same (c.bench.view_is ∙ c.deref_mut-bench.ensures.value)))) (c.args.self.now.shelved x e));
       bare = λ e. mark ∙ c.args.self.now.bare e;
     }

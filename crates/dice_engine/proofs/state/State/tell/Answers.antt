@@ -7,7 +7,7 @@ use Rattle.dice_engine.proofs.state.State.tell.Goals as goal
 
 pub invariant_of-self-2 : goal.invariant_of-self-2
 invariant_of-self-2 g c =
-    let J = events_of c.args.self.now.core.value in
+    let J = events_of c.args.self.now.bench.value.core in
     record {
       counted = c.args.self.now.counted;
       numbered = c.args.self.now.numbered;
@@ -18,7 +18,7 @@ invariant_of-self-2 g c =
 
 pub returns-clause-told : goal.returns-clause-told
 returns-clause-told g c =
-    let J = events_of c.args.self.now.core.value in
+    let J = events_of c.args.self.now.bench.value.core in
     let kept = c.args.self.now.shelved c.in-Some.shelf c.in-Some.is in
     map_some c.told.result _ _ c.told.ensures.told
     (λ xs e z. subst (ShelfHas J) (sym (e ∙ (ap (λ (b : LedgeView g.row.U-Key.Denot g.row.U-Value.Denot). b.published) c.deref_mut.ensures.value ∙ (kept.1 z).1))) (kept.1 z).0)

@@ -17,12 +17,12 @@ pub commit-requires-clause-sources : goal.commit-requires-clause-sources
 commit-requires-clause-sources g c = distinct_sources c.args.self.now.gathered c.requires.plan.gathered c.requires.stands.gathered c.requires.stands.distinct
 
 pub ask-requires-clause-open : goal.ask-requires-clause-open
-ask-requires-clause-open g c =
+ask-requires-clause-open g c κs within =
     let f = subst (Fits c.requires.past) c.in-Ask.is c.requires.fits in
     has_transaction c.args.engine.now c.args.self.now c.requires.plan c.requires.past c.requires.stands c.in-Ask.request.transaction f.opened
 
 pub ask-requires-in-Action-clause-open : goal.ask-requires-in-Action-clause-open
-ask-requires-in-Action-clause-open g c =
+ask-requires-in-Action-clause-open g c κs within =
     let f = subst (Fits c.requires.past) c.in-Action.is c.requires.fits in
     has_transaction c.args.engine.now c.args.self.now c.requires.plan c.requires.past c.requires.stands c.in-Action.request.transaction f.opened
 

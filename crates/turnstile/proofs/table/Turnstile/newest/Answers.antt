@@ -4,4 +4,4 @@ use Rattle.turnstile.proofs.table.Turnstile.newest.Goals as goal
 
 pub load-version-requires : goal.load-version-requires
 load-version-requires g c =
-    (search rules, search rules, checks g.S.Tale.list g.S.Tale.by g.S.Tale.version _ _ _ _ c.lift-raw.ensures.free.0)
+    (search rules, search rules, checks g.S.Tale.list g.S.Tale.by g.S.Tale.version g.S.Tale.mark _ _ _ _ _ c.lift-raw.ensures.free.0)
