@@ -17,8 +17,6 @@ use Rattle.job_line.specs.Ends.{PassView}
 use Rattle.dice_engine.specs.Seats.{SeatView, seated, found_empty}
 use Rattle.dice_engine.specs.Turns.{left_of, Adds, Turn, Later, Works, rests, works}
 use Rattle.dice_engine.specs.Jobs.{LinesUp, GivesUpJob, gives_up, not_out, TakesUpStep, taken, stale, lost, GoesOut, ComesHome, CameOf}
-use Rattle.dice_engine.specs.declared.promise.Promise.{Promise}
-use Rattle.dice_engine.specs.Replies.{Reply}
 use Rattle.dice_engine.specs.Doings.{RestsByJournal, TurnOver, GetsJob, from_line, from_core, FindsNothing}
 use Rattle.dice_engine.proofs.Turned.{Entered, Ended, turned_any, any_found, turn_of_pass, work_later}
 

@@ -5,11 +5,11 @@ use Rattle.std.specs.Cmp.{first_so, second_so}
 use Rattle.dice_key.specs.Meaning.{Meaning}
 use Rattle.dice_key.specs.Lawful.{IsEquality}
 use Rattle.dice_jobs.specs.Jobs.{Assigned}
-use Rattle.core_laws.specs.Tasks.{IsReady, IsOut}
-use Rattle.dice_tasks.specs.Helds.{Held, held_of}
+use Rattle.core_laws.specs.Tasks.{IsOut}
+use Rattle.dice_tasks.specs.Helds.{held_of}
 use Rattle.version_epoch.specs.Standings.{open_count_of}
 use Rattle.injected.specs.Seen.{cell_at}
-use Rattle.dice_core.specs.Cores.{CoreSeen, Came, IsAsBefore, IsJobOut, events_of, held_in, held_to, injected_to, poll_of, TakesOut}
+use Rattle.dice_core.specs.Cores.{CoreSeen, IsAsBefore, IsJobOut, events_of, held_in, held_to, injected_to, poll_of, TakesOut}
 use Rattle.std.specs.List.{AllByRecursion}
 use Rattle.dice_jobs.specs.Alike.{IsAnsweredIn}
 use Rattle.job_line.specs.Ends.{PutterView, with_job}

@@ -1,5 +1,5 @@
 -- What a journal has for a shelf, and what may be put up next.
-use Rattle.std.proofs.Common.{◌≡◌, ◌≢◌, ◌≤◌, ◌<◌, ◌+◌, ℕ, zero, suc, Bool, true, cond, eqb, ◌&&◌, List, [], ◌∷◌, ◌++◌, length, map, take, drop, Option, Some, None, refl, sym, ap, ◌∙◌, subst, arith, append_assoc, append-nil, length-append}
+use Rattle.std.proofs.Common.{◌≡◌, ◌≢◌, ◌≤◌, ◌+◌, ℕ, zero, suc, Bool, true, cond, ◌&&◌, List, [], ◌∷◌, ◌++◌, length, map, take, drop, Option, Some, None, refl, sym, ap, ◌∙◌, subst, arith, append_assoc, append-nil, length-append}
 use Rattle.std.specs.Prelude.{false, reverse, slice_get, IfSome, IsSome, MatchOption}
 use Rattle.std.specs.List.{AllByRecursion}
 use Rattle.std.proofs.lemmas.List.{reverse-append, take-append-drop, length-map}
@@ -324,9 +324,6 @@ module _ {K V : Type 0} (eq : K → K → Bool) (equality : IsEquality eq) (m : 
 module _ {K V : Type 0} where
   pub mark_is : (left : ℕ × ℕ × ℕ) (mark : ℕ) (c : CoreSeen K V) → left ≡ left_of mark c → left.2 ≡ mark
   mark_is left mark c e = ap (λ (l : ℕ × ℕ × ℕ). l.2) e
-
-  pub marked_so : (left : ℕ × ℕ × ℕ) (mark : ℕ) (c : CoreSeen K V) → left ≡ left_of mark c → left ≡ left_of left.2 c
-  marked_so left mark c e = e ∙ ap (λ n. left_of n c) (sym (mark_is left mark c e))
 
 pub map_some : {X : Type 0} (o : Option X) (P Q : X → Type 0) → IfSome o P → ((x : X) → P x → Q x) → IfSome o Q
 map_some (Some x) P Q p f = f x p

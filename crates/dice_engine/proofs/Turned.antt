@@ -10,7 +10,7 @@ use Rattle.dice_core.specs.Cores.{IsWorkAt}
 use Rattle.turnstile.specs.Events.{StartsWith, has_number, events_by, AllBelow, IsOwn, AllOwn, Grows}
 use Rattle.turnstile.specs.Seats.{SeatView as Place, in_turn, IsAfterTurn as IsPlaceAfter, EachNote, NotedIn}
 use Rattle.job_line.specs.Ends.{PassView}
-use Rattle.dice_engine.specs.Seats.{SeatView, seated, IsAfterTurn}
+use Rattle.dice_engine.specs.Seats.{SeatView, seated}
 use Rattle.turnstile.proofs.Events.{events_by-append}
 use Rattle.dice_engine.specs.Turns.{newest_in, AreBy, AreOfTasks, Adds, Later, Turn, Works, rests, works}
 

@@ -41,24 +41,26 @@ use std::sync::{Arc, Wait};
 use turnstile::Tale;
 
 /// The state that the seats of an engine have in turns: its core with its line of jobs, its shelf,
-/// if it has readers, and what it tells of itself between two turns. The last number that it tells
-/// is 0 exactly if all its rows are on a shelf, and readers can see them.
+/// if it has readers, and what it tells of itself between two turns: how many tasks are ready and
+/// how many jobs are out, as `line_up` found them last, and the mark, which is 0 exactly if all its
+/// rows are on a shelf, and readers can see them.
 #[derive(Drop)]
 pub struct State<U: Universe> {
     bench: Box<Bench<U>>,
     shelf: Option<Box<Ledge<U>>>,
-    left: (u64, u64, u64),
+    ready: u64,
+    out: u64,
+    mark: u64,
     newest: u64,
-    ghost counted: { left ≡ left_of left.2 bench.value.core },
     ghost numbered: { newest ≡ newest_in (events_of bench.value.core) },
-    ghost shelved: { ForSome shelf (λ b. Keeps (events_of bench.value.core) left.2 b.value) },
-    ghost bare: { ForNone shelf (left.2 ≡ 1) },
+    ghost shelved: { ForSome shelf (λ b. Keeps (events_of bench.value.core) mark b.value) },
+    ghost bare: { ForNone shelf (mark ≡ 1) },
 }
 
 impl<U: Universe> Tale for State<U> {
     ghost use Rattle.journal.specs.Tell.{event_by};
     ghost use Rattle.dice_core.specs.Cores.{events_of};
-    ghost use Rattle.dice_engine.specs.Turns.{newest_in, left_of};
+    ghost use Rattle.dice_engine.specs.Turns.{newest_in};
     ghost use Rattle.dice_engine.specs.Rises.{newest_rises};
 
     type Event = Told<U::Key, U::Value>;
@@ -67,14 +69,14 @@ impl<U: Universe> Tale for State<U> {
 
     ghost by = { event_by };
 
-    ghost counts = { λ s. left_of s.left.2 s.bench.value.core };
+    ghost counts = { λ s. (s.ready, s.out, s.mark) };
 
     ghost mark = { λ s. s.bench.value.line.web };
 
     ghost version = { newest_in };
 
     fn tally(&self) -> (u64, u64, u64) {
-        self.left
+        (self.ready, self.out, self.mark)
     }
 
     fn list_version(&self) -> u64 {
@@ -84,36 +86,24 @@ impl<U: Universe> Tale for State<U> {
     ghost rises = { newest_rises };
 }
 
-/// What a core tells of itself, with such a mark: how many tasks are ready and how many jobs are
-/// out, and the newest version.
-fn standing<U: Universe>(core: &Core<U>, mark: u64) -> ((u64, u64, u64), u64)
-    ensures left { result.0 ≡ left_of mark core.now }
-    ensures newest { result.1 ≡ newest_in (events_of core.now) }
-    ensures lawful { IsLawfulJournal U.Key.eq U.meaning (events_of core.now) }
-    ensures rests { RestsByJournal U.Key.eq U.meaning core.now }
-{
-    core.in_order();
-    ((core.ready(), core.out(), mark), core.newest())
-}
-
-/// The shelf takes up what the core's journal has gained, and the core tells of itself.
+/// The shelf takes up what the core's journal has gained. The answer is the mark from now on, and
+/// the newest version.
 #[inline]
 fn settled<U: Universe, R: Wait>(
     rt: &R,
     shelf: &mut Option<Box<Ledge<U>>>,
     mark: u64,
     core: &Core<U>,
-) -> ((u64, u64, u64), u64)
+) -> (u64, u64)
     requires { ForSome shelf.old (λ b. Follows (events_of core.now) mark b.value) }
-    ensures left { result.0 ≡ left_of result.0.2 core.now }
     ensures newest { result.1 ≡ newest_in (events_of core.now) }
     ensures lawful { IsLawfulJournal U.Key.eq U.meaning (events_of core.now) }
     ensures rests { RestsByJournal U.Key.eq U.meaning core.now }
-    ensures shelved { ForSome shelf.new (λ b. Keeps (events_of core.now) result.0.2 b.value) }
-    ensures bare { ForNone shelf.old (result.0.2 ≡ mark) × (is_some shelf.new ≡ is_some shelf.old) }
+    ensures shelved { ForSome shelf.new (λ b. Keeps (events_of core.now) result.0 b.value) }
+    ensures bare { ForNone shelf.old (result.0 ≡ mark) × (is_some shelf.new ≡ is_some shelf.old) }
 {
-    let mark = shelve(rt, shelf, mark, core);
-    standing(core, mark)
+    core.in_order();
+    (shelve(rt, shelf, mark, core), core.newest())
 }
 
 impl<U: Universe> State<U> {
@@ -127,12 +117,14 @@ impl<U: Universe> State<U> {
         ensures line { IfOk result (λ t. t.0.bench.value.line ≡ arc_value t.1) }
         ensures pass { IfOk result (λ t. t.2 ≡ first_pass (arc_value t.1)) }
     {
-        let (left, newest) = standing(&core, 1);
+        let (ready, out, newest) = (core.ready(), core.out(), core.newest());
         let (bench, line, pass) = Bench::new(alloc, core)?;
         let state = State {
             bench: Box::new(alloc, bench)?,
             shelf: None,
-            left,
+            ready,
+            out,
+            mark: 1,
             newest,
         };
         Ok((state, line, pass))
@@ -148,13 +140,17 @@ impl<U: Universe> State<U> {
         let State {
             bench,
             shelf: _none,
-            left: (ready, out, _),
+            ready,
+            out,
+            mark: _,
             newest,
         } = self;
         State {
             bench,
             shelf: Some(shelf),
-            left: (ready, out, 0),
+            ready,
+            out,
+            mark: 0,
             newest,
         }
     }
@@ -165,7 +161,9 @@ impl<U: Universe> State<U> {
         let State {
             bench,
             shelf,
-            left: _,
+            ready: _,
+            out: _,
+            mark: _,
             newest: _,
         } = self;
         let Some(shelf) = shelf else {
@@ -178,8 +176,8 @@ impl<U: Universe> State<U> {
     pub(crate) fn tell(&mut self) -> Option<News<U>>
         ensures core { self.new.bench.value.core ≡ self.old.bench.value.core }
         ensures told { IfSome result (λ t. IfSome t (λ xs.
-            (self.new.left.2 ≡ 0 → ShelfHas (events_of self.new.bench.value.core) xs))) }
-        ensures some { self.new.left.2 ≡ 0 → IsSome result }
+            (self.new.mark ≡ 0 → ShelfHas (events_of self.new.bench.value.core) xs))) }
+        ensures some { self.new.mark ≡ 0 → IsSome result }
         ensures lawful { IsLawfulJournal U.Key.eq U.meaning (events_of self.new.bench.value.core) }
         ensures line { self.new.bench.value.line ≡ self.old.bench.value.line }
     {
@@ -217,8 +215,8 @@ impl<U: Universe> State<U> {
         let core = &mut bench.core;
         core.in_order();
         let result = core.commit(by, updater.pairs());
-        let (left, newest) = settled(rt, &mut self.shelf, self.left.2, core);
-        self.left = left;
+        let (mark, newest) = settled(rt, &mut self.shelf, self.mark, core);
+        self.mark = mark;
         self.newest = newest;
         result
     }
@@ -240,8 +238,8 @@ impl<U: Universe> State<U> {
         let bench = &mut *self.bench;
         let core = &mut bench.core;
         let opened = core.open(by);
-        let (left, newest) = settled(rt, &mut self.shelf, self.left.2, core);
-        self.left = left;
+        let (mark, newest) = settled(rt, &mut self.shelf, self.mark, core);
+        self.mark = mark;
         self.newest = newest;
         Ok(Transaction {
             version,
@@ -267,8 +265,8 @@ impl<U: Universe> State<U> {
         let core = &mut bench.core;
         core.in_order();
         core.close(transaction.opened);
-        let (left, newest) = settled(rt, &mut self.shelf, self.left.2, core);
-        self.left = left;
+        let (mark, newest) = settled(rt, &mut self.shelf, self.mark, core);
+        self.mark = mark;
         self.newest = newest;
     }
 
@@ -301,8 +299,8 @@ impl<U: Universe> State<U> {
         let core = &mut bench.core;
         core.in_order();
         let ask = ask_again(core, by, transaction.opened, &key);
-        let (left, newest) = settled(rt, &mut self.shelf, self.left.2, core);
-        self.left = left;
+        let (mark, newest) = settled(rt, &mut self.shelf, self.mark, core);
+        self.mark = mark;
         self.newest = newest;
         Ok(Promise {
             version: transaction.version,
@@ -344,8 +342,8 @@ impl<U: Universe> State<U> {
         if core.stands(promise.ask) {
             core.leave(promise.ask);
         }
-        let (left, newest) = settled(rt, &mut self.shelf, self.left.2, core);
-        self.left = left;
+        let (mark, newest) = settled(rt, &mut self.shelf, self.mark, core);
+        self.mark = mark;
         self.newest = newest;
     }
 
@@ -355,7 +353,7 @@ impl<U: Universe> State<U> {
             → IsAskOf promise.now (events_of self.now.bench.value.core) }
         ensures reply { IsReply U.Key.eq U.meaning (events_of self.now.bench.value.core)
             promise.now.version (arc_value promise.now.key) promise.now.ask
-            (left_of self.now.left.2 self.now.bench.value.core) (reply_of result) }
+            (left_of self.now.mark self.now.bench.value.core) (reply_of result) }
 
         // If the ask is live, what is answered is what the core has come to.
         ensures exact { IsLiveIn (events_of self.now.bench.value.core) promise.now.ask
@@ -427,9 +425,7 @@ impl<U: Universe> State<U> {
         let bench = &mut *self.bench;
         let core = &mut bench.core;
         let job = core.take_job();
-        let (left, newest) = standing(core, self.left.2);
-        self.left = left;
-        self.newest = newest;
+        core.in_order();
         job
     }
 
@@ -443,14 +439,16 @@ impl<U: Universe> State<U> {
             → self.new.bench.value.core ≡ self.old.bench.value.core }
         ensures events { events_of self.new.bench.value.core ≡ events_of self.old.bench.value.core }
         ensures rests { RestsByJournal U.Key.eq U.meaning self.new.bench.value.core }
-        ensures mark { self.new.left.2 ≡ self.old.left.2 }
+        ensures mark { self.new.mark ≡ self.old.mark }
+        ensures counts { (self.new.ready, self.new.out, self.new.mark)
+            ≡ left_of self.new.mark self.new.bench.value.core }
         ensures line { self.new.bench.value.line ≡ self.old.bench.value.line }
     {
         let bench = &mut *self.bench;
         bench.line_up(rt);
-        let (left, newest) = standing(&bench.core, self.left.2);
-        self.left = left;
-        self.newest = newest;
+        bench.core.in_order();
+        self.ready = bench.core.ready();
+        self.out = bench.core.out();
     }
 
     /// A pass to the line, for a place that has none. Nothing changes.
@@ -489,8 +487,8 @@ impl<U: Universe> State<U> {
         bench.line.meet(rt, &mut bench.putter, pass);
         let core = &mut bench.core;
         take_in(core, came);
-        let (left, newest) = settled(rt, &mut self.shelf, self.left.2, core);
-        self.left = left;
+        let (mark, newest) = settled(rt, &mut self.shelf, self.mark, core);
+        self.mark = mark;
         self.newest = newest;
     }
 }

@@ -1,5 +1,5 @@
 -- The end of a script: the requests that were neither waited for nor cancelled are waited for, and the transactions closed.
-use Rattle.std.proofs.Common.{◌≡◌, ◌≢◌, ◌≤◌, ◌<◌, ◌+◌, ◌⊎◌, inl, inr, zero, suc, drop, get_or, drop-cons, add-one, length, ℕ, Bool, true, false, cond, List, [], ◌∷◌, ◌++◌, Option, Some, None, refl, sym, ap, ◌∙◌, subst, arith, append-nil, append_assoc}
+use Rattle.std.proofs.Common.{◌≡◌, ◌≢◌, ◌≤◌, ◌+◌, ◌⊎◌, inl, inr, zero, suc, drop, length, ℕ, Bool, true, false, cond, List, [], ◌∷◌, ◌++◌, Option, Some, None, refl, sym, ap, ◌∙◌, subst, arith, append-nil, append_assoc}
 use Rattle.std.specs.Option.{option_map}
 use Rattle.std.specs.Str.{bytes_eq}
 use Rattle.std.proofs.lemmas.Slice.Eq.{bytes_eq-Decides}
@@ -26,8 +26,7 @@ use Rattle.dice_run.specs.declared.driver.Driver.{Driver}
 use Rattle.dice_run.proofs.Viewing.{looks_none}
 use Rattle.dice_run.proofs.Recorded.{records_first, records_confirmed}
 use Rattle.dice_run.proofs.Steps.{confirm_stands}
-use Rattle.lists.proofs.Members.{has_end, has_last, has_more}
-use Rattle.lists.proofs.Places.{drop_item}
+use Rattle.lists.proofs.Members.{has_last, has_more}
 use Rattle.lists.specs.Lists.{Has}
 use Rattle.lists.proofs.Options.{none_some, some_same}
 

@@ -1,5 +1,5 @@
 -- One line of a script more that is printed.
-use Rattle.std.proofs.Common.{◌≡◌, ◌+◌, zero, suc, inl, inr, ℕ, Bool, true, false, cond, nat_eq, decimal, codes, List, [], ◌∷◌, ◌++◌, drop, length, Some, None, refl, sym, ap, ◌∙◌, subst, arith, append-nil, append_assoc}
+use Rattle.std.proofs.Common.{◌≡◌, ◌+◌, zero, suc, ℕ, Bool, true, false, cond, nat_eq, decimal, codes, List, [], ◌∷◌, ◌++◌, drop, length, Some, None, refl, sym, ap, ◌∙◌, subst, arith, append-nil, append_assoc}
 use Rattle.std.specs.Option.{unwrap_or}
 use Rattle.std.specs.Map.{lookup}
 use Rattle.std.specs.Str.{bytes_eq}

@@ -1,5 +1,5 @@
 -- What the lines of a script add to the seat's own events.
-use Rattle.std.proofs.Common.{◌≡◌, ◌≢◌, ◌<◌, zero, suc, ◌⊎◌, inl, inr, ℕ, Bool, true, false, cond, nat_eq, List, [], ◌∷◌, ◌++◌, length, take, filter, Option, Some, None, refl, sym, ap, ◌∙◌, subst, arith, append-nil, append_assoc}
+use Rattle.std.proofs.Common.{◌≡◌, ◌≢◌, ◌<◌, zero, suc, ◌⊎◌, inl, inr, ℕ, Bool, true, false, cond, nat_eq, List, [], ◌∷◌, ◌++◌, length, take, filter, Option, Some, None, refl, sym, ap, ◌∙◌, subst, arith, append-nil}
 use Rattle.std.specs.Option.{option_map}
 use Rattle.std.specs.HashMap.{get}
 use Rattle.std.specs.Str.{bytes_eq}
@@ -34,7 +34,7 @@ use Rattle.script_trace.specs.Output.{log_of, pairs_of_changes, key_of}
 use Rattle.dice_run.specs.Commits.{differs_from}
 use Rattle.dice_run.specs.Seats.{Place, log_in, IsOurs, Goes}
 use Rattle.script_trace.specs.Events.{Events, Indices, no_indices, IsNext, AddsLine, AddsLines, AddsAsk, IsDecidedIn, commit_events}
-use Rattle.dice_run.specs.Looking.{Pledge, IsLive, WasDecided, WereDecided}
+use Rattle.dice_run.specs.Looking.{Pledge, IsLive, WasDecided}
 use Rattle.dice_run.specs.Driving.{Confirms, IsKnown, transaction_of, pledge_of, IsPending, IsAt, IsMade, Matches, KeepsNames, with_named, DidOpen, DidAsk, DidWait, was_told, is_told, DidCancel, DidClose, Starts}
 use Rattle.dice_run.specs.Recording.{IsUnpolled, IsRecorded, KnowsIndices, Records, RecordsStep}
 use Rattle.dice_run.specs.declared.driver.Driver.{Driver}

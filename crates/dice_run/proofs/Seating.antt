@@ -12,8 +12,6 @@ use Rattle.dice_engine.proofs.Callers.{open_later, ask_later, closed_both, left_
 use Rattle.dice_engine.proofs.Indices.{back_below, from_front}
 use Rattle.action_digest.specs.declared.key.Key.{Key}
 use Rattle.action_digest.specs.declared.value.Value.{Value}
-use Rattle.action_digest.specs.Buck.{buck}
-use Rattle.action_digest.specs.Same.{key_equal}
 use Rattle.dice_run.specs.Commits.{with_pairs}
 use Rattle.dice_run.specs.Seats.{Place, log_in, Goes}
 

@@ -15,7 +15,7 @@ use Rattle.journal.specs.declared.event.Told.{Told}
 use Rattle.journal.specs.declared.event.Told.TheVariants.{Open, Close, Ask, Leave}
 use Rattle.journal.specs.Events.{NotClosed, event_of, NotLeft}
 use Rattle.dice_engine.specs.Calls.{differing_from}
-use Rattle.dice_engine.specs.Conditions.{HasOpen, HasAsk}
+use Rattle.dice_engine.specs.Conditions.{HasOpen}
 use Rattle.dice_engine.specs.declared.promise.Transaction.{Transaction}
 use Rattle.script.specs.declared.line.Line.{Line}
 use Rattle.script.specs.declared.line.Line.TheVariants as line

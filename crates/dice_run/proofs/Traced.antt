@@ -1,6 +1,5 @@
 -- The trace of a journal.
-use Rattle.std.proofs.Common.{◌≡◌, ◌++◌, ◌∷◌, ℕ, suc, List, [], length, codes, decimal, flat_map, refl, sym, ap}
-use Rattle.std.specs.List.{AllZip}
+use Rattle.std.proofs.Common.{◌++◌, ℕ, List, codes, decimal, flat_map, ap}
 use Rattle.dice_engine.specs.Lines.{AreLines}
 use Rattle.action_digest.specs.Buck.{buck}
 use Rattle.script_trace.specs.Output.{line}

@@ -1,5 +1,5 @@
 -- What a turn of the engine comes to for the driver's seat.
-use Rattle.std.proofs.Common.{◌≡◌, ◌≤◌, ◌++◌, ◌∷◌, ℕ, Bool, true, false, cond, Result, Ok, Err, IfOk, OnErr, List, [], length, take, reverse, Some, IfSome, is_some, inl, inr, refl, sym, ap, ◌∙◌, subst, arith, append-nil, length-append}
+use Rattle.std.proofs.Common.{◌≡◌, ◌≤◌, ◌++◌, ◌∷◌, ℕ, Bool, true, false, cond, Result, Ok, Err, IfOk, OnErr, List, [], length, take, reverse, Some, IfSome, is_some, refl, sym, ap, ◌∙◌, subst, arith, append-nil, length-append}
 use Rattle.std.specs.Arc.{arc_value}
 use Rattle.std.specs.Map.{keys_of}
 use Rattle.std.specs.List.{AllByRecursion}
@@ -31,8 +31,7 @@ use Rattle.dice_run.specs.Seats.{Place, log_in, IsOurs, Goes, Commits, Opens, As
 use Rattle.dice_run.proofs.Seating.{onward, still_asks}
 use Rattle.lists.proofs.Distinct.{distinct_before}
 use Rattle.lists.proofs.Each.{all_middle}
-use Rattle.lists.proofs.Members.{has_middle}
-use Rattle.lists.specs.Lists.{AreDistinct, Has}
+use Rattle.lists.specs.Lists.{AreDistinct}
 
 abbrev Events : Type 0
 Events = List (Told Key Value)

@@ -22,7 +22,6 @@ use Rattle.script.specs.Past.{Past, after}
 use Rattle.script.specs.Order.{Fits}
 use Rattle.script.specs.Plan.{Ends, Plan, Planned, Change, version_of, planned, committed}
 use Rattle.action_digest.specs.declared.key.Key.{Key}
-use Rattle.action_digest.specs.declared.value.Value.{Value}
 use Rattle.action_digest.specs.Buck.{buck}
 use Rattle.script_trace.specs.Output.{log_of, pairs_of_changes, key_of}
 use Rattle.dice_run.specs.Answers.{IsToldOf}

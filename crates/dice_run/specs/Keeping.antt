@@ -1,5 +1,5 @@
 -- What a run leaves.
-use Rattle.std.specs.Prelude.{◌≡◌, ℕ, List, Option, Some}
+use Rattle.std.specs.Prelude.{◌≡◌, List, Option, Some}
 use Rattle.script.specs.declared.line.Line.{Line}
 use Rattle.script_trace.specs.Events.{IsJournalOf}
 use Rattle.dice_run.specs.Seats.{IsOurs}

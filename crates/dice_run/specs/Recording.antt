@@ -9,7 +9,6 @@ use Rattle.script.specs.declared.line.Line.TheVariants.{Put, Drop, Commit, Open,
 use Rattle.script.specs.declared.fate.Fate.TheVariants as fate
 use Rattle.script.specs.Past.{Table, Past, nothing, after, after_all, fate_of, is_cancelled}
 use Rattle.script.specs.Plan.{Plan, Planned, no_plan, planned, plan_of}
-use Rattle.action_digest.specs.declared.key.Key.{Key}
 use Rattle.script_trace.specs.Output.{key_of}
 use Rattle.script_trace.specs.Events.{Events, Indices, no_indices, AddsLines, AddsEnds}
 use Rattle.dice_run.specs.Looking.{Pledge, WasDecided}

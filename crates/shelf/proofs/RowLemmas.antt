@@ -1,8 +1,9 @@
 -- The hash map of a copy agrees with its list as both grow.
-use Rattle.std.proofs.Common.{◌≡◌, Bool, true, false, cond, ◌&&◌, ℕ, List, [], ◌∷◌, ◌++◌, refl, sym, ap, subst, ◌∙◌, true≢false, map, Result, Ok, Err, OnOk, Option, None, Some, is_some, nat_eq, if◌then◌else◌}
-use mathlib.Core.List.{map-append}
+use Rattle.std.proofs.Common.{◌≡◌, Bool, true, false, cond, ◌&&◌, ℕ, List, [], ◌∷◌, ◌++◌, refl, sym, ap, ◌∙◌, true≢false, map, Result, Ok, Err, OnOk, Option, None, Some, is_some, unwrap_or, nat_eq, if◌then◌else◌}
+use Rattle.std.proofs.lemmas.Option.{none-some, same_Some}
 use Rattle.std.specs.Arc.{arc_value}
 use Rattle.std.specs.declared.sync.Arc.{Arc}
+use Rattle.std.specs.Cmp.{IsEquivalence, unsigned_Decides, first_so, second_so}
 use Rattle.std.specs.Map.{lookup}
 use Rattle.std.specs.Option.{option_map, option_or}
 use Rattle.indexmap.specs.IndexMap.{IndexMap, get, insert_entry}
@@ -10,17 +11,20 @@ use Rattle.indexmap.proofs.CallerLemmas.{insert_entry-new}
 use Rattle.shelf.specs.declared.op.Plain.{Plain}
 use Rattle.shelf.specs.declared.op.Plain.TheVariants as bare
 use Rattle.shelf.specs.declared.row.RowKey.{RowKey}
-use Rattle.shelf.specs.declared.op.ShelfOp.{ShelfOp}
-use Rattle.shelf.specs.Ops.{plain, is_row, value_of, row_at}
+use Rattle.shelf.specs.Ops.{is_row, value_of, row_at}
 use Rattle.shelf.specs.Rows.{is_place, value_in, Agrees, AddsRow, Notes}
-
-none_of : {V : Type 0} (x : Option V) → is_some x ≡ false → x ≡ None
-none_of None e = refl
-none_of (Some x) e = absurd (true≢false e)
 
 or_none : {V : Type 0} (x : Option V) → x ≡ option_or x None
 or_none None = refl
 or_none (Some x) = refl
+
+some_or : {V : Type 0} (x o : Option V) → is_some x ≡ true → x ≡ option_or x o
+some_or None o e = absurd (true≢false (sym e))
+some_or (Some x) o e = refl
+
+map_is_some : {X Y : Type 0} (f : X → Y) (x : Option X) → is_some (option_map f x) ≡ is_some x
+map_is_some f None = refl
+map_is_some f (Some x) = refl
 
 module _ {K V : Type 0} where
   -- what a list with one more operation has at a version and key
@@ -45,6 +49,15 @@ lookup_more test (e ∷ es) x y = by (test e.0) (lookup_more test es x y)
     by true h = refl
     by false h = h
 
+-- a key that has a value is given that value again
+same_again : {X Y : Type 0} (test : X → X → Bool) (es : List (X × Y)) (r : X) (z : Y) → lookup (test r) es ≡ Some z → insert_entry test es r z ≡ es
+same_again test [] r z e = absurd (none-some _ e)
+same_again test (p ∷ ps) r z e = by (test r p.0) (same_again test ps r z) e
+  where
+    by : (b : Bool) → (lookup (test r) ps ≡ Some z → insert_entry test ps r z ≡ ps) → cond b (Some p.1) (lookup (test r) ps) ≡ Some z → (if b then (p.0, z) ∷ ps else p ∷ insert_entry test ps r z) ≡ p ∷ ps
+    by true again h = ap (λ w. (p.0, w) ∷ ps) (sym (same_Some _ _ h))
+    by false again h = ap (λ l. p ∷ l) (again h)
+
 lookup_alike : {X Y : Type 0} (test other : X → Bool) → ((x : X) → test x ≡ other x) → (es : List (X × Y)) → lookup test es ≡ lookup other es
 lookup_alike test other same [] = refl
 lookup_alike test other same (e ∷ es) = λ i. cond (same e.0 i) (Some e.1) (lookup_alike test other same es i)
@@ -53,6 +66,13 @@ value_or : {V A : Type 0} (x : Option (Arc V A)) (b : Bool) (y : Arc V A) → op
 value_or None true y = refl
 value_or None false y = refl
 value_or (Some x) b y = refl
+
+abbrev pub same_row : {K : Type 0} → (K → K → Bool) → RowKey K → RowKey K → Bool
+same_row eq r z = is_place eq r.version (arc_value r.key) z
+
+-- the same version and equal keys are the same place
+same_place : {K : Type 0} (eq : K → K → Bool) → IsEquivalence eq → (v w : ℕ) (k q : K) → nat_eq w v && eq q k ≡ true → (r : RowKey K) → is_place eq w q r ≡ is_place eq v k r
+same_place eq laws v w k q e r = λ i. nat_eq ((unsigned_Decides w v).0 (first_so (nat_eq w v) (eq q k) e) i) r.version && laws.congr q k (arc_value r.key) (second_so (nat_eq w v) (eq q k) e) i
 
 module _ {K V A : Type 0} (eq : K → K → Bool) where
   -- a row is put in
@@ -63,23 +83,33 @@ module _ {K V A : Type 0} (eq : K → K → Bool) where
   pub agrees_commit : (c : List (K × V)) (es : List (RowKey K × Arc V A)) (ops : List (Plain K V)) → Agrees eq es ops → Agrees eq es (ops ++ bare.Commit c ∷ [])
   agrees_commit c es ops h w q = h w q ∙ (or_none (row_at (eq q) w ops) ∙ sym (row_more (eq q) w ops (bare.Commit c)))
 
-  -- otherwise it is put in
-  pub new_row : {S : Type 0} (m : IndexMap (RowKey K) (Arc V A) S) (test : RowKey K → RowKey K → Bool) (r : RowKey K) (y : Arc V A) (fs : List (RowKey K × Arc V A)) → get test m r ≡ None
+  -- if a row is there, it stays
+  put_there : IsEquivalence eq → (v : ℕ) (k : K) (x : V) (es fs : List (RowKey K × Arc V A)) → is_some (lookup (is_place eq v k) es) ≡ true → fs ≡ es → AddsRow eq v k x es fs
+  put_there laws v k x es fs there same w q = ap (value_in eq w q) same ∙ by (nat_eq w v && eq q k) refl
+    where
+      by : (b : Bool) → nat_eq w v && eq q k ≡ b → value_in eq w q es ≡ option_or (value_in eq w q es) (if b then Some x else None)
+      by false e = or_none (value_in eq w q es)
+      by true e = some_or (value_in eq w q es) (Some x) (map_is_some (λ z. arc_value z) (lookup (is_place eq w q) es) ∙ (ap is_some (lookup_alike (is_place eq w q) (is_place eq v k) (same_place eq laws v w k q e) es) ∙ there))
+
+  -- if none is there, it is put in
+  new_row : {S : Type 0} (m : IndexMap (RowKey K) (Arc V A) S) (test : RowKey K → RowKey K → Bool) (r : RowKey K) (y : Arc V A) (fs : List (RowKey K × Arc V A)) → get test m r ≡ None
       → fs ≡ insert_entry test m.entries r y → AddsRow eq r.version (arc_value r.key) (arc_value y) m.entries fs
   new_row m test r y fs none is w q =
       ap (value_in eq w q) (is ∙ insert_entry-new test m r y none)
       ∙ (ap (option_map (λ z. arc_value z)) (lookup_more (is_place eq w q) m.entries r y) ∙ value_or (lookup (is_place eq w q) m.entries) (is_place eq w q r) y)
 
-  pub put_new : {S : Type 0} (v : ℕ) (k : K) (x : V) (m : IndexMap (RowKey K) (Arc V A) S) (test : RowKey K → RowKey K → Bool) (r : RowKey K) (y : Arc V A) (fs : List (RowKey K × Arc V A)) → r.version ≡ v → arc_value r.key ≡ k → arc_value y ≡ x
-      → ((z : RowKey K) → test r z ≡ is_place eq r.version (arc_value r.key) z) → is_some (lookup (is_place eq v k) m.entries) ≡ false → fs ≡ insert_entry test m.entries r y → AddsRow eq v k x m.entries fs
-  put_new v k x m test r y fs at of has same absent is =
-      let alike : (z : RowKey K) → test r z ≡ is_place eq v k z = λ z. same z ∙ (λ i. is_place eq (at i) (of i) z) in
-      let none : get test m r ≡ None = lookup_alike (test r) (is_place eq v k) alike m.entries ∙ none_of (lookup (is_place eq v k) m.entries) absent in
-      λ w q. new_row m test r y fs none is w q ∙ (λ i. option_or (value_in eq w q m.entries) (if nat_eq w (at i) && eq q (of i) then Some (has i) else None))
+  put_either : IsEquivalence eq → {S : Type 0} (m : IndexMap (RowKey K) (Arc V A) S) (r : RowKey K) (y : Arc V A) (fs : List (RowKey K × Arc V A)) → fs ≡ insert_entry (same_row eq) m.entries r (unwrap_or (get (same_row eq) m r) y)
+      → AddsRow eq r.version (arc_value r.key) (arc_value y) m.entries fs
+  put_either laws m r y fs is = by (get (same_row eq) m r) refl
+    where
+      by : (o : Option (Arc V A)) → get (same_row eq) m r ≡ o → AddsRow eq r.version (arc_value r.key) (arc_value y) m.entries fs
+      by None e = new_row m (same_row eq) r y fs e (is ∙ ap (λ o. insert_entry (same_row eq) m.entries r (unwrap_or o y)) e)
+      by (Some z) e = put_there laws r.version (arc_value r.key) (arc_value y) m.entries fs (ap is_some e) (is ∙ (ap (λ o. insert_entry (same_row eq) m.entries r (unwrap_or o y)) e ∙ same_again (same_row eq) m.entries r z e))
 
-  -- both grow by one operation
-  pub both_grow : (es fs : List (RowKey K × Arc V A)) (xs ys zs : List (ShelfOp K V)) (op : ShelfOp K V) → Agrees eq es (map plain xs) → Notes eq (plain op) es fs → ys ≡ xs → zs ≡ ys ++ op ∷ [] → Agrees eq fs (map plain zs)
-  both_grow es fs xs ys zs op h notes same is = subst (Agrees eq fs) (sym (ap (map plain) (is ∙ ap (λ l. l ++ op ∷ []) same) ∙ map-append plain xs (op ∷ []))) (notes (map plain xs) h)
+  pub row_put : IsEquivalence eq → {S X Y : Type 0} (result : Result X Y) (m : IndexMap (RowKey K) (Arc V A) S) (r : RowKey K) (y : Arc V A) (fs : List (RowKey K × Arc V A)) (k : K) (x : V) → arc_value r.key ≡ k → arc_value y ≡ x
+      → OnOk result (fs ≡ insert_entry (same_row eq) m.entries r (unwrap_or (get (same_row eq) m r) y)) → OnOk result (AddsRow eq r.version k x m.entries fs)
+  row_put laws (Ok a) m r y fs k x of has h = λ w q. put_either laws m r y fs h w q ∙ (λ i. option_or (value_in eq w q m.entries) (if nat_eq w r.version && eq q (of i) then Some (has i) else None))
+  row_put laws (Err e) m r y fs k x of has h = tt
 
   pub row_noted : {X Y : Type 0} (r : Result X Y) (v : ℕ) (k : K) (x : V) (es fs : List (RowKey K × Arc V A)) → OnOk r (AddsRow eq v k x es fs) → OnOk r (Notes eq (bare.Row v k x) es fs)
   row_noted (Ok a) v k x es fs h = λ ops agrees. agrees_row v k x es fs ops agrees h

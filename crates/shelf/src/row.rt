@@ -1,9 +1,10 @@
 //! The rows of a copy in one hash map, by version and key.
-ghost use Rattle.std.specs.Prelude.{◌≡◌, nat_eq, ◌&&◌, ◌++◌, OnOk, OnErr};
+ghost use Rattle.std.specs.Prelude.{◌≡◌, nat_eq, ◌&&◌, ◌++◌, unwrap_or, OnOk, OnErr};
 ghost use Rattle.std.specs.Arc.{arc_value};
 ghost use Rattle.std.specs.Cmp.{unsigned_Decides, first_so, second_so};
 ghost use Rattle.std.specs.Hash as fed;
 ghost use Rattle.std.specs.Option.{option_map};
+ghost use Rattle.indexmap.specs.IndexMap.{get, insert_entry};
 ghost use Rattle.shelf.specs.Ops.{plain};
 ghost use Rattle.shelf.specs.Rows.{Notes, PutsRow, row_of};
 
@@ -51,15 +52,28 @@ fn put_row<K: Eq + Hash + Drop, V: Drop>(
     ensures ok { OnOk result (PutsRow K.eq version key.now value.now rows.old rows.new) }
     ensures err { OnErr result (rows.new.entries ≡ rows.old.entries) }
 {
-    if rows.contains_key((version, &**key)) {
-        return Ok(());
-    }
     let row = RowKey {
         version,
         key: Arc::try_clone(key)?,
     };
-    match rows.insert(row, Arc::try_clone(value)?) {
-        Ok(_) => Ok(()),
+    put_first(rows, row, Arc::try_clone(value)?)
+}
+
+// Puts a value to a key that has none, by one look-up.
+fn put_first<Q: Eq + Hash + Drop, W: Drop>(
+    map: &mut IndexMap<Q, W, Seed>,
+    key: Q,
+    value: W,
+) -> Result<(), AllocError>
+    ensures ok { OnOk result (map.new.entries
+        ≡ insert_entry Q.eq map.old.entries key (unwrap_or (get Q.eq map.old key) value)) }
+    ensures err { OnErr result (map.new.entries ≡ map.old.entries) }
+{
+    match map.entry(key) {
+        Ok(place) => {
+            place.or_insert(value);
+            Ok(())
+        }
         Err(_) => Err(AllocError),
     }
 }

@@ -1,8 +1,9 @@
 //! One of the two copies of the shelf.
-ghost use Rattle.std.specs.Prelude.{◌≡◌, [], IfOk};
+ghost use Rattle.std.specs.Prelude.{◌≡◌, [], IfOk, MatchResult};
 ghost use Rattle.std.specs.Arc.{arc_value};
 ghost use Rattle.std.specs.Option.{option_map};
 ghost use Rattle.shelf.specs.Ops.{row_at};
+ghost use Rattle.shelf.specs.Rule.{with_op};
 
 use crate::op::{Plain, ShelfOp};
 use crate::row::{Rows, note, row_in};
@@ -51,10 +52,15 @@ impl<K: Eq + Hash + Drop, V: Drop> Absorb<ShelfOp<K, V>> for Store<K, V> {
         _other: &Store<K, V>,
     ) -> Result<(), AllocError> {
         let op = operation.again()?;
-        self.log.reserve(1)?;
-        note(&mut self.rows, &op)?;
-        self.log.push_reserved(op);
-        Ok(())
+        self.take_in(op).map_err(|_op| AllocError)
+    }
+
+    fn absorb_second(
+        &mut self,
+        operation: ShelfOp<K, V>,
+        _other: &Store<K, V>,
+    ) -> Result<(), ShelfOp<K, V>> {
+        self.take_in(operation)
     }
 }
 
@@ -67,6 +73,21 @@ impl<K: Eq + Hash + Drop, V: Drop> Store<K, V> {
             log: Vec::new(alloc),
             rows: IndexMap::with_hasher(alloc, seed),
         }
+    }
+
+    // Takes in an operation at the end. If there is no memory it comes back, and nothing changes.
+    fn take_in(&mut self, op: ShelfOp<K, V>) -> Result<(), ShelfOp<K, V>>
+        ensures { MatchResult result (λ _. self.new ≡ with_op self.old op)
+            (λ back. (back ≡ op) × (self.new ≡ self.old)) }
+    {
+        let Ok(()) = self.log.reserve(1) else {
+            return Err(op);
+        };
+        let Ok(()) = note(&mut self.rows, &op) else {
+            return Err(op);
+        };
+        self.log.push_reserved(op);
+        Ok(())
     }
 
     /// The value of the first row of that version and key, by one look-up in the hash map.

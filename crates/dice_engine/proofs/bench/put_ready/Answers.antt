@@ -1,4 +1,4 @@
-use Rattle.std.proofs.Common.{◌≡◌, ◌<◌, ◌≤◌, ◌^◌, [], length, ap, sym, subst, arith}
+use Rattle.std.proofs.Common.{◌≡◌, ◌<◌, ◌≤◌, ◌^◌, length, ap, sym, subst, arith}
 use Rattle.dice_core.specs.Cores.{TakesOut}
 use Rattle.dice_engine.specs.Jobs.{KeepsRest}
 use Rattle.dice_engine.proofs.Lining.{lining_begins, lining_more, lined_all, lined_full, lined_back, out_is_out, came_back}

@@ -1,5 +1,4 @@
-use Rattle.std.proofs.Common.{◌≡◌, ◌≤◌, length, map, take, Some, sym, subst}
-use Rattle.std.specs.Prelude.{reverse}
+use Rattle.std.proofs.Common.{◌≡◌, ◌≤◌, length, map, take, sym, subst}
 use Rattle.std.proofs.lemmas.Option.{same_Some}
 use Rattle.dice_core.specs.Cores.{events_of}
 use Rattle.dice_engine.specs.Rows.{LedgeView, item_of, items_of, Keeps, AreFinished}

@@ -1,12 +1,5 @@
-use Rattle.std.proofs.Common.{◌≡◌, false, is_some, sym, refl, subst, ◌∙◌}
-use Rattle.std.specs.Map.{lookup}
-use Rattle.shelf.specs.Rows.{is_place}
-use Rattle.shelf.proofs.RowLemmas.{put_new}
+use Rattle.shelf.proofs.RowLemmas.{row_put}
 use Rattle.shelf.proofs.row.put_row.Goals as goal
 
-pub returns-in-Ok-clause-ok : goal.returns-in-Ok-clause-ok
-returns-in-Ok-clause-ok g c =
-    let eq = g.K.PartialEq.eq in
-    let rows = c.args.rows.now in
-    put_new eq c.args.version _ _ rows _ _ _ _ refl c.in_ok-try_clone.ensures c.in_ok-try_clone-2.ensures (λ z. refl)
-    (subst (λ k. is_some (lookup (is_place eq c.args.version k) rows.entries) ≡ false) c.deref.ensures (sym c.contains_key.ensures ∙ c.if-contains_key.false)) c.in-Ok.ensures.entries
+pub returns-clause-ok : goal.returns-clause-ok
+returns-clause-ok g c = row_put g.K.PartialEq.eq g.met.K.Eq.laws c.put_first.result c.args.rows.now _ _ c.put_first.new.map.entries _ _ c.in_ok-try_clone.ensures c.in_ok-try_clone-2.ensures c.put_first.ensures.ok

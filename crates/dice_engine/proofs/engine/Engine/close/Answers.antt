@@ -1,4 +1,4 @@
-use Rattle.std.proofs.Common.{rules, refl, ap, subst, sym, ◌∙◌, ◌≡◌}
+use Rattle.std.proofs.Common.{refl, ap, subst, sym}
 use Rattle.dice_core.specs.Cores.{events_of}
 use Rattle.turnstile.specs.InTurn.{seat_in}
 use Rattle.dice_engine.specs.Turns.{Turn}
@@ -6,7 +6,7 @@ use Rattle.dice_engine.proofs.Turned.{entered, may_leave, turned}
 use Rattle.dice_engine.specs.Calls.{Closes}
 use Rattle.dice_engine.proofs.Kept.{has_open}
 use Rattle.dice_engine.proofs.Begun.{closes_own}
-use Rattle.dice_engine.proofs.Turned.{lined_adds, number_of}
+use Rattle.dice_engine.proofs.Turned.{lined_adds}
 use Rattle.dice_engine.specs.Conditions.{HasOpen}
 use Rattle.dice_engine.specs.Seats.{seated, IsWriter}
 use Rattle.dice_engine.proofs.engine.Engine.close.Goals as goal

@@ -1,4 +1,4 @@
-use Rattle.std.proofs.Common.{rules, refl, ap, subst}
+use Rattle.std.proofs.Common.{refl, ap, subst}
 use Rattle.dice_core.specs.Cores.{events_of}
 use Rattle.turnstile.specs.InTurn.{seat_in}
 use Rattle.dice_engine.specs.Seats.{seated}

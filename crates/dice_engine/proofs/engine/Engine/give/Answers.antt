@@ -64,7 +64,7 @@ returns-clause-home g c =
     let e = entered eq m old mid (events_of c.enter-turn.result.state.bench.value.core) (events_of found) (ap (λ s. events_of s.bench.value.core) c.state-state.ensures.value) c.enter-turn.ensures.turn c.enter-turn.ensures.seen c.enter-turn.ensures.mine c.enter-turn.ensures.floor in
     subst (λ p. TurnOver eq m (seated c.args.pass.now old) (seated p c.place-1.given.0) over) (sym c.take_up.ensures.pass)
     (subst (λ s. TurnOver eq m (seated c.args.pass.now old) (seated c.args.pass.now s) over) {x = c.leave.new.turn.0} {y = c.place-1.given.0} (search rules)
-    (turned_over eq m old mid c.leave.new.turn.0 found done left c.args.pass.now over 0 _ _ _ e (record { seen = c.leave.ensures.seen; mine = c.leave.ensures.mine; turns = c.leave.ensures.turns; floor = c.leave.ensures.floor; below = c.leave.ensures.below; noted = c.leave.ensures.noted; same = c.leave.ensures.same }) c.take_up.ensures.adds c.line_up.ensures.events c.leave.ensures.left c.line_up.ensures.rests (c.take_up.ensures.home, c.poll-answer.ensures.exact) c.line_up.ensures.lines_up))
+    (turned_over eq m old mid c.leave.new.turn.0 found done left c.args.pass.now over 0 _ _ _ e (record { seen = c.leave.ensures.seen; mine = c.leave.ensures.mine; turns = c.leave.ensures.turns; floor = c.leave.ensures.floor; below = c.leave.ensures.below; noted = c.leave.ensures.noted; same = c.leave.ensures.same }) c.take_up.ensures.adds c.line_up.ensures.events (c.leave.ensures.left ∙ c.line_up.ensures.counts) c.line_up.ensures.rests (c.take_up.ensures.home, c.poll-answer.ensures.exact) c.line_up.ensures.lines_up))
 
 pub returns-clause-reply : goal.returns-clause-reply
 returns-clause-reply g c =
@@ -75,8 +75,8 @@ returns-clause-reply g c =
     let r = reply_of c.poll-answer.result in
     let done = c.take_up.new.self.bench.value.core in
     let left = c.line_up.new.self.bench.value.core in
-    let mark = c.line_up.new.self.left.2 in
+    let mark = c.line_up.new.self.mark in
     subst (λ s. IsReply eq m s.seen p.version k p.ask s.left r) {x = c.leave.new.turn.0} {y = c.place-1.given.0} (search rules)
-    (subst (λ l. IsReply eq m c.leave.new.turn.0.seen p.version k p.ask l r) (sym c.leave.ensures.left)
+    (subst (λ l. IsReply eq m c.leave.new.turn.0.seen p.version k p.ask l r) (sym (c.leave.ensures.left ∙ c.line_up.ensures.counts))
     (subst (λ J. IsReply eq m J p.version k p.ask (left_of mark left) r) (sym (c.leave.ensures.seen ∙ c.line_up.ensures.events))
-    (reply_lined eq m (events_of done) p.version k p.ask _ _ done left c.take_up.new.self.left.2 mark r c.line_up.ensures.lines_up c.poll-answer.ensures.reply)))
+    (reply_lined eq m (events_of done) p.version k p.ask _ _ done left c.take_up.new.self.mark mark r c.line_up.ensures.lines_up c.poll-answer.ensures.reply)))

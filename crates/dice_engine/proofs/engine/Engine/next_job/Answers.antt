@@ -1,5 +1,5 @@
-use Rattle.std.proofs.Common.{ap, ◌∙◌, sym}
-use Rattle.dice_engine.specs.Seats.{seated, found_empty}
+use Rattle.std.proofs.Common.{ap, ◌∙◌}
+use Rattle.dice_engine.specs.Seats.{seated}
 use Rattle.dice_engine.specs.Doings.{from_line}
 use Rattle.dice_engine.proofs.Jobs.{none_found, one_found}
 use Rattle.dice_engine.proofs.engine.Engine.next_job.Goals as goal

@@ -1,4 +1,4 @@
-use Rattle.std.proofs.Common.{sym, ◌∙◌, rules, ◌≡◌, [], refl, ap, subst}
+use Rattle.std.proofs.Common.{sym, ◌∙◌, ◌≡◌, [], refl, ap, subst}
 use Rattle.dice_core.specs.Cores.{events_of}
 use Rattle.turnstile.specs.InTurn.{seat_in}
 use Rattle.dice_engine.specs.Turns.{Turn, left_of}
@@ -73,7 +73,7 @@ returns-clause-exact g c =
     let e = entered eq m old mid (events_of c.enter-turn.result.state.bench.value.core) J (ap (λ s. events_of s.bench.value.core) c.state-state.ensures.value) c.enter-turn.ensures.turn c.enter-turn.ensures.seen c.enter-turn.ensures.mine c.enter-turn.ensures.floor in
     let a = did_so eq m 0 J J AddsNothing (λ own work. own ≡ []) (nothing eq m J J c.poll-answer.ensures.lawful 0 refl) (λ own work d. d.0) in
     subst (λ z. TellsOfCore eq m p r z (seated c.seat.inside.pass c.leave.new.turn.0)) c.seat.view_is
-    (turned_over eq m old mid c.leave.new.turn.0 core core c.line_up.new.self.bench.value.core pass _ 0 _ _ _ e (record { seen = c.leave.ensures.seen; mine = c.leave.ensures.mine; turns = c.leave.ensures.turns; floor = c.leave.ensures.floor; below = c.leave.ensures.below; noted = c.leave.ensures.noted; same = c.leave.ensures.same }) a c.line_up.ensures.events c.leave.ensures.left c.line_up.ensures.rests (refl, c.poll-answer.ensures.exact) c.line_up.ensures.lines_up)
+    (turned_over eq m old mid c.leave.new.turn.0 core core c.line_up.new.self.bench.value.core pass _ 0 _ _ _ e (record { seen = c.leave.ensures.seen; mine = c.leave.ensures.mine; turns = c.leave.ensures.turns; floor = c.leave.ensures.floor; below = c.leave.ensures.below; noted = c.leave.ensures.noted; same = c.leave.ensures.same }) a c.line_up.ensures.events (c.leave.ensures.left ∙ c.line_up.ensures.counts) c.line_up.ensures.rests (refl, c.poll-answer.ensures.exact) c.line_up.ensures.lines_up)
 
 pub returns-clause-reply : goal.returns-clause-reply
 returns-clause-reply g c =
@@ -84,7 +84,7 @@ returns-clause-reply g c =
     let r = reply_of c.poll-answer.result in
     let core = c.state-state.result.now.bench.value.core in
     let left = c.line_up.new.self.bench.value.core in
-    let mark = c.line_up.new.self.left.2 in
-    subst (λ l. IsReply eq m c.leave.new.turn.0.seen p.version k p.ask l r) (sym c.leave.ensures.left)
+    let mark = c.line_up.new.self.mark in
+    subst (λ l. IsReply eq m c.leave.new.turn.0.seen p.version k p.ask l r) (sym (c.leave.ensures.left ∙ c.line_up.ensures.counts))
     (subst (λ J. IsReply eq m J p.version k p.ask (left_of mark left) r) (sym (c.leave.ensures.seen ∙ c.line_up.ensures.events))
-    (reply_lined eq m (events_of core) p.version k p.ask _ _ core left c.state-state.result.now.left.2 mark r c.line_up.ensures.lines_up c.poll-answer.ensures.reply))
+    (reply_lined eq m (events_of core) p.version k p.ask _ _ core left c.state-state.result.now.mark mark r c.line_up.ensures.lines_up c.poll-answer.ensures.reply))

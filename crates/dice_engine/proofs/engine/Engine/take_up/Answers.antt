@@ -1,8 +1,7 @@
-use Rattle.std.proofs.Common.{rules, ◌≡◌, [], ap, sym, ◌∙◌, subst}
+use Rattle.std.proofs.Common.{rules, ◌≡◌, [], ap, ◌∙◌, sym, subst}
 use Rattle.dice_core.specs.Cores.{events_of}
 use Rattle.turnstile.specs.InTurn.{seat_in}
 use Rattle.dice_engine.specs.Seats.{seated}
-use Rattle.dice_engine.specs.Turns.{Adds}
 use Rattle.dice_engine.specs.Jobs.{ComesHome}
 use Rattle.dice_engine.specs.Doings.{TakesIn}
 use Rattle.dice_engine.proofs.Turned.{entered, may_leave_tasks, lined_adds}
@@ -45,4 +44,4 @@ returns-clause-home g c =
     let e = entered eq m old mid (events_of c.enter-turn.result.state.bench.value.core) (events_of found) (ap (λ s. events_of s.bench.value.core) c.state-state.ensures.value) c.enter-turn.ensures.turn c.enter-turn.ensures.seen c.enter-turn.ensures.mine c.enter-turn.ensures.floor in
     subst (λ p. TakesIn eq m veq c.args.came (seated c.args.pass.now old) (seated p c.place-1.given.0)) (sym c.take_up.ensures.pass)
     (subst (λ s. TakesIn eq m veq c.args.came (seated c.args.pass.now old) (seated c.args.pass.now s)) {x = c.leave.new.turn.0} {y = c.place-1.given.0} (search rules)
-    (turned_over eq m old mid c.leave.new.turn.0 found done left c.args.pass.now (ComesHome eq m veq c.args.came) 0 _ _ _ e (record { seen = c.leave.ensures.seen; mine = c.leave.ensures.mine; turns = c.leave.ensures.turns; floor = c.leave.ensures.floor; below = c.leave.ensures.below; noted = c.leave.ensures.noted; same = c.leave.ensures.same }) c.take_up.ensures.adds c.line_up.ensures.events c.leave.ensures.left c.line_up.ensures.rests c.take_up.ensures.home c.line_up.ensures.lines_up))
+    (turned_over eq m old mid c.leave.new.turn.0 found done left c.args.pass.now (ComesHome eq m veq c.args.came) 0 _ _ _ e (record { seen = c.leave.ensures.seen; mine = c.leave.ensures.mine; turns = c.leave.ensures.turns; floor = c.leave.ensures.floor; below = c.leave.ensures.below; noted = c.leave.ensures.noted; same = c.leave.ensures.same }) c.take_up.ensures.adds c.line_up.ensures.events (c.leave.ensures.left ∙ c.line_up.ensures.counts) c.line_up.ensures.rests c.take_up.ensures.home c.line_up.ensures.lines_up))

@@ -1,8 +1,6 @@
-use Rattle.std.proofs.Common.{◌≡◌, ℕ, rules, ap, sym, ◌∙◌, subst}
+use Rattle.std.proofs.Common.{◌≡◌, rules, ap, sym, ◌∙◌, subst}
 use Rattle.dice_core.specs.Cores.{events_of}
-use Rattle.journal.specs.declared.event.Told.{Told}
 use Rattle.turnstile.specs.InTurn.{seat_in}
-use Rattle.dice_engine.specs.Seats.{SeatView}
 use Rattle.dice_engine.specs.Seats.{seated}
 use Rattle.dice_engine.specs.Turns.{Turn}
 use Rattle.dice_engine.specs.Calls.{AddsNothing}
@@ -43,8 +41,8 @@ pub returns-clause-told : goal.returns-clause-told
 returns-clause-told g c = λ yes free.
     let I = events_of c.tell-told.new.self.bench.value.core in
     let zero : c.leave.new.turn.0.left.2 ≡ 0 = search rules in
-    let mark : c.tell-told.new.self.left.2 ≡ 0 = sym c.line_up.ensures.mark ∙ (sym (mark_is c.leave.new.turn.0.left c.line_up.new.self.left.2 c.line_up.new.self.bench.value.core c.leave.ensures.left) ∙ zero) in
-    let p = told_so I (c.tell-told.new.self.left.2 ≡ 0) mark c.tell-told.result c.args.reader.now c.learned.new.reader c.learned.ensures c.tell-told.ensures.told (c.tell-told.ensures.some mark) free in
+    let mark : c.tell-told.new.self.mark ≡ 0 = sym c.line_up.ensures.mark ∙ (sym (mark_is c.leave.new.turn.0.left c.line_up.new.self.mark c.line_up.new.self.bench.value.core (c.leave.ensures.left ∙ c.line_up.ensures.counts)) ∙ zero) in
+    let p = told_so I (c.tell-told.new.self.mark ≡ 0) mark c.tell-told.result c.args.reader.now c.learned.new.reader c.learned.ensures c.tell-told.ensures.told (c.tell-told.ensures.some mark) free in
     let seen : ShelfHas c.leave.new.turn.0.seen c.learned.new.reader.seen = subst (λ J. ShelfHas J c.learned.new.reader.seen) (sym (c.leave.ensures.seen ∙ c.line_up.ensures.events)) p in
     seen
 

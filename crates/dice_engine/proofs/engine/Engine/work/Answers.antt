@@ -1,4 +1,4 @@
-use Rattle.std.proofs.Common.{◌≡◌, [], sym, subst}
+use Rattle.std.proofs.Common.{◌≡◌, [], subst}
 use Rattle.dice_core.specs.Cores.{IsJobOut}
 use Rattle.dice_engine.specs.Seats.{seated, found_empty}
 use Rattle.dice_engine.specs.Turns.{Works, Later, rests, works}

@@ -21,12 +21,12 @@ returns-clause-closes g c =
     (λ (s : CoreSeen g.row.U-Key.Denot g.row.U-Value.Denot). (o : Opened) × (open_at (reverse (events_of s)) t ≡ Some o) × Adds eq m o.by (events_of s) (events_of c.close.new.self) (Closes o.by t o.version))
     (core_same (c.bench.view_is ∙ c.deref_mut-bench.ensures.value))
     (let l = c.close.ensures.log in
-    (l.0, l.2, closes eq m (events_of c.bench.inside.core) (events_of c.close.new.self) c.settled-newest.ensures.lawful l.0.by t l.0.version l.1 l.3))
+    (l.0, l.2, closes eq m (events_of c.bench.inside.core) (events_of c.close.new.self) c.settled-mark.ensures.lawful l.0.by t l.0.version l.1 l.3))
 
-pub settled-newest-requires-after_bounds : goal.settled-newest-requires-after_bounds
-settled-newest-requires-after_bounds g c κs within = λ b e.
+pub settled-mark-requires-after_bounds : goal.settled-mark-requires-after_bounds
+settled-mark-requires-after_bounds g c κs within = λ b e.
     let J = events_of c.bench.inside.core in
-    follows J _ _ b.value (subst (λ (s : CoreSeen g.row.U-Key.Denot g.row.U-Value.Denot). Keeps (events_of s) c.args.self.now.left.2 b.value) (sym (core_same (c.bench.view_is ∙ c.deref_mut-bench.ensures.value))) (c.args.self.now.shelved b e))
+    follows J _ _ b.value (subst (λ (s : CoreSeen g.row.U-Key.Denot g.row.U-Value.Denot). Keeps (events_of s) c.args.self.now.mark b.value) (sym (core_same (c.bench.view_is ∙ c.deref_mut-bench.ensures.value))) (c.args.self.now.shelved b e))
     (let l = c.close.ensures.log in grew_one J _ l.0.by l.0.version _ _ refl (are_dropped g.row.U-Value.Denot l.0.version l.1) l.3)
 
 pub invariant_of-bench : goal.invariant_of-bench

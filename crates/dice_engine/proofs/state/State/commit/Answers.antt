@@ -26,7 +26,7 @@ returns-clause-ok g c =
     (λ (s : CoreSeen g.row.U-Key.Denot g.row.U-Value.Denot). OnOk c.commit-result.result (Adds eq m c.args.by (events_of s) (events_of c.commit-result.new.self) (Commits eq veq m c.args.by (log_of (events_of s)) c.args.updater.now)))
     (core_same (c.bench.view_is ∙ c.deref_mut-bench.ensures.value))
     (map_ok c.commit-result.result _ _ c.commit-result.ensures.events
-    (λ e. commits eq m (events_of core) (events_of c.commit-result.new.self) c.settled-newest.ensures.lawful veq c.args.by core.cells c.args.updater.now
+    (λ e. commits eq m (events_of core) (events_of c.commit-result.new.self) c.settled-mark.ensures.lawful veq c.args.by core.cells c.args.updater.now
     (c.cells_are_the_inputs.ensures.newest (commits_of (past_of core)) core.cells c.in_order.ensures.cells.are)
     (e ∙ ap (λ ps. events_of core ++ event_of c.args.by (differing_of eq veq m core.cells ps)) c.pairs.ensures)))
 
@@ -37,12 +37,12 @@ returns-clause-err g c =
     subst
     (λ (s : CoreSeen g.row.U-Key.Denot g.row.U-Value.Denot). OnErr c.commit-result.result (Adds eq m c.args.by (events_of s) (events_of c.commit-result.new.self) AddsNothing))
     (core_same (c.bench.view_is ∙ c.deref_mut-bench.ensures.value))
-    (map_err c.commit-result.result _ _ c.commit-result.ensures.err (λ b. nothing eq m _ _ c.settled-newest.ensures.lawful c.args.by b.hands.events))
+    (map_err c.commit-result.result _ _ c.commit-result.ensures.err (λ b. nothing eq m _ _ c.settled-mark.ensures.lawful c.args.by b.hands.events))
 
-pub settled-newest-requires-after_bounds : goal.settled-newest-requires-after_bounds
-settled-newest-requires-after_bounds g c κs within = λ b e.
+pub settled-mark-requires-after_bounds : goal.settled-mark-requires-after_bounds
+settled-mark-requires-after_bounds g c κs within = λ b e.
     let J = events_of c.bench.inside.core in
-    follows J _ _ b.value (subst (λ (s : CoreSeen g.row.U-Key.Denot g.row.U-Value.Denot). Keeps (events_of s) c.args.self.now.left.2 b.value) (sym (core_same (c.bench.view_is ∙ c.deref_mut-bench.ensures.value))) (c.args.self.now.shelved b e))
+    follows J _ _ b.value (subst (λ (s : CoreSeen g.row.U-Key.Denot g.row.U-Value.Denot). Keeps (events_of s) c.args.self.now.mark b.value) (sym (core_same (c.bench.view_is ∙ c.deref_mut-bench.ensures.value))) (c.args.self.now.shelved b e))
     (on_either c.commit-result.result _ _ _ c.commit-result.ensures.events c.commit-result.ensures.err (λ e. grew_commit J _ c.args.by _ e) (λ h. grew_nothing J _ h.hands.events))
 
 pub invariant_of-bench : goal.invariant_of-bench

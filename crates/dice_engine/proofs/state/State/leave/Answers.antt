@@ -33,16 +33,16 @@ returns-clause-leaves g c =
           (let l = w.leave.ensures.log in
           let r = closed c.in_order.ensures.lawful l.0 l.3 in
           let o = subst (λ x. open_at (reverse J) x ≡ Some l.1) r.0 l.4 in
-          leaves_live eq m J (events_of c.if-stands.core) c.settled-newest.ensures.lawful n p.ask p.opened p.version l.0 l.1 l.2 r.0 (own c.in_order.ensures.lawful l.0 l.3) (given c.in_order.ensures.lawful l.1 o).3 l.4 (ap events_of w.core-is ∙ l.5))
+          leaves_live eq m J (events_of c.if-stands.core) c.settled-mark.ensures.lawful n p.ask p.opened p.version l.0 l.1 l.2 r.0 (own c.in_order.ensures.lawful l.0 l.3) (given c.in_order.ensures.lawful l.1 o).3 l.4 (ap events_of w.core-is ∙ l.5))
       | else-stands w ↦
-          leaves_gone eq m J (events_of c.if-stands.core) c.settled-newest.ensures.lawful n p.ask p.opened p.version (given c.in_order.ensures.lawful) (sym c.stands.ensures ∙ w.if-stands.false) (ap events_of w.core-is)
+          leaves_gone eq m J (events_of c.if-stands.core) c.settled-mark.ensures.lawful n p.ask p.opened p.version (given c.in_order.ensures.lawful) (sym c.stands.ensures ∙ w.if-stands.false) (ap events_of w.core-is)
     ])
     c.requires.open c.requires.closed
 
-pub settled-newest-requires-after_bounds : goal.settled-newest-requires-after_bounds
-settled-newest-requires-after_bounds g c κs within = λ b e.
+pub settled-mark-requires-after_bounds : goal.settled-mark-requires-after_bounds
+settled-mark-requires-after_bounds g c κs within = λ b e.
     let J = events_of c.bench.inside.core in
-    follows J _ _ b.value (subst (λ (s : CoreSeen g.row.U-Key.Denot g.row.U-Value.Denot). Keeps (events_of s) c.args.self.now.left.2 b.value) (sym (core_same (c.bench.view_is ∙ c.deref_mut-bench.ensures.value))) (c.args.self.now.shelved b e))
+    follows J _ _ b.value (subst (λ (s : CoreSeen g.row.U-Key.Denot g.row.U-Value.Denot). Keeps (events_of s) c.args.self.now.mark b.value) (sym (core_same (c.bench.view_is ∙ c.deref_mut-bench.ensures.value))) (c.args.self.now.shelved b e))
     (elim c.if-stands.branch [
       | then-stands w ↦ (let l = w.leave.ensures.log in grew_one J _ l.0.by l.1.version _ _ refl (are_dropped g.row.U-Value.Denot l.1.version l.2) (ap events_of w.core-is ∙ l.5))
       | else-stands w ↦ grew_nothing J _ (ap events_of w.core-is)

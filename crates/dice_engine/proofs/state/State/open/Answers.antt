@@ -16,7 +16,7 @@ returns-in_err-opened-clause-err g c =
     let eq = g.U.Key.PartialEq.eq in
     let m = g.U.Universe.meaning in
     subst (λ (s : CoreSeen g.row.U-Key.Denot g.row.U-Value.Denot). OnErr c.from_residual.result (Adds eq m c.args.by (events_of s) (events_of c.open-opened.new.self) AddsNothing)) (core_same (c.bench.view_is ∙ c.deref_mut-bench.ensures.value))
-    (always_err c.from_residual.result _ (nothing eq m _ _ c.settled-newest.ensures.lawful c.args.by c.in_err-opened.ensures.err.hands.events))
+    (always_err c.from_residual.result _ (nothing eq m _ _ c.settled-mark.ensures.lawful c.args.by c.in_err-opened.ensures.err.hands.events))
 
 pub returns-clause-named : goal.returns-clause-named
 returns-clause-named g c = search rules
@@ -26,12 +26,12 @@ returns-clause-ok g c =
     let eq = g.U.Key.PartialEq.eq in
     let m = g.U.Universe.meaning in
     subst (λ (s : CoreSeen g.row.U-Key.Denot g.row.U-Value.Denot). Adds eq m c.args.by (events_of s) (events_of c.open-opened.new.self) (Opens c.args.by (events_of s))) (core_same (c.bench.view_is ∙ c.deref_mut-bench.ensures.value))
-    (opens eq m _ _ c.settled-newest.ensures.lawful c.args.by c.in_ok-opened.ensures.events)
+    (opens eq m _ _ c.settled-mark.ensures.lawful c.args.by c.in_ok-opened.ensures.events)
 
-pub settled-newest-requires-after_bounds : goal.settled-newest-requires-after_bounds
-settled-newest-requires-after_bounds g c κs within = λ b e.
+pub settled-mark-requires-after_bounds : goal.settled-mark-requires-after_bounds
+settled-mark-requires-after_bounds g c κs within = λ b e.
     let J = events_of c.bench.inside.core in
-    follows J _ _ b.value (subst (λ (s : CoreSeen g.row.U-Key.Denot g.row.U-Value.Denot). Keeps (events_of s) c.args.self.now.left.2 b.value) (sym (core_same (c.bench.view_is ∙ c.deref_mut-bench.ensures.value))) (c.args.self.now.shelved b e))
+    follows J _ _ b.value (subst (λ (s : CoreSeen g.row.U-Key.Denot g.row.U-Value.Denot). Keeps (events_of s) c.args.self.now.mark b.value) (sym (core_same (c.bench.view_is ∙ c.deref_mut-bench.ensures.value))) (c.args.self.now.shelved b e))
     (on_either c.open-opened.result _ _ _ c.open-opened.ensures.events c.open-opened.ensures.err (λ e. grew_one J _ c.args.by 0 _ [] refl tt e) (λ h. grew_nothing J _ h.hands.events))
 
 pub invariant_of-bench : goal.invariant_of-bench

@@ -41,9 +41,9 @@ returns-clause-reply g c =
     let some = some_open eq m J c.in_order.ensures.lawful p.version p.ask a.0 a.1 (asked c.in_order.ensures.lawful a.0 a.1).2 in
     let counted = subst (λ n. 0 < n) (sym (c.in_order.ensures.counts p.version)) some in
     subst
-    (λ (s : CoreSeen g.row.U-Key.Denot g.row.U-Value.Denot). IsReply eq m (events_of s) p.version k p.ask (left_of c.args.self.now.left.2 s) (reply_of c.answer_of.result))
+    (λ (s : CoreSeen g.row.U-Key.Denot g.row.U-Value.Denot). IsReply eq m (events_of s) p.version k p.ask (left_of c.args.self.now.mark s) (reply_of c.answer_of.result))
     (core_same (c.bench.view_is ∙ c.deref-bench.ensures))
-    (told_so eq m J p.version k p.ask c.args.self.now.left.2 core.desk.ready core.desk.out live (came_of c.poll.result)
+    (told_so eq m J p.version k p.ask c.args.self.now.mark core.desk.ready core.desk.out live (came_of c.poll.result)
     (λ i. (cell_at eq m core.cells p.version k, c.poll.ensures.exact ∙ injected_value (m.kind k) _ (cell_at eq m core.cells p.version k) (held_to (held_in eq core p.version k)) i counted))
     c.poll.ensures.value c.poll.ensures.cycle (λ i. c.poll.ensures.decided some i) c.poll.ensures.lost c.poll.ensures.quiet
     (came_of c.poll.result) refl (reply_of c.answer_of.result) c.answer_of.ensures)

@@ -27,10 +27,10 @@ pub returns-clause-home : goal.returns-clause-home
 returns-clause-home g c = subst (λ (s : CoreSeen g.row.U-Key.Denot g.row.U-Value.Denot). ComesHome g.U.Key.PartialEq.eq g.U.Universe.meaning g.U.Value.PartialEq.eq c.args.came s c.take_in.new.core) (core_same (c.bench.view_is ∙ c.deref_mut-bench.ensures.value))
     c.take_in.ensures.home
 
-pub settled-newest-requires-after_bounds : goal.settled-newest-requires-after_bounds
-settled-newest-requires-after_bounds g c κs within = λ b e.
+pub settled-mark-requires-after_bounds : goal.settled-mark-requires-after_bounds
+settled-mark-requires-after_bounds g c κs within = λ b e.
     let J = events_of c.bench.inside.core in
-    follows J _ _ b.value (subst (λ (s : CoreSeen g.row.U-Key.Denot g.row.U-Value.Denot). Keeps (events_of s) c.args.self.now.left.2 b.value) (sym (core_same (c.bench.view_is ∙ c.deref_mut-bench.ensures.value))) (c.args.self.now.shelved b e))
+    follows J _ _ b.value (subst (λ (s : CoreSeen g.row.U-Key.Denot g.row.U-Value.Denot). Keeps (events_of s) c.args.self.now.mark b.value) (sym (core_same (c.bench.view_is ∙ c.deref_mut-bench.ensures.value))) (c.args.self.now.shelved b e))
     (grew_work J _ c.take_in.ensures.works)
 
 pub invariant_of-bench : goal.invariant_of-bench

@@ -9,10 +9,9 @@ pub invariant_of-self-2 : goal.invariant_of-self-2
 invariant_of-self-2 g c =
     let J = events_of c.args.self.now.bench.value.core in
     record {
-      counted = c.args.self.now.counted;
       numbered = c.args.self.now.numbered;
-      shelved = λ x e. subst (λ y. Keeps J c.args.self.now.left.2 y.value) (same_Some _ _ e)
-          (subst (λ (b : LedgeView g.row.U-Key.Denot g.row.U-Value.Denot). Keeps J c.args.self.now.left.2 b) (sym (c.told.ensures.same ∙ c.deref_mut.ensures.value)) (c.args.self.now.shelved c.in-Some.shelf c.in-Some.is));
+      shelved = λ x e. subst (λ y. Keeps J c.args.self.now.mark y.value) (same_Some _ _ e)
+          (subst (λ (b : LedgeView g.row.U-Key.Denot g.row.U-Value.Denot). Keeps J c.args.self.now.mark b) (sym (c.told.ensures.same ∙ c.deref_mut.ensures.value)) (c.args.self.now.shelved c.in-Some.shelf c.in-Some.is));
       bare = λ e. absurd (none-some _ (sym e));
     }
 

@@ -1,4 +1,4 @@
-use Rattle.std.proofs.Common.{◌≡◌, ◌∙◌, Some, Err, ap, subst, arith}
+use Rattle.std.proofs.Common.{◌∙◌, Err, ap, subst, arith}
 use Rattle.std.specs.Arc.{arc_value}
 use Rattle.shelf.specs.Ops.{row_at}
 use Rattle.action_digest.specs.Same.{key_equal}

@@ -1,4 +1,4 @@
-use Rattle.std.proofs.Common.{◌≡◌, ◌∙◌, Some, refl, ap, subst}
+use Rattle.std.proofs.Common.{refl, subst}
 use Rattle.dice_run.proofs.Turning.{turn_rests}
 use Rattle.dice_run.proofs.Looks.{SeesIf, sees_told, newest_on}
 use Rattle.dice_run.proofs.outlook.Outlook.tell.Goals as goal
