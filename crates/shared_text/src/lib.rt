@@ -1,6 +1,7 @@
 //! Texts that are kept once and shared, for keys and values.
 #![tactic(auto)]
 
+mod bytes;
 mod laws;
 mod text;
 

@@ -6,15 +6,12 @@ ghost use Rattle.std.specs.Cmp.Lexicographic.{pointwise, slice_cmp, nat_list_eq_
 ghost use Rattle.std.specs.Cmp.{partial_equiv_from_equiv};
 ghost use Rattle.shared_text.specs.Texts.{hash_of, hash_of_equal};
 
-use smallvec::SmallVec;
+use crate::bytes::Bytes;
 use std::alloc::{AllocError, Global};
 use std::cmp::Ordering;
 use std::hash::{DefaultHasher, Hash, Hasher};
 use std::marker::Model;
 use std::sync::Arc;
-
-/// Up to so many bytes lie beside their hash; more have a place of their own.
-const SHORT: usize = 16;
 
 /// Bytes that are kept once, with their hash beside them. A contract sees them as a list.
 ///
@@ -35,7 +32,7 @@ pub struct Text {
 #[derive(Drop)]
 struct Hashed {
     hash: u64,
-    bytes: SmallVec<u8, SHORT>,
+    bytes: Bytes,
 }
 
 impl Model for Text {
@@ -45,9 +42,9 @@ impl Model for Text {
 
     ghost Value = { List ℕ };
 
-    ghost view = { λ t. (arc_value t.shared).bytes.items };
+    ghost view = { λ t. (arc_value t.shared).bytes };
 
-    ghost invariant = { λ t. (arc_value t.shared).hash ≡ hash_of (arc_value t.shared).bytes.items };
+    ghost invariant = { λ t. (arc_value t.shared).hash ≡ hash_of (arc_value t.shared).bytes };
 }
 
 fn hash_of(bytes: &[u8]) -> u64
@@ -64,18 +61,18 @@ impl Text {
     pub fn new(alloc: Global, bytes: Vec<u8>) -> Result<Text, AllocError>
         ensures { IfOk result (λ t. t ≡ bytes.items) }
     {
-        Text::of(alloc, SmallVec::from_vec(bytes))
+        Text::of(alloc, Bytes::new(bytes))
     }
 
     /// The text of a copy of these bytes. Up to 16 of them take one allocation, and more take two.
     pub fn from_slice(alloc: Global, bytes: &[u8]) -> Result<Text, AllocError>
         ensures { IfOk result (λ t. t ≡ bytes.now) }
     {
-        Text::of(alloc, SmallVec::from_slice(alloc, bytes)?)
+        Text::of(alloc, Bytes::from_slice(alloc, bytes)?)
     }
 
-    fn of(alloc: Global, bytes: SmallVec<u8, SHORT>) -> Result<Text, AllocError>
-        ensures { IfOk result (λ t. t ≡ bytes.items) }
+    fn of(alloc: Global, bytes: Bytes) -> Result<Text, AllocError>
+        ensures { IfOk result (λ t. t ≡ bytes) }
     {
         let hash = hash_of(bytes.as_slice());
         let shared = Arc::new(alloc, Hashed { hash, bytes })?;
@@ -104,7 +101,7 @@ impl PartialEq for Text {
     ghost laws = { partial_equiv_from_equiv nat_list_eq_equiv };
 
     fn eq(&self, other: &Text) -> bool {
-        self.shared.hash == other.shared.hash && self.as_bytes() == other.as_bytes()
+        self.shared.hash == other.shared.hash && self.shared.bytes.is_same(&other.shared.bytes)
     }
 }
 
