@@ -1,5 +1,5 @@
 -- The table of names after a change, and the number of a call.
-use Rattle.std.proofs.Common.{◌≡◌, ◌<◌, ◌≤◌, ◌+◌, ◌∙◌, sym, ap, refl, subst, inl, inr, ℕ, Bool, true, false, List, [], ◌∷◌, ◌++◌, Option, Some, None, if◌then◌else◌, ◌||◌, nat_lt, ◌↔◌, length, map, arith}
+use Rattle.std.proofs.Common.{◌≡◌, ◌<◌, ◌≤◌, ◌+◌, ◌∙◌, sym, ap, refl, subst, inl, inr, ℕ, Bool, true, false, not, List, [], ◌∷◌, ◌++◌, Option, Some, None, if◌then◌else◌, ◌||◌, nat_lt, ◌↔◌, length, map, arith}
 use Rattle.std.specs.List.{list_any}
 use Rattle.std.specs.Str.{bytes_eq}
 use Rattle.std.specs.Cmp.Lexicographic.{nat_list_eq_equiv, bytes_decides}
@@ -17,7 +17,8 @@ use Rattle.target_file.specs.Seen.{argument_of, arguments_of, call_of}
 use Rattle.target_file.specs.Calls.{Value, One, Many, Argument, Call}
 use borrow.Author.Tests.{ltb-true, ltb-false}
 use Rattle.target_file.specs.Files.{name_in, names_in, names}
-use Rattle.target_file.specs.Names.{gives_name, is_named, number_from}
+use Rattle.target_file.specs.Names.{other_than, number_in, gives_name, is_named, number_from}
+use Rattle.target_file.specs.declared.names.Named.{Named}
 use Rattle.target_file.specs.Machine.{IsFresh}
 use Rattle.target_file.proofs.Spelled.{names_in_end}
 use Rattle.target_file.proofs.Having.{has_either}
@@ -45,6 +46,24 @@ added key m n w h q = elim (cases_Bool (bytes_eq key.items q)) [
       rw f (others _ _ m.entries n.entries h.3 (λ k. is_eq (slice_cmp nat_cmp q k.items)) (key_test q)
       (λ k t. is_eq-slice_cmp q k.items ∙ apart key.items q k.items f (sym (is_eq-slice_cmp key.items k.items) ∙ t)))
 ]
+
+-- what a table has for a name that is put beside another one of its hash
+module _ (name : List ℕ) (first : List ℕ → Option Named) where
+  passed : (n : Option Named) (new : Option ℕ) → true ≡ other_than name n → number_in name n new ≡ new
+  passed None new e = absurd cc
+  passed (Some n) new e = elim (cases_Bool (bytes_eq n.name name)) [
+    | inl t ↦ (let k : true ≡ false = e ∙ ap not t in absurd cc)
+    | inr f ↦ rw f refl
+  ]
+
+  pub put_beside : (q : List ℕ) (number : ℕ) (new old : Option ℕ) → true ≡ other_than name (first name) → new ≡ (if bytes_eq name q then Some number else old)
+      → number_in q (first q) new ≡ (if bytes_eq name q then Some number else number_in q (first q) old)
+  put_beside q number new old another is = elim (cases_Bool (bytes_eq name q)) [
+    | inl t ↦
+        rw t (subst (λ (l : List ℕ). number_in l (first l) new ≡ Some number) ((bytes_decides name q).0 t)
+        (passed (first name) new another ∙ (let k : new ≡ (if bytes_eq name q then Some number else old) = is in rw t at k)))
+    | inr f ↦ rw f (ap (number_in q (first q)) (let k : new ≡ (if bytes_eq name q then Some number else old) = is in rw f at k))
+  ]
 
 -- names among others
 any_end : (q : List ℕ) (xs ys : List (List ℕ)) → list_any (bytes_eq q) (xs ++ ys) ≡ (list_any (bytes_eq q) xs || list_any (bytes_eq q) ys)

@@ -1,7 +1,5 @@
 -- What the code's values are seen as.
-use Rattle.std.specs.Prelude.{ℕ, List, map, Option}
-use Rattle.std.specs.Option.{option_map}
-use Rattle.std.specs.declared.vec.Vec.{Vec}
+use Rattle.std.specs.Prelude.{List, map}
 use Rattle.target_file.specs.declared.call.Value.{Value}
 use Rattle.target_file.specs.declared.call.Value.TheVariants as value
 use Rattle.target_file.specs.declared.call.Argument.{Argument}
@@ -9,7 +7,7 @@ use Rattle.target_file.specs.declared.call.Call.{Call}
 use Rattle.target_file.specs.Calls as calls
 
 abbrev pub value_of : Value → calls.Value
-value_of (value.One v) = calls.One v.items
+value_of (value.One v) = calls.One v
 value_of (value.Many vs) = calls.Many vs.items
 
 abbrev pub argument_of : Argument → calls.Argument
@@ -20,7 +18,3 @@ arguments_of given = map argument_of given
 
 abbrev pub call_of : Call → calls.Call
 call_of c = record { line = c.line; rule = c.rule; arguments = arguments_of c.arguments.items }
-
--- the bytes that are there, if any
-abbrev pub shown : {A : Type 0} → Option (Vec ℕ A) → Option (List ℕ)
-shown o = option_map (λ v. v.items) o

@@ -19,7 +19,7 @@ use crate::label_text::LabelText;
 use crate::source::{Source, Sources};
 use crate::strings::{is_label_like, label_in, opens};
 use crate::table::{Attribute, Rule};
-use buck_label::{Path, Refused, Text};
+use buck_label::{Path, Text};
 use std::alloc::Global;
 
 /// The value that is given for an attribute.
@@ -35,16 +35,35 @@ fn given(arguments: &[Argument], attribute: Attribute) -> Option<&Value>
     None
 }
 
-/// The string that is given for an attribute, or the default.
-pub fn text_of<'a>(arguments: &'a [Argument], attribute: Attribute, default: &'a [u8]) -> &'a [u8]
-    ensures { result.now
-        ≡ text_in
-        (option_or (given attribute (arguments_of arguments.now)) (Some (One default.now))) }
+/// The string that is given for an attribute, or an empty one. It is shared, not copied.
+pub fn text_given(
+    alloc: Global,
+    arguments: &[Argument],
+    attribute: Attribute,
+) -> Result<Text, NoMemory>
+    ensures { IfOk result
+        (λ t. t ≡ text_or attribute (arguments_of arguments.now) []) }
 {
     match given(arguments, attribute) {
-        Some(Value::One(text)) => text,
-        Some(Value::Many(_)) => &[],
-        None => default,
+        Some(Value::One(text)) => Ok(text.try_clone()?),
+        _ => Ok(Text::from_slice(alloc, b"")?),
+    }
+}
+
+/// The string that is given for an attribute, or the default. It is shared, not copied.
+fn text_of(
+    alloc: Global,
+    arguments: &[Argument],
+    attribute: Attribute,
+    default: &Text,
+) -> Result<Text, NoMemory>
+    ensures { IfOk result
+        (λ t. t ≡ text_or attribute (arguments_of arguments.now) default.now) }
+{
+    match given(arguments, attribute) {
+        Some(Value::One(text)) => Ok(text.try_clone()?),
+        Some(Value::Many(_)) => Ok(Text::from_slice(alloc, b"")?),
+        None => Ok(default.try_clone()?),
     }
 }
 
@@ -59,16 +78,27 @@ pub fn list_of(arguments: &[Argument], attribute: Attribute) -> &[Text]
     }
 }
 
-/// The path of this text.
-pub fn path_of(alloc: Global, text: &[u8]) -> Result<Path, NoMemory>
+/// The path of this text, which it shares.
+pub fn path_of(text: &Text) -> Result<Path, NoMemory>
     requires { IsPath text.now }
     ensures { IfOk result (λ p. p ≡ text.now) }
 {
-    match Path::read(alloc, text) {
-        Ok(path) => Ok(path),
-        Err(Refused::NoMemory) => Err(NoMemory),
-        Err(Refused::Bad) => unreachable!(),
-    }
+    Ok(Path::of_text(text)?)
+}
+
+/// The path that is given for an attribute, or the default.
+fn path_or(
+    alloc: Global,
+    arguments: &[Argument],
+    attribute: Attribute,
+    default: &Text,
+) -> Result<Path, NoMemory>
+    requires { IsPath (text_or attribute (arguments_of arguments.now) default.now) }
+    ensures { IfOk result
+        (λ p. p ≡ text_or attribute (arguments_of arguments.now) default.now) }
+{
+    let text = text_of(alloc, arguments, attribute, default)?;
+    path_of(&text)
 }
 
 /// The texts of a list.
@@ -83,23 +113,22 @@ pub fn texts_of(alloc: Global, items: &[Text]) -> Result<Vec<Text>, NoMemory>
 }
 
 /// The source that a string names.
-fn source_of(alloc: Global, text: &Text) -> Result<Source, NoMemory>
+fn source_of(text: &Text) -> Result<Source, NoMemory>
     requires { IsSource text.now }
     ensures { IfOk result (λ s. s ≡ source_of text.now) }
 {
-    let bytes = text.as_bytes();
-    if is_label_like(bytes) {
+    if is_label_like(text.as_bytes()) {
         return Ok(Source::Label(LabelText::of(text.try_clone()?)));
     }
-    Ok(Source::Path(path_of(alloc, bytes)?))
+    Ok(Source::Path(path_of(text)?))
 }
 
 /// Adds the source that a string names.
-fn add_source(alloc: Global, sources: &mut Vec<Source>, text: &Text) -> Result<(), NoMemory>
+fn add_source(sources: &mut Vec<Source>, text: &Text) -> Result<(), NoMemory>
     requires { IsSource text.now }
     ensures { OnOk result (sources.new.items ≡ sources.old.items ++ source_of text.now ∷ []) }
 {
-    sources.push(source_of(alloc, text)?)?;
+    sources.push(source_of(text)?)?;
     Ok(())
 }
 
@@ -110,7 +139,7 @@ fn sources_of(alloc: Global, items: &[Text]) -> Result<Sources, NoMemory>
 {
     let mut sources = Vec::with_capacity(alloc, items.len())?;
     for item in items {
-        add_source(alloc, &mut sources, item)?;
+        add_source(&mut sources, item)?;
     }
     Ok(Sources::of(sources))
 }
@@ -131,33 +160,32 @@ fn locations_of(alloc: Global, text: &[u8]) -> Result<Vec<LabelText>, NoMemory>
 }
 
 /// The command of this text.
-fn command_of(alloc: Global, text: &[u8]) -> Result<Command, NoMemory>
-    requires { IsCommand text.now }
-    ensures { IfOk result (λ c. c ≡ text.now) }
+fn command_of(alloc: Global, text: Text) -> Result<Command, NoMemory>
+    requires { IsCommand text }
+    ensures { IfOk result (λ c. c ≡ text) }
 {
-    let labels = locations_of(alloc, text)?;
-    let text = Text::from_slice(alloc, text)?;
+    let labels = locations_of(alloc, text.as_bytes())?;
     Ok(Command::of(text, labels))
 }
 
 /// What an `export_file` of this name does.
-fn export_file(alloc: Global, arguments: &[Argument], name: &[u8]) -> Result<Action, NoMemory>
+fn export_file(alloc: Global, arguments: &[Argument], name: &Text) -> Result<Action, NoMemory>
     requires src { IsPath (text_or Attribute.Src (arguments_of arguments.now) name.now) }
     requires out { IsPath (text_or Attribute.Out (arguments_of arguments.now) name.now) }
     ensures { IfOk result (λ a. a ≡ exported (arguments_of arguments.now) name.now) }
 {
-    let src = path_of(alloc, text_of(arguments, Attribute::Src, name))?;
-    let out = path_of(alloc, text_of(arguments, Attribute::Out, name))?;
+    let src = path_or(alloc, arguments, Attribute::Src, name)?;
+    let out = path_or(alloc, arguments, Attribute::Out, name)?;
     Ok(Action::ExportFile { src, out })
 }
 
 /// What a `write_file` of this name does.
-fn write_file(alloc: Global, arguments: &[Argument], name: &[u8]) -> Result<Action, NoMemory>
+fn write_file(alloc: Global, arguments: &[Argument], name: &Text) -> Result<Action, NoMemory>
     requires { IsPath (text_or Attribute.Out (arguments_of arguments.now) name.now) }
     ensures { IfOk result (λ a. a ≡ written (arguments_of arguments.now) name.now) }
 {
-    let content = Text::from_slice(alloc, text_of(arguments, Attribute::Content, b""))?;
-    let out = path_of(alloc, text_of(arguments, Attribute::Out, name))?;
+    let content = text_given(alloc, arguments, Attribute::Content)?;
+    let out = path_or(alloc, arguments, Attribute::Out, name)?;
     Ok(Action::WriteFile { content, out })
 }
 
@@ -170,8 +198,10 @@ fn genrule(alloc: Global, arguments: &[Argument]) -> Result<Action, NoMemory>
     ensures { IfOk result (λ a. a ≡ commanded (arguments_of arguments.now)) }
 {
     let srcs = sources_of(alloc, list_of(arguments, Attribute::Srcs))?;
-    let out = path_of(alloc, text_of(arguments, Attribute::Out, b""))?;
-    let cmd = command_of(alloc, text_of(arguments, Attribute::Cmd, b""))?;
+    let path = text_given(alloc, arguments, Attribute::Out)?;
+    let out = path_of(&path)?;
+    let command = text_given(alloc, arguments, Attribute::Cmd)?;
+    let cmd = command_of(alloc, command)?;
     Ok(Action::Genrule { srcs, out, cmd })
 }
 
@@ -183,17 +213,17 @@ pub fn action_of(alloc: Global, call: &Call) -> Result<Action, NoMemory>
         (value_of call.now.rule (arguments_of call.now.arguments.items))) }
 {
     let given = call.arguments.as_slice();
-    let name = text_of(given, Attribute::Name, b"");
+    let name = text_given(alloc, given, Attribute::Name)?;
     match call.rule {
-        Rule::ExportFile => export_file(alloc, given, name),
+        Rule::ExportFile => export_file(alloc, given, &name),
         Rule::Filegroup => {
             let srcs = sources_of(alloc, list_of(given, Attribute::Srcs))?;
             Ok(Action::Filegroup { srcs })
         }
-        Rule::WriteFile => write_file(alloc, given, name),
+        Rule::WriteFile => write_file(alloc, given, &name),
         Rule::Genrule => genrule(alloc, given),
         Rule::StampFile => {
-            let out = path_of(alloc, text_of(given, Attribute::Out, name))?;
+            let out = path_or(alloc, given, Attribute::Out, &name)?;
             Ok(Action::StampFile { out })
         }
     }

@@ -142,10 +142,10 @@ impl Progress {
         ensures { OnOk result
             (state_of self.new ≡ give (state_of self.old) attribute (One text.now)) }
     {
-        let kept = Vec::from_slice(self.alloc, text)?;
+        let kept = Text::from_slice(self.alloc, text)?;
         self.given.reserve(1)?;
         self.names
-            .note(self.alloc, attribute, text, self.calls.len())?;
+            .note(self.alloc, attribute, &kept, self.calls.len())?;
         self.given.push(Argument {
             attribute,
             value: Value::One(kept),

@@ -10,7 +10,7 @@ ghost use Rattle.target_file.specs.Laws.{target_equiv};
 use crate::action::Action;
 use crate::call::Call;
 use crate::fault::NoMemory;
-use crate::making::{action_of, list_of, path_of, text_of, texts_of};
+use crate::making::{action_of, list_of, path_of, text_given, texts_of};
 use crate::table::Attribute;
 use buck_label::{Path, Text};
 use std::alloc::Global;
@@ -93,7 +93,8 @@ impl Target {
             (λ t. t ≡ target_of (call_of call.now).rule (call_of call.now).arguments) }
     {
         let given = call.arguments.as_slice();
-        let name = path_of(alloc, text_of(given, Attribute::Name, b""))?;
+        let text = text_given(alloc, given, Attribute::Name)?;
+        let name = path_of(&text)?;
         let visibility = texts_of(alloc, list_of(given, Attribute::Visibility))?;
         let labels = texts_of(alloc, list_of(given, Attribute::Labels))?;
         let action = action_of(alloc, call)?;

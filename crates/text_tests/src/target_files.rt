@@ -78,7 +78,7 @@ const FILES: [(&[u8], usize); 15] = [
     ),
 ];
 
-const FAULTS: [(&[u8], u64); 43] = [
+const FAULTS: [(&[u8], u64); 44] = [
     // an attribute is missing: told at the parenthesis, or at the end
     (b"write_file(name = \"w\")\n", 1),
     (b"write_file(\n", 2),
@@ -152,6 +152,11 @@ const FAULTS: [(&[u8], u64); 43] = [
     (b"\n\0", 2),
     (b"\xef\xbb\xbf", 1),
     (b"\n\n,", 3),
+    // the second name of a hash comes again
+    (
+        b"stamp_file(name='head000000021936UfrwccmK00000000')stamp_file(name='head000000021936UfrwccmK00000001')\nstamp_file(name='head000000021936UfrwccmK00000001')",
+        2,
+    ),
 ];
 
 #[test]
@@ -212,6 +217,29 @@ fn targets_are_found_by_name(rt: HostRuntime) -> Result<(), Fail> {
     assert!(rt; file.target(b"v").is_none() && file.target(b"").is_none());
     assert!(rt; has_lines(&file, 1, 3));
     shared(&file);
+    Ok(())
+}
+
+// All names of such a head, with any eight bytes after it, have one hash in the table of a file.
+const ONE_HASH: &[u8] = b"stamp_file(name = 'head000000021936UfrwccmK00000000')
+stamp_file(name = 'head000000021936UfrwccmK00000001')
+stamp_file(name = 'w')
+stamp_file(name = 'head000000021936UfrwccmK00000002')
+";
+
+#[test]
+fn names_of_one_hash_are_told_apart(rt: HostRuntime) -> Result<(), Fail> {
+    let file = read(rt.alloc(), ONE_HASH)?;
+    let names: [(&[u8], bool); 5] = [
+        (b"head000000021936UfrwccmK00000000", true),
+        (b"head000000021936UfrwccmK00000001", true),
+        (b"head000000021936UfrwccmK00000002", true),
+        (b"head000000021936UfrwccmK00000003", false),
+        (b"w", true),
+    ];
+    for (name, found) in names {
+        assert!(rt; has_name(&file, name) == found);
+    }
     Ok(())
 }
 

@@ -11,11 +11,11 @@ use Rattle.lists.specs.Lists.{Has}
 
 pub path_of-requires : goal.path_of-requires
 path_of-requires c =
-    needed_path c.args.call.now.rule _ _ Name _ c.requires.each (first_needed c.args.call.now.rule (λ a. Has (attributes (arguments_of c.args.call.now.arguments.items)) a) c.requires.whole) (ap arguments_of c.as_slice-given.ensures.value) refl c.text_of.ensures
+    needed_path c.args.call.now.rule _ _ Name _ c.requires.each (first_needed c.args.call.now.rule (λ a. Has (attributes (arguments_of c.args.call.now.arguments.items)) a) c.requires.whole) (ap arguments_of c.as_slice-given.ensures.value) refl c.in_ok-text.ensures
 
 pub invariant_of-result : goal.invariant_of-result
 invariant_of-result c =
     let r = c.args.call.now.rule in
     let args = arguments_of c.args.call.now.arguments.items in
-    let p : IsPath c.text_of.result.now = needed_path r args _ Name _ c.requires.each (first_needed r (λ a. Has (attributes args) a) c.requires.whole) (ap arguments_of c.as_slice-given.ensures.value) refl c.text_of.ensures in
+    let p : IsPath c.in_ok-text.text = needed_path r args _ Name _ c.requires.each (first_needed r (λ a. Has (attributes args) a) c.requires.whole) (ap arguments_of c.as_slice-given.ensures.value) refl c.in_ok-text.ensures in
     (subst IsPath (sym c.in_ok-name.ensures) p, subst IsSound (sym c.in_ok-action.ensures) (sound r args c.requires.each c.requires.whole))
