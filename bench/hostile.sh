@@ -39,6 +39,17 @@ def of_file(text, *names):
 def calls(size):
     return of_file("".join(filled(size, lambda i: f'stamp_file(name = "t{i}")\n')), "t0")
 
+def calls_named(head, size):
+    names = filled(size * 2 // 3, lambda i: f"{head}{i:08}")
+    return of_file("".join(f'stamp_file(name = "{name}")\n' for name in names), names[0])
+
+# (by the library's own hasher any eight bytes after the first head lead to the same hash)
+def one_hash(size):
+    return calls_named("head000000021936UfrwccmK", size)
+
+def many_hashes(size):
+    return calls_named("head000000021936abcdefgh", size)
+
 def string(size):
     return of_file(f'write_file(name = "t0", content = "{"x" * size}")\n', "t0")
 
@@ -155,7 +166,7 @@ def comments_of_script(size):
     return "#\n" * (size // 2)
 
 inputs = [
-    ("20,000 calls and more", calls), ("one string", string), ("one string of escapes", escapes), ("a string without an end", open_string),
+    ("20,000 calls and more", calls), ("calls whose names have one hash", one_hash), ("calls of other such names", many_hashes), ("one string", string), ("one string of escapes", escapes), ("a string without an end", open_string),
     ("one list of one source", sources), ("one list of sources that are not there", other_sources), ("one list of empty labels", labels),
     ("a command of locations", locations), ("a command of beginnings of locations", dollars), ("a command of quotes", quotes),
     ("comments of one byte", comments), ("one comment", comment), ("blanks", blanks), ("paths of 255 bytes", deep),
