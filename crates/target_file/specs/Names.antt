@@ -1,5 +1,5 @@
 -- Which call has which name.
-use Rattle.std.specs.Prelude.{◌≡◌, ◌+◌, ℕ, Bool, false, not, if◌then◌else◌, List, [], ◌∷◌, Option, Some, None}
+use Rattle.std.specs.Prelude.{◌+◌, ℕ, Bool, false, not, if◌then◌else◌, List, [], ◌∷◌, Option, Some, None}
 use Rattle.std.specs.List.{list_any}
 use Rattle.std.specs.Str.{bytes_eq}
 use Rattle.std.specs.BTreeMap.{get, get_by}
@@ -30,8 +30,8 @@ abbrev pub other_than : List ℕ → Option Named → Bool
 other_than name None = false
 other_than name (Some n) = not (bytes_eq n.name name)
 
-abbrev pub IsElse : ℕ → List ℕ → Names → Bool → Type 0
-IsElse h name n b = b ≡ other_than name (get nat_cmp n.first h)
+abbrev pub has_other : Names → ℕ → List ℕ → Bool
+has_other n h name = other_than name (get nat_cmp n.first h)
 
 -- whether the argument, or one of them, gives this name
 abbrev pub gives_name : List ℕ → Attribute → Value → Bool

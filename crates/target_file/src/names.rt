@@ -1,7 +1,7 @@
 //! Which call has which name.
-ghost use Rattle.std.specs.Prelude.{◌≡◌, List, ℕ, None, Some, true, false, IfSome, OnOk, OnErr, if◌then◌else◌};
+ghost use Rattle.std.specs.Prelude.{◌≡◌, List, ℕ, None, Some, OnOk, OnErr, if◌then◌else◌};
 ghost use Rattle.std.specs.Str.{bytes_eq};
-ghost use Rattle.target_file.specs.Names.{hash_of, number_of, gives_name, IsElse};
+ghost use Rattle.target_file.specs.Names.{hash_of, has_other, number_of, gives_name};
 ghost use Rattle.target_file.specs.Calls.{One};
 
 use crate::fault::NoMemory;
@@ -79,7 +79,7 @@ impl Names {
 
     /// Whether a hash has another name as its first one.
     fn has_other(&self, hash: u64, name: &[u8]) -> bool
-        ensures { IsElse hash name.now self.now result }
+        ensures { result ≡ has_other self.now hash name.now }
     {
         match self.first.get(&hash) {
             Some(named) => named.name.as_bytes() != name,
