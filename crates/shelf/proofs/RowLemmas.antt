@@ -1,18 +1,19 @@
--- The hash map of a copy agrees with its list as both grow.
-use Rattle.std.proofs.Common.{◌≡◌, Bool, true, false, cond, ◌&&◌, ℕ, List, [], ◌∷◌, ◌++◌, refl, sym, ap, ◌∙◌, true≢false, map, Result, Ok, Err, OnOk, Option, None, Some, is_some, unwrap_or, nat_eq, if◌then◌else◌}
+-- The hash map of a copy agrees with the list of all operations as both grow.
+use Rattle.std.proofs.Common.{◌≡◌, Bool, true, false, cond, ◌&&◌, ℕ, ◌+◌, ◌≤◌, List, [], ◌∷◌, ◌++◌, length, take, drop, refl, sym, ap, subst, ◌∙◌, true≢false, map, append_assoc, Result, Ok, Err, Option, None, Some, is_some, nat_eq, if◌then◌else◌, arith}
+use Rattle.std.proofs.lemmas.List.{take-append-le, drop-append-le, take_all, drop_all, length-append, map-append}
 use Rattle.std.proofs.lemmas.Option.{none-some, same_Some}
 use Rattle.std.specs.Arc.{arc_value}
 use Rattle.std.specs.declared.sync.Arc.{Arc}
 use Rattle.std.specs.Cmp.{IsEquivalence, unsigned_Decides, first_so, second_so}
 use Rattle.std.specs.Map.{lookup}
 use Rattle.std.specs.Option.{option_map, option_or}
-use Rattle.indexmap.specs.IndexMap.{IndexMap, get, insert_entry}
-use Rattle.indexmap.proofs.CallerLemmas.{insert_entry-new}
+use Rattle.indexmap.specs.IndexMap.{IndexMap, insert_entry}
 use Rattle.shelf.specs.declared.op.Plain.{Plain}
 use Rattle.shelf.specs.declared.op.Plain.TheVariants as bare
 use Rattle.shelf.specs.declared.row.RowKey.{RowKey}
-use Rattle.shelf.specs.Ops.{is_row, value_of, row_at}
-use Rattle.shelf.specs.Rows.{is_place, value_in, Agrees, AddsRow, Notes}
+use Rattle.shelf.specs.declared.store.Aside.{Aside}
+use Rattle.shelf.specs.Ops.{plain, is_row, value_of, row_at}
+use Rattle.shelf.specs.Rows.{is_place, value_in, Agrees, AddsRow, plain_row, woven, InOrder, IsNoNewRow, PutsRow, PutsNew}
 
 or_none : {V : Type 0} (x : Option V) → x ≡ option_or x None
 or_none None = refl
@@ -50,7 +51,7 @@ lookup_more test (e ∷ es) x y = by (test e.0) (lookup_more test es x y)
     by false h = h
 
 -- a key that has a value is given that value again
-same_again : {X Y : Type 0} (test : X → X → Bool) (es : List (X × Y)) (r : X) (z : Y) → lookup (test r) es ≡ Some z → insert_entry test es r z ≡ es
+pub same_again : {X Y : Type 0} (test : X → X → Bool) (es : List (X × Y)) (r : X) (z : Y) → lookup (test r) es ≡ Some z → insert_entry test es r z ≡ es
 same_again test [] r z e = absurd (none-some _ e)
 same_again test (p ∷ ps) r z e = by (test r p.0) (same_again test ps r z) e
   where
@@ -79,10 +80,6 @@ module _ {K V A : Type 0} (eq : K → K → Bool) where
   pub agrees_row : (v : ℕ) (k : K) (x : V) (es fs : List (RowKey K × Arc V A)) (ops : List (Plain K V)) → Agrees eq es ops → AddsRow eq v k x es fs → Agrees eq fs (ops ++ bare.Row v k x ∷ [])
   agrees_row v k x es fs ops h adds w q = adds w q ∙ (ap (λ o. option_or o (if nat_eq w v && eq q k then Some x else None)) (h w q) ∙ sym (row_more (eq q) w ops (bare.Row v k x)))
 
-  -- a commit is no row
-  pub agrees_commit : (c : List (K × V)) (es : List (RowKey K × Arc V A)) (ops : List (Plain K V)) → Agrees eq es ops → Agrees eq es (ops ++ bare.Commit c ∷ [])
-  agrees_commit c es ops h w q = h w q ∙ (or_none (row_at (eq q) w ops) ∙ sym (row_more (eq q) w ops (bare.Commit c)))
-
   -- if a row is there, it stays
   put_there : IsEquivalence eq → (v : ℕ) (k : K) (x : V) (es fs : List (RowKey K × Arc V A)) → is_some (lookup (is_place eq v k) es) ≡ true → fs ≡ es → AddsRow eq v k x es fs
   put_there laws v k x es fs there same w q = ap (value_in eq w q) same ∙ by (nat_eq w v && eq q k) refl
@@ -92,25 +89,64 @@ module _ {K V A : Type 0} (eq : K → K → Bool) where
       by true e = some_or (value_in eq w q es) (Some x) (map_is_some (λ z. arc_value z) (lookup (is_place eq w q) es) ∙ (ap is_some (lookup_alike (is_place eq w q) (is_place eq v k) (same_place eq laws v w k q e) es) ∙ there))
 
   -- if none is there, it is put in
-  new_row : {S : Type 0} (m : IndexMap (RowKey K) (Arc V A) S) (test : RowKey K → RowKey K → Bool) (r : RowKey K) (y : Arc V A) (fs : List (RowKey K × Arc V A)) → get test m r ≡ None
-      → fs ≡ insert_entry test m.entries r y → AddsRow eq r.version (arc_value r.key) (arc_value y) m.entries fs
-  new_row m test r y fs none is w q =
-      ap (value_in eq w q) (is ∙ insert_entry-new test m r y none)
-      ∙ (ap (option_map (λ z. arc_value z)) (lookup_more (is_place eq w q) m.entries r y) ∙ value_or (lookup (is_place eq w q) m.entries) (is_place eq w q r) y)
+  new_row : {S : Type 0} (m : IndexMap (RowKey K) (Arc V A) S) (r : RowKey K) (y : Arc V A) (fs : List (RowKey K × Arc V A)) → fs ≡ m.entries ++ (r, y) ∷ [] → AddsRow eq r.version (arc_value r.key) (arc_value y) m.entries fs
+  new_row m r y fs is w q =
+      ap (value_in eq w q) is ∙ (ap (option_map (λ z. arc_value z)) (lookup_more (is_place eq w q) m.entries r y) ∙ value_or (lookup (is_place eq w q) m.entries) (is_place eq w q r) y)
 
-  put_either : IsEquivalence eq → {S : Type 0} (m : IndexMap (RowKey K) (Arc V A) S) (r : RowKey K) (y : Arc V A) (fs : List (RowKey K × Arc V A)) → fs ≡ insert_entry (same_row eq) m.entries r (unwrap_or (get (same_row eq) m r) y)
-      → AddsRow eq r.version (arc_value r.key) (arc_value y) m.entries fs
-  put_either laws m r y fs is = by (get (same_row eq) m r) refl
-    where
-      by : (o : Option (Arc V A)) → get (same_row eq) m r ≡ o → AddsRow eq r.version (arc_value r.key) (arc_value y) m.entries fs
-      by None e = new_row m (same_row eq) r y fs e (is ∙ ap (λ o. insert_entry (same_row eq) m.entries r (unwrap_or o y)) e)
-      by (Some z) e = put_there laws r.version (arc_value r.key) (arc_value y) m.entries fs (ap is_some e) (is ∙ (ap (λ o. insert_entry (same_row eq) m.entries r (unwrap_or o y)) e ∙ same_again (same_row eq) m.entries r z e))
+  -- what is no new row changes nothing of the map
+  agrees_aside : IsEquivalence eq → (x : Plain K V) (es : List (RowKey K × Arc V A)) (ops : List (Plain K V)) → Agrees eq es ops → IsNoNewRow eq ops x → Agrees eq es (ops ++ x ∷ [])
+  agrees_aside laws (bare.Commit c) es ops h none w q = h w q ∙ (or_none (row_at (eq q) w ops) ∙ sym (row_more (eq q) w ops (bare.Commit c)))
+  agrees_aside laws (bare.Row v k x) es ops h there w q =
+      agrees_row v k x es es ops h (put_there laws v k x es es (sym (map_is_some (λ z. arc_value z) (lookup (is_place eq v k) es)) ∙ (ap is_some (h v k) ∙ there)) refl) w q
 
-  pub row_put : IsEquivalence eq → {S X Y : Type 0} (result : Result X Y) (m : IndexMap (RowKey K) (Arc V A) S) (r : RowKey K) (y : Arc V A) (fs : List (RowKey K × Arc V A)) (k : K) (x : V) → arc_value r.key ≡ k → arc_value y ≡ x
-      → OnOk result (fs ≡ insert_entry (same_row eq) m.entries r (unwrap_or (get (same_row eq) m r) y)) → OnOk result (AddsRow eq r.version k x m.entries fs)
-  row_put laws (Ok a) m r y fs k x of has h = λ w q. put_either laws m r y fs h w q ∙ (λ i. option_or (value_in eq w q m.entries) (if nat_eq w r.version && eq q (of i) then Some (has i) else None))
-  row_put laws (Err e) m r y fs k x of has h = tt
+module _ {K V : Type 0} where
+  within : (n end : ℕ) (os : List (Aside K V)) → InOrder n end os → n ≤ end
+  within n end [] h = h
+  within n end (o ∷ os) h = let rest = within o.after end os h.1 in omega arith
 
-  pub row_noted : {X Y : Type 0} (r : Result X Y) (v : ℕ) (k : K) (x : V) (es fs : List (RowKey K × Arc V A)) → OnOk r (AddsRow eq v k x es fs) → OnOk r (Notes eq (bare.Row v k x) es fs)
-  row_noted (Ok a) v k x es fs h = λ ops agrees. agrees_row v k x es fs ops agrees h
-  row_noted (Err e) v k x es fs h = tt
+  later : (n end : ℕ) (os : List (Aside K V)) → InOrder n end os → InOrder n (end + 1) os
+  later n end [] h = omega arith
+  later n end (o ∷ os) h = (h.0, later o.after end os h.1)
+
+  -- one more of the others stands last
+  one_more : (n end : ℕ) (os : List (Aside K V)) (o : Aside K V) → o.after ≡ end → InOrder n end os → InOrder n end (os ++ o ∷ [])
+  one_more n end [] o at h = (omega arith, omega arith)
+  one_more n end (p ∷ os) o at h = (h.0, one_more p.after end os o at h.1)
+
+module _ {K V A : Type 0} where
+  row_woven : (n : ℕ) (es : List (RowKey K × Arc V A)) (os : List (Aside K V)) (e : RowKey K × Arc V A) → InOrder n (length es) os → woven n (es ++ e ∷ []) os ≡ woven n es os ++ plain_row e ∷ []
+  row_woven n es [] e h = ap (map plain_row) (drop-append-le n es (e ∷ []) h) ∙ map-append plain_row (drop n es) (e ∷ [])
+  row_woven n es (o ∷ os) e h =
+      (λ i. map plain_row (drop n (take-append-le o.after es (e ∷ []) (within o.after (length es) os h.1) i)) ++ plain o.op ∷ row_woven o.after es os e h.1 i)
+      ∙ sym (append_assoc (map plain_row (drop n (take o.after es))) (plain o.op ∷ woven o.after es os) (plain_row e ∷ []))
+
+  pub other_woven : (n : ℕ) (es : List (RowKey K × Arc V A)) (os : List (Aside K V)) (o : Aside K V) → o.after ≡ length es → woven n es (os ++ o ∷ []) ≡ woven n es os ++ plain o.op ∷ []
+  other_woven n es [] o at =
+      λ i. map plain_row (drop n (take_all o.after es (omega arith) i)) ++ plain o.op ∷ map plain_row (drop_all o.after es (omega arith) i)
+  other_woven n es (p ∷ os) o at =
+      (λ i. map plain_row (drop n (take p.after es)) ++ plain p.op ∷ other_woven p.after es os o at i)
+      ∙ sym (append_assoc (map plain_row (drop n (take p.after es))) (plain p.op ∷ woven p.after es os) (plain o.op ∷ []))
+
+-- what holds of the two parts of a copy
+module _ {K V A : Type 0} (eq : K → K → Bool) where
+  abbrev pub Kept : List (RowKey K × Arc V A) → List (Aside K V) → Type 0
+  Kept es os = Agrees eq es (woven 0 es os) × InOrder 0 (length es) os
+
+  pub row_put : {S : Type 0} (r : Result (Option (Arc V A)) (Arc V A)) (m n : IndexMap (RowKey K) (Arc V A) S) (os : List (Aside K V)) (k : RowKey K) (x : Arc V A) → Kept m.entries os → PutsNew (same_row eq) k x r m n
+      → PutsRow eq k.version (arc_value k.key) x r (woven 0 m.entries os) (woven 0 n.entries os)
+  row_put (Ok None) m n os k x h put = ap (λ es. woven 0 es os) put.1 ∙ row_woven 0 m.entries os (k, x) h.1
+  row_put (Ok (Some y)) m n os k x h put =
+      (put.0, ap (λ es. woven 0 es os) put.2, ap is_some (sym (h.0 k.version (arc_value k.key))) ∙ (map_is_some (λ z. arc_value z) (lookup (same_row eq k) m.entries) ∙ put.1))
+  row_put (Err y) m n os k x h put = (put.0, ap (λ es. woven 0 es os) put.1)
+
+  pub row_kept : {S : Type 0} (r : Result (Option (Arc V A)) (Arc V A)) (m n : IndexMap (RowKey K) (Arc V A) S) (os : List (Aside K V)) (k : RowKey K) (x : Arc V A) → Kept m.entries os → PutsNew (same_row eq) k x r m n → Kept n.entries os
+  row_kept (Ok None) m n os k x h put = (
+    subst (Agrees eq n.entries) (sym (ap (λ es. woven 0 es os) put.1 ∙ row_woven 0 m.entries os (k, x) h.1)) (agrees_row eq k.version (arc_value k.key) (arc_value x) m.entries n.entries (woven 0 m.entries os) h.0 (new_row eq m k x n.entries put.1)),
+    subst (λ l. InOrder 0 l os) (sym (ap length put.1 ∙ length-append m.entries ((k, x) ∷ []))) (later 0 (length m.entries) os h.1),
+  )
+  row_kept (Ok (Some y)) m n os k x h put = subst (λ es. Kept es os) (sym put.2) h
+  row_kept (Err y) m n os k x h put = subst (λ es. Kept es os) (sym put.1) h
+
+  pub aside_kept : IsEquivalence eq → (es : List (RowKey K × Arc V A)) (os : List (Aside K V)) (o : Aside K V) → o.after ≡ length es → Kept es os → IsNoNewRow eq (woven 0 es os) (plain o.op) → Kept es (os ++ o ∷ [])
+  aside_kept laws es os o at h none =
+      (subst (Agrees eq es) (sym (other_woven 0 es os o at)) (agrees_aside eq laws (plain o.op) es (woven 0 es os) h.0 none), one_more 0 (length es) os o at h.1)

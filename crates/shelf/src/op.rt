@@ -1,6 +1,7 @@
 //! What is put on the shelf.
-ghost use Rattle.std.specs.Prelude.{◌≡◌, IfOk};
+ghost use Rattle.std.specs.Prelude.{◌≡◌, IfOk, MatchResult};
 ghost use Rattle.shelf.specs.Ops.{plain};
+ghost use Rattle.shelf.specs.declared.op.ShelfOp.TheVariants.{Commit, Row};
 
 use dice_key::NoMemory;
 use std::alloc::AllocError;
@@ -29,6 +30,17 @@ impl<K: Drop, V: Drop> Drop for ShelfOp<K, V> {
 }
 
 impl<K: Drop, V: Drop> ShelfOp<K, V> {
+    // What a row is made of, or the changes of a commit.
+    pub(crate) fn into_row(self) -> Result<(u64, Arc<K>, Arc<V>), Arc<Vec<(Arc<K>, Arc<V>)>>>
+        ensures { MatchResult result (λ row. self ≡ Row row.0 row.1 row.2)
+            (λ changes. self ≡ Commit changes) }
+    {
+        match self {
+            ShelfOp::Commit(changes) => Err(changes),
+            ShelfOp::Row(version, key, value) => Ok((version, key, value)),
+        }
+    }
+
     // The same operation, which shares what it holds.
     pub(crate) fn again(&self) -> Result<ShelfOp<K, V>, AllocError>
         ensures { IfOk result (λ x. plain x ≡ plain self.now) }

@@ -1,17 +1,14 @@
 //! The rows of a copy in one hash map, by version and key.
-ghost use Rattle.std.specs.Prelude.{◌≡◌, nat_eq, ◌&&◌, ◌++◌, unwrap_or, OnOk, OnErr};
+ghost use Rattle.std.specs.Prelude.{◌≡◌, nat_eq, ◌&&◌, ◌++◌};
 ghost use Rattle.std.specs.Arc.{arc_value};
 ghost use Rattle.std.specs.Cmp.{unsigned_Decides, first_so, second_so};
 ghost use Rattle.std.specs.Hash as fed;
 ghost use Rattle.std.specs.Option.{option_map};
-ghost use Rattle.indexmap.specs.IndexMap.{get, insert_entry};
-ghost use Rattle.shelf.specs.Ops.{plain};
-ghost use Rattle.shelf.specs.Rows.{Notes, PutsRow, row_of};
+ghost use Rattle.shelf.specs.Rows.{PutsNew, row_of};
 
-use crate::op::ShelfOp;
 use dice_key::Seed;
+use indexmap::map::Entry;
 use indexmap::{Equivalent, IndexMap};
-use std::alloc::AllocError;
 use std::hash::Hash;
 use std::sync::Arc;
 
@@ -42,53 +39,26 @@ impl<K: Eq + Hash> Equivalent<RowKey<K>> for (u64, &K) {
 
 pub(crate) type Rows<K, V> = IndexMap<RowKey<K>, Arc<V>, Seed>;
 
-// Puts a row in, unless there is one of its version and key.
-fn put_row<K: Eq + Hash + Drop, V: Drop>(
-    rows: &mut Rows<K, V>,
-    version: u64,
-    key: &Arc<K>,
-    value: &Arc<V>,
-) -> Result<(), AllocError>
-    ensures ok { OnOk result (PutsRow K.eq version key.now value.now rows.old rows.new) }
-    ensures err { OnErr result (rows.new.entries ≡ rows.old.entries) }
-{
-    let row = RowKey {
-        version,
-        key: Arc::try_clone(key)?,
-    };
-    put_first(rows, row, Arc::try_clone(value)?)
-}
-
-// Puts a value to a key that has none, by one look-up.
-fn put_first<Q: Eq + Hash + Drop, W: Drop>(
+/// Puts a value to a key that has none, by one look-up. For a key that has one it comes back, as it
+/// does if there is no memory.
+pub(crate) fn put_new<Q: Eq + Hash + Drop, W: Drop>(
     map: &mut IndexMap<Q, W, Seed>,
     key: Q,
     value: W,
-) -> Result<(), AllocError>
-    ensures ok { OnOk result (map.new.entries
-        ≡ insert_entry Q.eq map.old.entries key (unwrap_or (get Q.eq map.old key) value)) }
-    ensures err { OnErr result (map.new.entries ≡ map.old.entries) }
+) -> Result<Option<W>, W>
+    ensures { PutsNew Q.eq key value result map.old map.new }
 {
     match map.entry(key) {
-        Ok(place) => {
-            place.or_insert(value);
-            Ok(())
+        Ok(Entry::Vacant(place)) => {
+            place.insert(value);
+            Ok(None)
         }
-        Err(_) => Err(AllocError),
-    }
-}
-
-/// Takes in an operation: a row is put in, and a commit changes nothing.
-pub(crate) fn note<K: Eq + Hash + Drop, V: Drop>(
-    rows: &mut Rows<K, V>,
-    op: &ShelfOp<K, V>,
-) -> Result<(), AllocError>
-    ensures ok { OnOk result (Notes K.eq (plain op.now) rows.old.entries rows.new.entries) }
-    ensures err { OnErr result (rows.new.entries ≡ rows.old.entries) }
-{
-    match op {
-        ShelfOp::Commit(_) => Ok(()),
-        ShelfOp::Row(version, key, value) => put_row(rows, *version, key, value),
+        Ok(Entry::Occupied(place)) => {
+            // The entry stays as it is, and the proof has the map again.
+            place.into_mut();
+            Ok(Some(value))
+        }
+        Err(_) => Err(value),
     }
 }
 
