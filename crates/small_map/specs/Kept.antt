@@ -4,20 +4,19 @@ use Rattle.std.specs.List.{IsDistinct}
 use Rattle.std.specs.Map.{keys_of}
 use Rattle.std.specs.Global.{Global}
 use Rattle.std.specs.declared.sync.Arc.{Arc}
-use Rattle.indexmap.specs.IndexMap.{spare}
 use Rattle.small_map.specs.declared.map.Kept.{Kept}
 use Rattle.small_map.specs.declared.map.Kept.TheVariants.{Empty, Single, Many}
 
 abbrev pub entries_of : {T : Type 0} → Kept T → List (ℕ × Arc T Global)
 entries_of Empty = []
 entries_of (Single number value) = (number, value) ∷ []
-entries_of (Many map) = map.value.entries
+entries_of (Many many) = many.entries
 
 -- how many more numbers fit
 abbrev pub room_of : {T : Type 0} → Kept T → ℕ
 room_of Empty = 1
 room_of (Single number value) = 0
-room_of (Many map) = spare map.value
+room_of (Many many) = many.room
 
 -- no number stands twice
 abbrev pub AreApart : {T : Type 0} → Kept T → Type 0
@@ -27,16 +26,16 @@ AreApart k = IsDistinct nat_eq (keys_of (entries_of k))
 abbrev pub IsFew : {T : Type 0} → Kept T → Type 0
 IsFew Empty = Unit {0}
 IsFew (Single number value) = Unit {0}
-IsFew (Many map) = ⊥
+IsFew (Many many) = ⊥
 
 -- one entry is there, in the map itself
 abbrev pub IsSingle : {T : Type 0} → Kept T → Type 0
 IsSingle Empty = ⊥
 IsSingle (Single number value) = Unit {0}
-IsSingle (Many map) = ⊥
+IsSingle (Many many) = ⊥
 
--- a hash map has these entries, and room for n more
+-- a `Many` has these entries, and room for n more
 abbrev pub IsSpread : {T : Type 0} → List (ℕ × Arc T Global) → ℕ → Kept T → Type 0
 IsSpread es n Empty = ⊥
 IsSpread es n (Single number value) = ⊥
-IsSpread es n (Many map) = (map.value.entries ≡ es) × (n ≤ spare map.value)
+IsSpread es n (Many many) = (many.entries ≡ es) × (n ≤ many.room)

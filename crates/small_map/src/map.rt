@@ -3,19 +3,19 @@ ghost use Rattle.std.specs.Prelude.{◌≡◌, ◌+◌, ◌<◌, ◌≤◌, ◌+
 ghost use Rattle.std.specs.List.{IsDistinct};
 ghost use Rattle.std.specs.Map.{lookup, keys_of, values_of};
 ghost use Rattle.std.specs.Option.{option_to_list};
-ghost use Rattle.indexmap.specs.IndexMap.{spare};
 ghost use Rattle.small_map.specs.SmallMap.{Updates};
 ghost use Rattle.small_map.specs.Kept.{entries_of, AreApart, IsFew, IsSingle, IsSpread};
 ghost use Rattle.small_map.specs.declared.map.Kept.TheVariants.{Empty};
 
-use indexmap::IndexMap;
+use crate::many::Many;
 use std::alloc::{AllocError, Global};
 use std::marker::Model;
 use std::sync::Arc;
 use std::{mem, slice};
 
 /// A map from numbers to shared values. A single entry lies in the map itself and takes no memory;
-/// more lie in a hash map. A call takes constant time, but for growth.
+/// two lie in one block of memory, and more in a hash map. A call takes constant time, but for
+/// growth.
 #[derive(Drop)]
 pub struct SmallMap<T: Drop> {
     kept: Kept<T>,
@@ -26,7 +26,7 @@ pub struct SmallMap<T: Drop> {
 enum Kept<T: Drop> {
     Empty,
     Single { number: usize, value: Arc<T> },
-    Many(Box<IndexMap<usize, Arc<T>>>),
+    Many(Many<T>),
 }
 
 impl<T: Drop> Model for SmallMap<T> {
@@ -64,7 +64,7 @@ impl<T: Drop> SmallMap<T> {
         match &self.kept {
             Kept::Empty => &[],
             Kept::Single { number, .. } => slice::from_ref(number),
-            Kept::Many(map) => map.keys().as_slice(),
+            Kept::Many(many) => many.numbers(),
         }
     }
 
@@ -75,7 +75,7 @@ impl<T: Drop> SmallMap<T> {
         match &self.kept {
             Kept::Empty => &[],
             Kept::Single { value, .. } => slice::from_ref(value),
-            Kept::Many(map) => map.values().as_slice(),
+            Kept::Many(many) => many.values(),
         }
     }
 
@@ -99,7 +99,7 @@ impl<T: Drop> SmallMap<T> {
         match &self.kept {
             Kept::Empty => 1,
             Kept::Single { .. } => 0,
-            Kept::Many(map) => map.capacity() - map.len(),
+            Kept::Many(many) => many.room(),
         }
     }
 
@@ -117,7 +117,7 @@ impl<T: Drop> SmallMap<T> {
         let alloc = self.alloc;
         let kept = &mut self.kept;
         match kept {
-            Kept::Many(map) => map.reserve(additional),
+            Kept::Many(many) => many.reserve(additional),
             _ => spread(kept, alloc, additional),
         }
     }
@@ -152,7 +152,7 @@ impl<T: Drop> SmallMap<T> {
                 }
                 insert_beside(kept, alloc, number, value)
             }
-            Kept::Many(map) => insert_into(map, number, value),
+            Kept::Many(many) => many.insert(number, value),
         }
     }
 
@@ -176,7 +176,7 @@ impl<T: Drop> SmallMap<T> {
                 let (_, value) = take_single(kept);
                 Some(value)
             }
-            Kept::Many(map) => map.swap_remove(&number),
+            Kept::Many(many) => many.swap_remove(number),
         }
     }
 
@@ -196,21 +196,19 @@ impl<T: Drop> SmallMap<T> {
         match kept {
             Kept::Empty => None,
             Kept::Single { .. } => Some(take_single(kept)),
-            Kept::Many(map) => map.pop(),
+            Kept::Many(many) => many.pop(),
         }
     }
 }
 
-/// Puts the entry, if there is one, into a hash map with room for this many more numbers.
+/// Puts the entry, if there is one, into a `Many` with room for this many more numbers.
 fn spread<T: Drop>(kept: &mut Kept<T>, alloc: Global, additional: usize) -> Result<(), AllocError>
     requires few { IsFew kept.old }
     ensures ok { OnOk result (IsSpread (entries_of kept.old) additional kept.new) }
     ensures err { OnErr result (kept.new ≡ kept.old) }
 {
-    let wanted = additional.checked_add(1).ok_or(AllocError)?;
-    let mut map = IndexMap::new(alloc);
-    map.reserve(wanted)?;
-    let mut many = Box::new(alloc, map)?;
+    let wanted = additional.checked_add(count(kept)).ok_or(AllocError)?;
+    let mut many = Many::with_room(alloc, wanted)?;
     if is_single(kept) {
         let (number, value) = take_single(kept);
         many.insert(number, value).unwrap();
@@ -238,28 +236,21 @@ fn insert_beside<T: Drop>(
 {
     spread(kept, alloc, 1)?;
     match kept {
-        Kept::Many(map) => insert_into(map, number, value),
+        Kept::Many(many) => many.insert(number, value),
         _ => unreachable!(),
     }
 }
 
-/// Puts a value to a number of a hash map, and gives the value that was there.
-fn insert_into<T: Drop>(
-    map: &mut IndexMap<usize, Arc<T>>,
-    number: usize,
-    value: Arc<T>,
-) -> Result<Option<Arc<T>>, AllocError>
-    ensures old { IfOk result (λ old. old ≡ lookup (nat_eq number) map.old.entries) }
-    ensures updates { OnOk result (Updates map.old.entries map.new.entries number (Some value)) }
-    ensures len { IfOk result (λ old. length map.new.entries
-        ≡ length map.old.entries + (if is_some old then 0 else 1)) }
-    ensures err { OnErr result (map.new.entries ≡ map.old.entries) }
-    ensures absent { OnErr result (lookup (nat_eq number) map.old.entries ≡ None) }
-    ensures succeeds { 0 < spare map.old → IsOk result }
-    ensures room { spare map.old ≤ spare map.new + 1 }
-    ensures distinct { IsDistinct nat_eq (keys_of map.new.entries) }
+/// How many entries are there: none or one.
+fn count<T: Drop>(kept: &Kept<T>) -> usize
+    requires few { IsFew kept.now }
+    ensures { result ≡ length (entries_of kept.now) }
 {
-    Ok(map.insert(number, value)?)
+    match kept {
+        Kept::Empty => 0,
+        Kept::Single { .. } => 1,
+        Kept::Many(_) => unreachable!(),
+    }
 }
 
 fn single<T: Drop>(number: usize, value: Arc<T>) -> Kept<T>
