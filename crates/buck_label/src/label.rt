@@ -117,12 +117,26 @@ fn short(alloc: Global, home: &[u8]) -> Result<Label, Refused>
     Ok(label_of(alloc, home, last(home))?)
 }
 
-/// What stands after two slashes.
-fn absolute(alloc: Global, rest: &[u8]) -> Result<Label, Refused>
-    ensures { IsRead (IsLabel (47 ∷ 47 ∷ rest.now)) result }
+/// //PACKAGE:NAME, by its bytes and by its two parts.
+fn full(alloc: Global, bytes: &[u8], home: &[u8], target: &[u8]) -> Result<Label, Refused>
+    requires { bytes.now ≡ 47 ∷ 47 ∷ (home.now ++ 58 ∷ target.now) }
+    ensures { IsRead (IsPair home.now target.now) result }
+{
+    if !is_package(home) || !is_path(target) {
+        return Err(Refused::Bad);
+    }
+    let text = Text::from_slice(alloc, bytes)?;
+    let colon = home.len() + 2;
+    Ok(Label { text, colon })
+}
+
+/// A text that begins with two slashes, and what stands after them.
+fn absolute(alloc: Global, bytes: &[u8], rest: &[u8]) -> Result<Label, Refused>
+    requires { bytes.now ≡ 47 ∷ 47 ∷ rest.now }
+    ensures { IsRead (IsLabel bytes.now) result }
 {
     match split(rest) {
-        Some((home, target)) => long(alloc, home, target),
+        Some((home, target)) => full(alloc, bytes, home, target),
         None => short(alloc, rest),
     }
 }
@@ -172,7 +186,7 @@ impl Label {
         ensures { IsRead (IsLabel bytes.now) result }
     {
         match bytes {
-            [b'/', b'/', rest @ ..] => absolute(alloc, rest),
+            [b'/', b'/', rest @ ..] => absolute(alloc, bytes, rest),
             _ => Err(Refused::Bad),
         }
     }
@@ -206,6 +220,18 @@ impl Label {
         ensures printed { (n : Name) × IsName n × (self.now ≡ printed n) }
     {
         self.text.as_bytes()
+    }
+
+    /// Whether these bytes are an absolute label that is read as this one: as it prints, or without
+    /// the target where that is the package's last segment. No memory is taken.
+    pub fn is_written(&self, bytes: &[u8]) -> bool
+        ensures { (result ≡ true) ↔ ((n : Name) × IsLabel bytes.now n × (self.now ≡ printed n)) }
+    {
+        let text = self.text.as_bytes();
+        if bytes.len() == self.colon {
+            return bytes == &text[..self.colon] && last(self.package_bytes()) == self.name();
+        }
+        bytes == text
     }
 
     /// The label as it prints, in bytes of its own.

@@ -13,7 +13,8 @@ use crate::line::{Line, Request};
 use crate::name::Name;
 use crate::names::Names;
 use crate::number::small_number;
-use crate::operand::{is_enough, is_skipped, past_byte, read_label, read_name, read_path};
+use crate::operand::{is_enough, is_skipped, past_byte};
+use crate::reader::Reader;
 use crate::requests::Requests;
 use crate::transactions::Transactions;
 use buck_label::{Path, Text};
@@ -63,11 +64,11 @@ impl Known {
     }
 
     /// Notes a path that is put or dropped, tested in order: path, twice.
-    fn touch(&mut self, alloc: Global, path: &[u8]) -> Result<Path, Stop>
+    fn touch(&mut self, reader: &mut Reader, path: &[u8]) -> Result<Path, Stop>
         ensures tested { IsUntouched (past_of self.old) path.now result }
         ensures noted { IfOk result (λ p. past_of self.new ≡ with_path p (past_of self.old)) }
     {
-        let path = read_path(alloc, path)?;
+        let path = reader.path(path)?;
         if !self.touched.add(path.as_text())? {
             return Err(Stop::Fault(Word::Twice));
         }
@@ -77,7 +78,7 @@ impl Known {
     /// Notes the operands of a put, tested in order: path, twice, number, count.
     fn put_operands(
         &mut self,
-        alloc: Global,
+        reader: &mut Reader,
         path: &[u8],
         number: &[u8],
         behind: &[u8],
@@ -86,7 +87,7 @@ impl Known {
         ensures noted { IfOk result (λ r. past_of self.new ≡ with_path r.0 (past_of self.old)) }
         ensures fits { IfOk result (λ r. r.1 ≤ length behind.now) }
     {
-        let path = self.touch(alloc, path)?;
+        let path = self.touch(reader, path)?;
         match small_number(number) {
             None => Err(Stop::Fault(Word::Number)),
             Some(count) if is_enough(count, behind) => Ok((path, count)),
@@ -96,7 +97,7 @@ impl Known {
 
     fn put(
         &mut self,
-        alloc: Global,
+        reader: &mut Reader,
         path: &[u8],
         number: &[u8],
         behind: &[u8],
@@ -105,17 +106,17 @@ impl Known {
             (past_of self.new) }
         ensures fits { IfOk result (λ r. r.1 ≤ length behind.now) }
     {
-        let (path, count) = self.put_operands(alloc, path, number, behind)?;
-        let bytes = Text::from_slice(alloc, &behind[..count])?;
+        let (path, count) = self.put_operands(reader, path, number, behind)?;
+        let bytes = Text::from_slice(reader.alloc(), &behind[..count])?;
         let taken = past_byte(behind, count);
         Ok((Line::Put(path, bytes), taken))
     }
 
     /// The name of an open transaction, tested in order: name, open.
-    fn open_transaction(&self, alloc: Global, t: &[u8]) -> Result<Name, Stop>
+    fn open_transaction(&self, reader: &mut Reader, t: &[u8]) -> Result<Name, Stop>
         ensures { IsTested (in_open (past_of self.now) t.now) t.now result }
     {
-        let name = read_name(alloc, t)?;
+        let name = reader.transaction(t)?;
         if self.transactions.is_open(name.as_text()) != Some(true) {
             return Err(Stop::Fault(Word::Open));
         }
@@ -123,13 +124,18 @@ impl Known {
     }
 
     /// Notes a new request in a transaction that is open, its name tested in order: name, taken.
-    fn note_request(&mut self, alloc: Global, name: &[u8], transaction: &Name) -> Result<Name, Stop>
+    fn note_request(
+        &mut self,
+        reader: &mut Reader,
+        name: &[u8],
+        transaction: &Name,
+    ) -> Result<Name, Stop>
         requires { (past_of self.old).opened transaction.now ≡ Some true }
         ensures tested { IsTested (fresh (past_of self.old) name.now) name.now result }
         ensures noted { IfOk result
             (λ n. past_of self.new ≡ with_request n transaction.now (past_of self.old)) }
     {
-        let name = read_name(alloc, name)?;
+        let name = reader.request(name)?;
         if !self.requests.add(name.as_text(), transaction.as_text())? {
             return Err(Stop::Fault(Word::Taken));
         }
@@ -139,7 +145,7 @@ impl Known {
     /// Notes the operands of a request, tested in order: the transaction, its name, the label.
     fn request(
         &mut self,
-        alloc: Global,
+        reader: &mut Reader,
         t: &[u8],
         name: &[u8],
         label: &[u8],
@@ -148,9 +154,9 @@ impl Known {
         ensures noted { IfOk result
             (λ r. past_of self.new ≡ with_request r.name r.transaction (past_of self.old)) }
     {
-        let transaction = self.open_transaction(alloc, t)?;
-        let name = self.note_request(alloc, name, &transaction)?;
-        let label = read_label(alloc, label)?;
+        let transaction = self.open_transaction(reader, t)?;
+        let name = self.note_request(reader, name, &transaction)?;
+        let label = reader.label(label)?;
         Ok(Request {
             transaction,
             name,
@@ -160,7 +166,7 @@ impl Known {
 
     fn drop_path(
         &mut self,
-        alloc: Global,
+        reader: &mut Reader,
         path: &[u8],
         behind: &[u8],
     ) -> Result<(Line, usize), Stop>
@@ -168,24 +174,24 @@ impl Known {
             (past_of self.new) }
         ensures fits { IfOk result (λ r. r.1 ≤ length behind.now) }
     {
-        let path = self.touch(alloc, path)?;
+        let path = self.touch(reader, path)?;
         Ok((Line::Drop(path), 0))
     }
 
-    fn commit(&mut self, alloc: Global, behind: &[u8]) -> Result<(Line, usize), Stop>
+    fn commit(&mut self, reader: &mut Reader, behind: &[u8]) -> Result<(Line, usize), Stop>
         ensures taken { IsTaken (past_of self.old) commits behind.now result (past_of self.new) }
         ensures fits { IfOk result (λ r. r.1 ≤ length behind.now) }
     {
-        self.touched = Names::new(alloc, self.touched.seed());
+        self.touched.clear(reader.alloc());
         Ok((Line::Commit, 0))
     }
 
-    fn open(&mut self, alloc: Global, t: &[u8], behind: &[u8]) -> Result<(Line, usize), Stop>
+    fn open(&mut self, reader: &mut Reader, t: &[u8], behind: &[u8]) -> Result<(Line, usize), Stop>
         ensures taken { IsTaken (past_of self.old) (opens t.now) behind.now result
             (past_of self.new) }
         ensures fits { IfOk result (λ r. r.1 ≤ length behind.now) }
     {
-        let name = read_name(alloc, t)?;
+        let name = reader.transaction(t)?;
         if !self.transactions.open(name.as_text())? {
             return Err(Stop::Fault(Word::Taken));
         }
@@ -194,7 +200,7 @@ impl Known {
 
     fn ask(
         &mut self,
-        alloc: Global,
+        reader: &mut Reader,
         t: &[u8],
         name: &[u8],
         label: &[u8],
@@ -204,13 +210,13 @@ impl Known {
             (past_of self.new) }
         ensures fits { IfOk result (λ r. r.1 ≤ length behind.now) }
     {
-        let request = self.request(alloc, t, name, label)?;
+        let request = self.request(reader, t, name, label)?;
         Ok((Line::Ask(request), 0))
     }
 
     fn action(
         &mut self,
-        alloc: Global,
+        reader: &mut Reader,
         t: &[u8],
         name: &[u8],
         label: &[u8],
@@ -220,16 +226,21 @@ impl Known {
             (past_of self.new) }
         ensures fits { IfOk result (λ r. r.1 ≤ length behind.now) }
     {
-        let request = self.request(alloc, t, name, label)?;
+        let request = self.request(reader, t, name, label)?;
         Ok((Line::Action(request), 0))
     }
 
-    fn wait(&mut self, alloc: Global, name: &[u8], behind: &[u8]) -> Result<(Line, usize), Stop>
+    fn wait(
+        &mut self,
+        reader: &mut Reader,
+        name: &[u8],
+        behind: &[u8],
+    ) -> Result<(Line, usize), Stop>
         ensures taken { IsTaken (past_of self.old) (waits name.now) behind.now result
             (past_of self.new) }
         ensures fits { IfOk result (λ r. r.1 ≤ length behind.now) }
     {
-        let name = read_name(alloc, name)?;
+        let name = reader.request(name)?;
         match self.fate_of(name.as_text()) {
             None => Err(Stop::Fault(Word::Unknown)),
             Some(Fate::Cancelled) => Err(Stop::Fault(Word::Cancelled)),
@@ -241,12 +252,17 @@ impl Known {
         }
     }
 
-    fn cancel(&mut self, alloc: Global, name: &[u8], behind: &[u8]) -> Result<(Line, usize), Stop>
+    fn cancel(
+        &mut self,
+        reader: &mut Reader,
+        name: &[u8],
+        behind: &[u8],
+    ) -> Result<(Line, usize), Stop>
         ensures taken { IsTaken (past_of self.old) (cancels name.now) behind.now result
             (past_of self.new) }
         ensures fits { IfOk result (λ r. r.1 ≤ length behind.now) }
     {
-        let name = read_name(alloc, name)?;
+        let name = reader.request(name)?;
         match self.fate_of(name.as_text()) {
             None => Err(Stop::Fault(Word::Unknown)),
             Some(Fate::Answered) => Err(Stop::Fault(Word::Answered)),
@@ -258,38 +274,47 @@ impl Known {
         }
     }
 
-    fn close(&mut self, alloc: Global, t: &[u8], behind: &[u8]) -> Result<(Line, usize), Stop>
+    fn close(&mut self, reader: &mut Reader, t: &[u8], behind: &[u8]) -> Result<(Line, usize), Stop>
         ensures taken { IsTaken (past_of self.old) (closes t.now) behind.now result
             (past_of self.new) }
         ensures fits { IfOk result (λ r. r.1 ≤ length behind.now) }
     {
-        let name = self.open_transaction(alloc, t)?;
+        let name = self.open_transaction(reader, t)?;
         self.transactions.close(name.as_text());
         Ok((Line::Close(name), 0))
     }
 
     /// Takes a line of this form, and so many of the bytes after it.
-    fn form(&mut self, alloc: Global, form: Form, behind: &[u8]) -> Result<(Line, usize), Stop>
+    fn form(
+        &mut self,
+        reader: &mut Reader,
+        form: Form,
+        behind: &[u8],
+    ) -> Result<(Line, usize), Stop>
         ensures taken { IsTaken (past_of self.old) (form_seen form.entry) behind.now result
             (past_of self.new) }
         ensures fits { IfOk result (λ r. r.1 ≤ length behind.now) }
     {
         match form {
-            Form::Put(path, number) => self.put(alloc, path, number, behind),
-            Form::Drop(path) => self.drop_path(alloc, path, behind),
-            Form::Commit => self.commit(alloc, behind),
-            Form::Open(t) => self.open(alloc, t, behind),
-            Form::Ask(t, name, label) => self.ask(alloc, t, name, label, behind),
-            Form::Action(t, name, label) => self.action(alloc, t, name, label, behind),
-            Form::Wait(name) => self.wait(alloc, name, behind),
-            Form::Cancel(name) => self.cancel(alloc, name, behind),
-            Form::Close(t) => self.close(alloc, t, behind),
+            Form::Put(path, number) => self.put(reader, path, number, behind),
+            Form::Drop(path) => self.drop_path(reader, path, behind),
+            Form::Commit => self.commit(reader, behind),
+            Form::Open(t) => self.open(reader, t, behind),
+            Form::Ask(t, name, label) => self.ask(reader, t, name, label, behind),
+            Form::Action(t, name, label) => self.action(reader, t, name, label, behind),
+            Form::Wait(name) => self.wait(reader, name, behind),
+            Form::Cancel(name) => self.cancel(reader, name, behind),
+            Form::Close(t) => self.close(reader, t, behind),
         }
     }
 
     /// Takes the first line of a text: what it does, if anything, and how many bytes it takes
     /// with those that belong to it.
-    pub(crate) fn line(&mut self, alloc: Global, text: &[u8]) -> Result<(Option<Line>, usize), Stop>
+    pub(crate) fn line(
+        &mut self,
+        reader: &mut Reader,
+        text: &[u8],
+    ) -> Result<(Option<Line>, usize), Stop>
         requires { 0 < length text.now }
         ensures taken { IsLineTaken (past_of self.old) text.now result (past_of self.new) }
         ensures some { IfOk result (λ r. (0 < r.1) × (r.1 ≤ length text.now)) }
@@ -302,7 +327,7 @@ impl Known {
         }
         match form_of(line) {
             None => Err(Stop::Fault(Word::Word)),
-            Some(form) => match self.form(alloc, form, &text[behind..]) {
+            Some(form) => match self.form(reader, form, &text[behind..]) {
                 Ok((made, taken)) => Ok((Some(made), behind + taken)),
                 Err(stop) => Err(stop),
             },

@@ -10,6 +10,7 @@ mod name;
 mod names;
 mod number;
 mod operand;
+mod reader;
 mod requests;
 mod script;
 mod transactions;

@@ -8,6 +8,9 @@ use hash_seed::Seed;
 use std::alloc::{AllocError, Global};
 use std::collections::HashSet;
 
+/// The room of so many texts is kept when they are taken out.
+const FEW: usize = 32;
+
 /// A set of texts, which contracts see as the test `has`. A look-up takes constant time: whoever
 /// writes a script picks its names, but not the seed by which they are hashed.
 #[derive(Drop)]
@@ -24,9 +27,15 @@ impl Names {
         }
     }
 
-    /// What its texts are hashed by.
-    pub(crate) fn seed(&self) -> Seed {
-        *self.texts.hasher()
+    /// Takes out all texts. The room of a few is kept for the next ones.
+    pub(crate) fn clear(&mut self, alloc: Global)
+        ensures { has self.new ≡ no_texts }
+    {
+        if self.texts.capacity() <= FEW {
+            self.texts.clear();
+        } else {
+            *self = Names::new(alloc, *self.texts.hasher());
+        }
     }
 
     /// Adds a text, and tells whether it is a new one.

@@ -12,6 +12,7 @@ use crate::known::Known;
 use crate::line::Line;
 use crate::name::Name;
 use crate::number::MOST_BYTES;
+use crate::reader::Reader;
 use buck_label::printed_is_read;
 use hash_seed::Seed;
 use std::alloc::{AllocError, Global};
@@ -120,10 +121,11 @@ fn lines_of(alloc: Global, seed: Seed, bytes: &[u8]) -> Result<(Vec<Line>, Known
     ensures { AreLines bytes.now result }
 {
     let mut known = Known::new(alloc, seed);
+    let mut reader = Reader::new(alloc);
     let mut lines = Vec::new(alloc);
     let mut at = 0;
     while at < bytes.len() {
-        match known.line(alloc, &bytes[at..]) {
+        match known.line(&mut reader, &bytes[at..]) {
             Ok((made, taken)) => {
                 if keep(&mut lines, made).is_err() {
                     return Err(Broken::NoMemory);

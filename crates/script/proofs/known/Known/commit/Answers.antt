@@ -6,4 +6,4 @@ use Rattle.script.proofs.known.Known.commit.Goals as goal
 
 pub returns-clause-taken : goal.returns-clause-taken
 returns-clause-taken c =
-    commit_taken (past_of c.args.self.now) _ c.args.behind.now (ap (λ (s : Texts). record (past_of c.args.self.now) { touched = s }) c.new.ensures)
+    commit_taken (past_of c.args.self.now) _ c.args.behind.now (ap (λ (s : Texts). record (past_of c.args.self.now) { touched = s }) c.clear.ensures)
