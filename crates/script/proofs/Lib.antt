@@ -5,3 +5,4 @@ pub mod Fates
 pub mod Taken
 pub mod Reached
 pub mod Laws
+pub mod NoneGivenUp

@@ -2,6 +2,7 @@ pub mod Words
 pub mod Refusals
 pub mod Lines
 pub mod Past
+pub mod GivingUp
 pub mod Faults
 pub mod Scripts
 pub mod Order

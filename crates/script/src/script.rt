@@ -5,6 +5,7 @@ ghost use Rattle.script.specs.Scripts.{IsScript, IsFirstFault};
 ghost use Rattle.script.specs.Order.{InOrder};
 ghost use Rattle.script.specs.Reading.{IsRead};
 ghost use Rattle.script.specs.Taking.{AreLines, broken_at};
+ghost use Rattle.script.specs.GivingUp.{gives_up, some_give_up};
 ghost use Rattle.lists.specs.Lines.{line_feeds};
 
 use crate::fault::{ScriptRefusal, Stop, Word};
@@ -23,6 +24,7 @@ pub struct Script {
     seed: Seed,
     lines: Vec<Line>,
     known: Known,
+    gives_up: bool,
 }
 
 // (One function for all places that drop one: a derived drop is written out at each.)
@@ -32,6 +34,7 @@ impl Drop for Script {
             seed: _,
             lines: _lines,
             known: _known,
+            gives_up: _,
         } = self;
     }
 }
@@ -43,13 +46,15 @@ impl Model for Script {
     ghost use Rattle.script.specs.Past.{nothing, after_all};
     ghost use Rattle.script.specs.Known.{past_of};
     ghost use Rattle.script.specs.Scripts.{IsScript};
+    ghost use Rattle.script.specs.GivingUp.{some_give_up};
 
     ghost Value = { List Line };
 
     ghost view = { λ s. s.lines.items };
 
     ghost invariant = { λ s. (text : List ℕ) × IsScript text s.lines.items
-        × (past_of s.known ≡ after_all nothing s.lines.items) };
+        × (past_of s.known ≡ after_all nothing s.lines.items)
+        × (s.gives_up ≡ some_give_up s.lines.items) };
 }
 
 impl Script {
@@ -69,10 +74,14 @@ impl Script {
     }
 
     /// Whether the script cancels the request of this name: by `cancel`, or by the `close` of its
-    /// transaction before a `wait`. It takes two look-ups.
+    /// transaction before a `wait`. It takes two look-ups, and none if no line of the script gives a
+    /// request up.
     pub fn is_cancelled(&self, name: &Name) -> bool
         ensures { result ≡ is_cancelled self.now name.now }
     {
+        if !self.gives_up {
+            return false;
+        }
         self.known.is_given_up(name.as_text())
     }
 }
@@ -116,6 +125,25 @@ fn keep(lines: &mut Vec<Line>, made: Option<Line>) -> Result<(), AllocError>
     Ok(())
 }
 
+/// Whether a line gives requests up.
+fn gives_up(line: &Line) -> bool
+    ensures { result ≡ gives_up line.now }
+{
+    matches!(line, Line::Cancel(_) | Line::Close(_))
+}
+
+/// Whether one of the lines gives requests up.
+fn some_give_up(lines: &[Line]) -> bool
+    ensures { result ≡ some_give_up lines.now }
+{
+    for line in lines {
+        if gives_up(line) {
+            return true;
+        }
+    }
+    false
+}
+
 /// The lines, and what is known at their end.
 fn lines_of(alloc: Global, seed: Seed, bytes: &[u8]) -> Result<(Vec<Line>, Known), Broken>
     ensures { AreLines bytes.now result }
@@ -152,7 +180,15 @@ pub fn read(alloc: Global, bytes: &[u8]) -> Result<Script, ScriptRefusal>
     readings_are_one();
     let seed = Seed::of(bytes);
     match lines_of(alloc, seed, bytes) {
-        Ok((lines, known)) => Ok(Script { seed, lines, known }),
+        Ok((lines, known)) => {
+            let gives_up = some_give_up(lines.as_slice());
+            Ok(Script {
+                seed,
+                lines,
+                known,
+                gives_up,
+            })
+        }
         Err(Broken::At(at, word)) => Err(ScriptRefusal::Fault {
             line: 1 + line_feeds(&bytes[..at]),
             word,
