@@ -8,16 +8,20 @@ ghost use Rattle.sha2.specs.Sha256.{sha256};
 use crate::fault::Fault;
 use crate::key::Key;
 use crate::value::{ActionText, Value};
-use buck_label::{Label, Path, Text};
+use buck_label::{Label, Path};
 use dice_key::{NoMemory, Version};
 use itoa::Buffer;
 use sha2::{Digest, Sha256};
+use shared_text::OwnedText;
 use std::alloc::Global;
 use std::sync::Arc;
 use target_file::Action;
 
-/// How many bytes an action's text mostly has at most.
-const ROOM: usize = 320;
+/// How many bytes the line of a digest in hex has.
+const HEX_LINE: usize = 65;
+
+/// How many bytes the line of a number has at most.
+const NUMBER_LINE: usize = 21;
 
 /// The SHA-256 of some bytes (FIPS 180-4).
 pub(crate) fn digest_of(bytes: &[u8]) -> [u8; 32]
@@ -38,15 +42,56 @@ pub(crate) fn action_of(
     ensures { IfOk result (λ r. r
         ≡ action_of version action.now (map arc_value keys.now) (map arc_value values.now)) }
 {
-    let mut text = Vec::with_capacity(alloc, ROOM)?;
+    let named = names_sources(action);
+    let mut text = Vec::with_capacity(alloc, room_of(action, named, keys))?;
     push_head(&mut text, version, action)?;
-    match push_answers(&mut text, names_sources(action), keys, values)? {
+    match push_answers(&mut text, named, keys, values)? {
         Ok(()) => Ok(Ok(ActionText {
-            text: Text::new(alloc, text)?,
+            text: OwnedText::new(text),
             holds_version: is_stamp(action),
         })),
         Err(fault) => Ok(Err(fault)),
     }
+}
+
+/// How many bytes the text of an action takes at most.
+fn room_of(action: &Action, named: bool, keys: &[Arc<Key>]) -> usize {
+    let mut room = head_room(action);
+    for key in keys {
+        room = room.saturating_add(line_room(named, key));
+    }
+    room
+}
+
+/// How many bytes the line of a key takes.
+fn line_room(named: bool, key: &Key) -> usize {
+    let name = match key {
+        Key::Source(path) => path.as_bytes(),
+        Key::Digest(label) => label.as_bytes(),
+        _ => return 0,
+    };
+    if named {
+        name.len().saturating_add(1 + HEX_LINE)
+    } else {
+        HEX_LINE
+    }
+}
+
+/// How many bytes the lines before those of what was asked take at most.
+fn head_room(action: &Action) -> usize {
+    match action {
+        Action::ExportFile { out, .. } => rule_room(b"export_file", out, 0),
+        Action::Filegroup { .. } => b"filegroup".len() + 1,
+        Action::WriteFile { out, .. } => rule_room(b"write_file", out, HEX_LINE),
+        Action::Genrule { out, .. } => rule_room(b"genrule", out, HEX_LINE),
+        Action::StampFile { out } => rule_room(b"stamp_file", out, NUMBER_LINE),
+    }
+}
+
+/// How many bytes the lines of a rule and its out take, with those of another line.
+fn rule_room(rule: &[u8], out: &Path, line: usize) -> usize {
+    let lines = rule.len().saturating_add(2).saturating_add(line);
+    out.as_bytes().len().saturating_add(lines)
 }
 
 /// Whether the text of an action holds the version.

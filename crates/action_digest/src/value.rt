@@ -4,13 +4,14 @@ use crate::fault::Fault;
 use crate::package_file::PackageFile;
 use crate::rule::Rule;
 use buck_label::Text;
+use shared_text::OwnedText;
 use std::hash::{Hash, Hasher};
 
 /// The text of an action.
 #[derive(PartialEq, Eq, Drop)]
 pub struct ActionText {
     /// Its lines, each ended by a line feed.
-    pub text: Text,
+    pub text: OwnedText,
     /// Whether the text holds the version: it is then not used again at later versions.
     pub holds_version: bool,
 }

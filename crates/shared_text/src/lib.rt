@@ -3,7 +3,9 @@
 
 mod bytes;
 mod laws;
+mod owned;
 mod text;
 
 pub use laws::equal_is_same;
+pub use owned::OwnedText;
 pub use text::Text;
