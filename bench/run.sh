@@ -80,6 +80,29 @@ own() {
     }'
 }
 
+# a target takes a source of 1 MB and a small one, which changes 20 times; it is asked for each time
+large_source() {
+    awk 'BEGIN {
+        text = "filegroup(name = \"t\", srcs = [\"large\", \"small\"])\n"
+        printf "put a/BUCK %d\n%s\nput a/large 1000000\n", length(text), text
+        for (i = 0; i < 10000; i++) printf "%0100d", i
+        print ""
+        for (k = 0; k < 20; k++) printf "put a/small %d\n%d\ncommit\nopen t%d\nask t%d r%d //a:t\nwait r%d\nclose t%d\n", length(k), k, k, k, k, k, k
+    }'
+}
+
+# a target takes 1,000 sources, one of which changes 300 times; it is asked for each time
+many_sources() {
+    awk 'BEGIN {
+        text = "filegroup(name = \"t\", srcs = ["
+        for (i = 0; i < 1000; i++) text = text sprintf("%s\"s%d\"", i ? ", " : "", i)
+        text = text "])\n"
+        printf "put a/BUCK %d\n%s\n", length(text), text
+        for (i = 0; i < 1000; i++) printf "put a/s%d 1\n0\n", i
+        for (k = 0; k < 300; k++) printf "%sput a/s7 %d\n%d\ncommit\nopen t%d\nask t%d r%d //a:t\nwait r%d\nclose t%d\n", k ? "" : "commit\n", length(k), k, k, k, k, k, k
+    }'
+}
+
 # one of n targets in one file changes, and another one is asked for, or all are
 one_file() {
     awk -v n="$1" -v all="$2" 'BEGIN {
@@ -236,6 +259,8 @@ script '2,000 packages of one target each, all asked' packages 2000
 script '40 packages with target files of 100 KB, one target of each asked' large_packages
 script 'one of 2,000 targets changed and asked, 2,000 times' own
 script 'the lowest of 2,000 targets changed, forty stand on it, 200 times' leaf
+script 'a target of a source of 1 MB and of a small one, which changes 20 times' large_source
+script 'a target of 1,000 sources, one of which changes 300 times' many_sources
 script 'one of 1,000 targets in a file edited, an equal one asked' one_file 1000 0
 for n in 1000 5000 10000; do script "a file of $n targets, all asked" file_asked "$n"; done
 for n in 1000 5000; do script "one of $n targets in a file edited, all asked" one_file "$n" 1; done

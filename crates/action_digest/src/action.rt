@@ -200,10 +200,11 @@ fn push_source(
     ensures { IfOk result (λ r. IsAppended text.old.items text.new.items r
         (file_line named path.now (source_in (Some value.now)))) }
 {
-    let Value::Source(Some(bytes)) = value else {
+    let Value::Source(Some(contents)) = value else {
         return Ok(Err(Fault::NoSource(path.try_clone()?)));
     };
-    push_named(text, named, path.as_bytes(), &digest_of(bytes.as_bytes()))?;
+    let digest = contents.digest(*text.allocator())?;
+    push_named(text, named, path.as_bytes(), &digest)?;
     Ok(Ok(()))
 }
 

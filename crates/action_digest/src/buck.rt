@@ -9,13 +9,14 @@ ghost use Rattle.dice_key.specs.Lawful.{IsStep};
 
 use crate::action::{action_of, digest_of};
 use crate::asked::asked_by;
+use crate::contents::Contents;
 use crate::fault::Fault;
 use crate::key::Key;
 use crate::package_file::PackageFile;
 use crate::rule::Rule;
 use crate::run::Run;
 use crate::value::{ActionText, Value};
-use buck_label::{Label, Package, Text};
+use buck_label::{Label, Package};
 use dice_key::{Answers, Batch, Kind, Line, Move, NoMemory, Seed, Universe};
 use std::alloc::Global;
 use std::sync::Arc;
@@ -84,13 +85,14 @@ impl Buck {
 fn package_by(
     alloc: Global,
     home: &Package,
-    source: Option<&Text>,
+    source: Option<&Contents>,
 ) -> Result<Result<PackageFile, Fault>, NoMemory>
     ensures { IfOk result (λ r. r ≡ package_by home.now (option_copied source.entry)) }
 {
-    let Some(bytes) = source else {
+    let Some(contents) = source else {
         return Ok(Err(Fault::NoPackage(home.try_clone()?)));
     };
+    let bytes = contents.as_text();
     match target_file::read(alloc, bytes.as_bytes()) {
         Ok(file) => Ok(Ok(PackageFile::of(bytes.try_clone()?, file))),
         Err(FileFault::Bad { line }) => { Ok(Err(Fault::BadFile(home.target_file(alloc)?, line))) }

@@ -3,15 +3,16 @@ ghost use Rattle.std.specs.Prelude.{◌≡◌};
 ghost use Rattle.std.specs.Option.{option_copied};
 
 use crate::buck::Buck;
+use crate::contents::Contents;
 use crate::fault::Fault;
 use crate::key::Key;
 use crate::package_file::PackageFile;
 use crate::rule::Rule;
 use crate::value::{ActionText, Value};
-use buck_label::{Label, Package, Path, Text};
+use buck_label::{Label, Package, Path};
 use dice_key::{ProjectionKey, TypedKey};
 
-/// The bytes of a file.
+/// What a file holds.
 #[derive(Drop)]
 pub struct SourceKey {
     pub path: Path,
@@ -45,7 +46,7 @@ impl TypedKey<Buck> for SourceKey {
     ghost use Rattle.action_digest.specs.declared.key.Key.TheVariants as key;
     ghost use Rattle.action_digest.specs.Fronts.{as_source, source_front};
 
-    type Out = Option<Text>;
+    type Out = Option<Contents>;
 
     ghost wrapped = { λ k. key.Source k.path };
 
@@ -55,7 +56,7 @@ impl TypedKey<Buck> for SourceKey {
         Key::Source(self.path)
     }
 
-    fn read(value: &Value) -> Option<&Option<Text>> {
+    fn read(value: &Value) -> Option<&Option<Contents>> {
         match value {
             Value::Source(source) => Some(source),
             _ => None,

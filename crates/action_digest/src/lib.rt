@@ -4,6 +4,7 @@
 mod action;
 mod asked;
 mod buck;
+mod contents;
 mod cycle;
 mod fault;
 mod fronts;
@@ -15,6 +16,7 @@ mod run;
 mod value;
 
 pub use buck::Buck;
+pub use contents::Contents;
 pub use cycle::labels_of_cycle;
 pub use fault::Fault;
 pub use fronts::{ActionKey, DigestKey, PackageKey, RuleKey, SourceKey};

@@ -1,5 +1,6 @@
 //! The values.
 
+use crate::contents::Contents;
 use crate::fault::Fault;
 use crate::package_file::PackageFile;
 use crate::rule::Rule;
@@ -20,7 +21,7 @@ pub struct ActionText {
 #[derive(PartialEq, Eq, Drop)]
 pub enum Value {
     /// The bytes of a file, or that there is none.
-    Source(Option<Text>),
+    Source(Option<Contents>),
     /// The targets of a package.
     Package(Result<PackageFile, Fault>),
     /// One target.
@@ -43,8 +44,8 @@ impl Hash for Value {
     ghost respects_eq = { λ x y e. ap hashed (values_equal x y e) };
 
     fn hash<H: Hasher>(&self, state: &mut H) {
-        if let Value::Source(text) = self {
-            text.hash(state);
+        if let Value::Source(contents) = self {
+            contents.hash(state);
         }
     }
 }

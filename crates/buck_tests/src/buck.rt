@@ -4,7 +4,7 @@ ghost use Rattle.dice_model.specs.Log.{IsCommit, pairs_of};
 ghost use Rattle.action_digest.specs.Buck.{buck};
 
 use action_digest::{
-    ActionKey, Buck, DigestKey, Fault, Key, PackageKey, RuleKey, SourceKey, Value,
+    ActionKey, Buck, Contents, DigestKey, Fault, Key, PackageKey, RuleKey, SourceKey, Value,
     cycles_are_of_labels, keys_are_settled, labels_of_cycle,
 };
 use buck_label::{Label, Package, Path, Text};
@@ -23,7 +23,8 @@ fn one_file(
     ensures { IfOk result (λ c. IsCommit buck (pairs_of c.items)) }
 {
     let text = Text::from_slice(alloc, bytes)?;
-    let value = Arc::new(alloc, Value::Source(Some(text)))?;
+    let contents = Contents::new(alloc, text);
+    let value = Arc::new(alloc, Value::Source(Some(contents)))?;
     let key = Arc::new(alloc, Key::Source(path))?;
     let mut changes = Vec::new(alloc);
     changes.push((key, value))?;
@@ -409,6 +410,25 @@ fn write_file_is_read(alloc: Global) -> Result<bool, NoMemory> {
         Some(value) => Ok(matches!(SourceKey::read(&value), Some(Some(_)))),
         None => Ok(false),
     }
+}
+
+/// The SHA-256 of `abc` (FIPS 180-4, appendix B.1).
+const ABC: &[u8] = b"ba7816bf8f01cfea414140de5dae2223b00361a396177a9cb410ff61f20015ad";
+
+/// Whether each of two calls gives the digest of what a file holds.
+fn has_its_digest_twice(alloc: Global) -> Result<bool, NoMemory> {
+    let contents = Contents::new(alloc, Text::from_slice(alloc, b"abc")?);
+    let first = contents.digest(alloc)?;
+    let again = contents.digest(alloc)?;
+    let hex = hex::encode(alloc, first.as_slice())?;
+    Ok(hex.as_bytes() == ABC && first == again)
+}
+
+#[test]
+fn contents_keep_their_digest(rt: HostRuntime) -> Result<(), Fail> {
+    let kept = has_its_digest_twice(rt.alloc())?;
+    assert!(rt; kept);
+    Ok(())
 }
 
 fn has_two_batches(alloc: Global, universe: &Buck, name: &[u8]) -> Result<bool, NoMemory> {

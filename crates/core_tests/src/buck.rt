@@ -2,7 +2,7 @@
 //! answer and what stands after each.
 use crate::bench::{Bench, Call, Outcome};
 use crate::buck::Act::{Commit, Do};
-use action_digest::{Buck, Key, Value};
+use action_digest::{Buck, Contents, Key, Value};
 use buck_label::{Label, Path, Text};
 use dice_core::{Core, Polled};
 use dice_key::NoMemory;
@@ -48,7 +48,8 @@ fn key(alloc: Global, name: Name) -> Result<Arc<Key>, NoMemory> {
 /// The target file's bytes.
 fn file(alloc: Global) -> Result<Arc<Value>, NoMemory> {
     let bytes = Text::from_slice(alloc, FILE)?;
-    Ok(Arc::new(alloc, Value::Source(Some(bytes)))?)
+    let contents = Contents::new(alloc, bytes);
+    Ok(Arc::new(alloc, Value::Source(Some(contents)))?)
 }
 
 type Change = (Arc<Key>, Arc<Value>);

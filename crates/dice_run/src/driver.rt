@@ -18,7 +18,7 @@ use crate::client::{self, Came};
 use crate::named::{note, take};
 use crate::outlook::Outlook;
 use crate::request::came_lines;
-use action_digest::{Buck, Key, Value};
+use action_digest::{Buck, Contents, Key, Value};
 use buck_label::{Path, Text};
 use dice_engine::{Engine, Gate, Promise, Seat, Transaction, Updater};
 use dice_key::{NoMemory, Seed};
@@ -63,7 +63,10 @@ impl Driver {
             → Fits past line.now → RecordsStep p past line.now self.old self.new) }
     {
         match line {
-            Line::Put(path, bytes) => self.gather(path, Some(bytes.try_clone()?))?,
+            Line::Put(path, bytes) => {
+                let contents = Contents::new(self.alloc, bytes.try_clone()?);
+                self.gather(path, Some(contents))?
+            }
             Line::Drop(path) => self.gather(path, None)?,
             Line::Commit => self.commit(rt, engine)?,
             Line::Open(name) => self.open(rt, engine, name)?,
@@ -86,7 +89,7 @@ impl Driver {
     }
 
     /// Notes the file of a path from the next commit on, or that it has none.
-    fn gather(&mut self, path: &Path, file: Option<Text>) -> Result<(), NoMemory>
+    fn gather(&mut self, path: &Path, file: Option<Contents>) -> Result<(), NoMemory>
         ensures seat { self.new.seat ≡ self.old.seat }
         ensures gathered { OnOk result (self.new.gathered
             ≡ self.old.gathered ++ (key.Source path.now, value.Source file) ∷ []) }

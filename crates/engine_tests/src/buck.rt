@@ -1,6 +1,6 @@
 //! A promise on the universe of Buck targets: one seat's calls, one after another.
 use crate::way::{Came, Course, course_of};
-use action_digest::{Buck, Key, Value};
+use action_digest::{Buck, Contents, Key, Value};
 use buck_label::{Label, Path, Text};
 use dice_engine::{Updater, Worked};
 use dice_key::NoMemory;
@@ -51,7 +51,8 @@ fn updater_of(alloc: Global) -> Result<Updater<Buck>, NoMemory> {
     let path = Path::read(alloc, b"a/BUCK").map_err(|_| NoMemory)?;
     let key = Arc::new(alloc, Key::Source(path))?;
     let file = Text::from_slice(alloc, FILE)?;
-    let value = Arc::new(alloc, Value::Source(Some(file)))?;
+    let contents = Contents::new(alloc, file);
+    let value = Arc::new(alloc, Value::Source(Some(contents)))?;
     let mut updater = Updater::new(alloc);
     updater.changed_to(key, value)?;
     Ok(updater)
