@@ -1,4 +1,4 @@
-//! A small map: each call, over the change to a hash map and back to no entry.
+//! A small map: each call, over the changes to two entries, to a hash map and back to no entry.
 use dice_key::NoMemory;
 use small_map::SmallMap;
 use std::alloc::Global;
@@ -42,6 +42,16 @@ const RESERVED: [Row; 6] = [
     (Call::Insert(2, 20), None, &[(2, 20)]),
     (Call::Reserve(1), None, &[(2, 20)]),
     (Call::Insert(0, 0), None, &[(0, 0), (2, 20)]),
+];
+
+/// A third entry, in no room made before.
+const THIRD: [Row; 6] = [
+    (Call::Insert(1, 10), None, &[(1, 10)]),
+    (Call::Insert(2, 20), None, &[(1, 10), (2, 20)]),
+    (Call::Insert(1, 11), Some(10), &[(1, 11), (2, 20)]),
+    (Call::SwapRemove(3), None, &[(1, 11), (2, 20)]),
+    (Call::Insert(3, 30), None, &[(1, 11), (2, 20), (3, 30)]),
+    (Call::SwapRemove(1), Some(11), &[(2, 20), (3, 30)]),
 ];
 
 /// The value that a call gives.
@@ -102,5 +112,6 @@ fn a_small_map_has_what_was_put_and_not_taken(rt: HostRuntime) -> Result<(), Fai
     let alloc = rt.alloc();
     assert!(rt; first_other(alloc, &ROWS)? == None);
     assert!(rt; first_other(alloc, &RESERVED)? == None);
+    assert!(rt; first_other(alloc, &THIRD)? == None);
     Ok(())
 }
