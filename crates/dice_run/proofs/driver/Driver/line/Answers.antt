@@ -52,7 +52,8 @@ returns-in_ok-gather-in-Put-clause-stands g c ends p past m f =
     let e = c.in_ok-gather-in-Put.ensures in
     let fits = subst (Fits past) c.in-Put.is f in
     let b : c.in_ok-try_clone-in-Put.field-0 ≡ c.in-Put.bytes = search rules in
-    let eg = e.gathered ∙ ap (λ (x : List ℕ). d.gathered ++ (key.Source c.in-Put.path, value.Source (Some x)) ∷ []) b in
+    let held : c.new-contents.result ≡ c.in-Put.bytes = c.new-contents.ensures ∙ b in
+    let eg = e.gathered ∙ ap (λ (x : List ℕ). d.gathered ++ (key.Source c.in-Put.path, value.Source (Some x)) ∷ []) held in
     subst (λ (l : Line). Steps c.args.engine.now ends p past l d c.gather.new.self) (sym c.in-Put.is)
     (put_steps c.args.engine.now ends d c.gather.new.self p past c.in-Put.path c.in-Put.bytes m fits.1 e.seat eg e.names e.newest)
 
