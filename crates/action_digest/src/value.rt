@@ -4,7 +4,6 @@ use crate::contents::Contents;
 use crate::fault::Fault;
 use crate::package_file::PackageFile;
 use crate::rule::Rule;
-use buck_label::Text;
 use shared_text::OwnedText;
 use std::hash::{Hash, Hasher};
 

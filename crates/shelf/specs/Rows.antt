@@ -51,7 +51,7 @@ module _ {K V : Type 0} (eq : K → K → Bool) where
   IsNoNewRow ops (bare.Row version key value) = is_some (row_at (eq key) version ops) ≡ true
 
 module _ {K V A : Type 0} (eq : K → K → Bool) where
-  -- a row is put in at the end of a list that had none of its version and key; else the value comes back, and the list stays
+  -- a row is put in at the end of a list that had none of its version and key; otherwise the value comes back, and the list stays
   abbrev pub PutsRow : ℕ → K → Arc V A → Result (Option (Arc V A)) (Arc V A) → List (Plain K V) → List (Plain K V) → Type 0
   PutsRow v k x (Ok None) old new = new ≡ old ++ bare.Row v k (arc_value x) ∷ []
   PutsRow v k x (Ok (Some y)) old new = (y ≡ x) × (new ≡ old) × (is_some (row_at (eq k) v old) ≡ true)
@@ -62,7 +62,7 @@ module _ {K V A S : Type 0} (eq : K → K → Bool) where
   abbrev pub row_of : ℕ → K → IndexMap (RowKey K) (Arc V A) S → Option V
   row_of v k m = value_in eq v k m.entries
 
--- a value is put in at the end of a map, if that has none at the key; else the value comes back, and the entries stay
+-- a value is put in at the end of a map, if that has none at the key; otherwise the value comes back, and the entries stay
 module _ {Q W S : Type 0} (eq : Q → Q → Bool) where
   abbrev pub PutsNew : Q → W → Result (Option W) W → IndexMap Q W S → IndexMap Q W S → Type 0
   PutsNew k x (Ok None) old new = (get eq old k ≡ None) × (new.entries ≡ old.entries ++ (k, x) ∷ [])

@@ -95,7 +95,7 @@ impl<V: Drop> Few<V> {
         side
     }
 
-    /// Puts an entry behind the others.
+    /// Puts an entry after the others.
     #[tactic(auto, using(crate::proofs::Pairs::few_distinct))]
     pub fn push(&mut self, number: usize, value: V)
         requires room { length self.old < 2 }
