@@ -7,9 +7,9 @@ ghost use Rattle.lists.specs.Lists.{Has};
 
 use crate::store::Store;
 use crate::users::Users;
-use dice_key::{NoMemory, Seed, Universe, laws_of};
+use dice_key::{NoMemory, Universe, laws_of};
+use small_set::SmallSet;
 use std::alloc::Global;
-use std::collections::HashSet;
 use std::sync::Arc;
 
 /// All keys to which chains of recorded edges lead from the changed ones, and those themselves.
@@ -29,7 +29,7 @@ pub(crate) fn reached<U: Universe>(
         → CommitReaches U.Key.eq store.now (map arc_value changed.now) q) }
 {
     let mut todo = copies(alloc, changed)?;
-    let mut seen = HashSet::with_hasher(alloc, users.seed());
+    let mut seen = SmallSet::new(alloc, users.seed());
     let mut reached = Vec::new(alloc);
     walk(store, users, &mut todo, &mut seen, &mut reached)?;
     Ok(reached)
@@ -41,11 +41,11 @@ fn walk<U: Universe>(
     store: &Store<U>,
     users: &Users<U>,
     todo: &mut Vec<Arc<U::Key>>,
-    seen: &mut HashSet<Arc<U::Key>, Seed>,
+    seen: &mut SmallSet<Arc<U::Key>>,
     reached: &mut Vec<Arc<U::Key>>,
 ) -> Result<(), NoMemory>
     requires indexed { IsIndexed U.Key.eq store.now users.now }
-    requires unseen { seen.old.keys ≡ [] }
+    requires unseen { seen.old ≡ [] }
     requires none { reached.old.items ≡ [] }
     ensures all { OnOk result ((q : U.Key)
         → CommitReaches U.Key.eq store.now (map arc_value todo.old.items) q

@@ -12,7 +12,7 @@ use Rattle.lists.proofs.Options.{was_new, was_seen}
 pub loop-key-init : goal.loop-key-init
 loop-key-init g c =
     let eq = g.U.Key.PartialEq.eq in
-    reach_begins eq c.args.store.now (map arc_value c.args.todo.now.items) (λ q. list_any (λ a. eq q (arc_value a)) c.args.seen.now.keys) (map arc_value c.args.reached.now.items) (map arc_value c.args.todo.now.items)
+    reach_begins eq c.args.store.now (map arc_value c.args.todo.now.items) (λ q. list_any (λ a. eq q (arc_value a)) c.args.seen.now) (map arc_value c.args.reached.now.items) (map arc_value c.args.todo.now.items)
     (ap (map arc_value) c.requires.none) refl (λ q. ap (list_any (λ a. eq q (arc_value a))) c.requires.unseen)
 
 pub loop-key-smaller-in_ok-push : goal.loop-key-smaller-in_ok-push
@@ -21,9 +21,9 @@ loop-key-smaller-in_ok-push g c =
     let law = c.laws_of.ensures.keys in
     let k = arc_value c.in-Some.key in
     let us = c.args.users.now in
-    let seen = λ (q : g.row.U-Key.Denot). list_any (λ a. eq q (arc_value a)) c.loop-key.seen.keys in
-    let later = λ (q : g.row.U-Key.Denot). list_any (λ a. eq q (arc_value a)) c.insert.new.self.keys in
-    let marks = noted eq c.in-Some.key c.in_ok-try_clone.field-0 c.loop-key.seen.keys c.insert.new.self.keys c.in_ok-try_clone.ensures c.in_ok-insert.ensures.updates.0 in
+    let seen = λ (q : g.row.U-Key.Denot). list_any (λ a. eq q (arc_value a)) c.loop-key.seen in
+    let later = λ (q : g.row.U-Key.Denot). list_any (λ a. eq q (arc_value a)) c.insert.new.self in
+    let marks = noted eq c.in-Some.key c.in_ok-try_clone.field-0 c.loop-key.seen c.insert.new.self c.in_ok-try_clone.ensures c.in_ok-insert.ensures.updates in
     let new : seen k ≡ false = subst (λ x. seen x ≡ false) c.in_ok-try_clone.ensures (was_new (seen (arc_value c.in_ok-try_clone.field-0)) _ c.in_ok-insert.ensures.added c.if-branch.true) in
     let u = unseen_less eq law seen later k marks us new in
     let r = recorded_length eq c.args.store.now us k in
@@ -40,8 +40,8 @@ loop-key-preserved-in_ok-push g c =
     let k = arc_value c.in-Some.key in
     let es = c.args.store.now in
     let us = c.args.users.now in
-    let marks = noted eq c.in-Some.key c.in_ok-try_clone.field-0 c.loop-key.seen.keys c.insert.new.self.keys c.in_ok-try_clone.ensures c.in_ok-insert.ensures.updates.0 in
-    reach_more eq law es (map arc_value c.args.todo.now.items) us c.requires.indexed (λ q. list_any (λ a. eq q (arc_value a)) c.loop-key.seen.keys) (λ q. list_any (λ a. eq q (arc_value a)) c.insert.new.self.keys) (map arc_value c.loop-key.reached.items) (map arc_value c.loop-key.todo.items) (map arc_value c.pop.new.self.items) k c.loop-key.invariant
+    let marks = noted eq c.in-Some.key c.in_ok-try_clone.field-0 c.loop-key.seen c.insert.new.self c.in_ok-try_clone.ensures c.in_ok-insert.ensures.updates in
+    reach_more eq law es (map arc_value c.args.todo.now.items) us c.requires.indexed (λ q. list_any (λ a. eq q (arc_value a)) c.loop-key.seen) (λ q. list_any (λ a. eq q (arc_value a)) c.insert.new.self) (map arc_value c.loop-key.reached.items) (map arc_value c.loop-key.todo.items) (map arc_value c.pop.new.self.items) k c.loop-key.invariant
     (ap (map arc_value) c.in-Some.ensures.items ∙ map-append arc_value c.pop.new.self.items (c.in-Some.key ∷ [])) marks
     (map arc_value c.push.new.self.items) (map arc_value c.push_users.new.todo.items) (ap (map arc_value) c.in_ok-push.ensures.items ∙ map-append arc_value c.loop-key.reached.items (c.in-Some.key ∷ [])) c.in_ok-push_users.ensures
 
@@ -50,10 +50,10 @@ loop-key-preserved g c =
     let eq = g.U.Key.PartialEq.eq in
     let law = c.laws_of.ensures.keys in
     let k = arc_value c.in-Some.key in
-    let seen = λ (q : g.row.U-Key.Denot). list_any (λ a. eq q (arc_value a)) c.loop-key.seen.keys in
-    let marks = noted eq c.in-Some.key c.in_ok-try_clone.field-0 c.loop-key.seen.keys c.insert.new.self.keys c.in_ok-try_clone.ensures c.in_ok-insert.ensures.updates.0 in
+    let seen = λ (q : g.row.U-Key.Denot). list_any (λ a. eq q (arc_value a)) c.loop-key.seen in
+    let marks = noted eq c.in-Some.key c.in_ok-try_clone.field-0 c.loop-key.seen c.insert.new.self c.in_ok-try_clone.ensures c.in_ok-insert.ensures.updates in
     let old : seen k ≡ true = subst (λ x. seen x ≡ true) c.in_ok-try_clone.ensures (was_seen (seen (arc_value c.in_ok-try_clone.field-0)) _ c.in_ok-insert.ensures.added c.if-branch.false) in
-    reach_same eq law c.args.store.now (map arc_value c.args.todo.now.items) (λ q. list_any (λ a. eq q (arc_value a)) c.loop-key.seen.keys) (λ q. list_any (λ a. eq q (arc_value a)) c.insert.new.self.keys) (map arc_value c.loop-key.reached.items) (map arc_value c.loop-key.todo.items) (map arc_value c.pop.new.self.items) k c.loop-key.invariant
+    reach_same eq law c.args.store.now (map arc_value c.args.todo.now.items) (λ q. list_any (λ a. eq q (arc_value a)) c.loop-key.seen) (λ q. list_any (λ a. eq q (arc_value a)) c.insert.new.self) (map arc_value c.loop-key.reached.items) (map arc_value c.loop-key.todo.items) (map arc_value c.pop.new.self.items) k c.loop-key.invariant
     (ap (map arc_value) c.in-Some.ensures.items ∙ map-append arc_value c.pop.new.self.items (c.in-Some.key ∷ [])) marks old
 
 pub returns-clause-all : goal.returns-clause-all

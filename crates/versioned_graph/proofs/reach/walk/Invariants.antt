@@ -7,9 +7,9 @@ use Rattle.versioned_graph.proofs.reach.walk.Given as goal
 abbrev pub invariant-loop-key : goal.invariant-loop-key
 invariant-loop-key g l =
     let eq = g.U.Key.PartialEq.eq in
-    IsReach eq l.store (map arc_value l.fn.todo.items) (λ q. list_any (λ a. eq q (arc_value a)) l.seen.keys) (map arc_value l.reached.items) (map arc_value l.todo.items)
+    IsReach eq l.store (map arc_value l.fn.todo.items) (λ q. list_any (λ a. eq q (arc_value a)) l.seen) (map arc_value l.reached.items) (map arc_value l.todo.items)
 
 abbrev pub decreases-loop-key : goal.decreases-loop-key
 decreases-loop-key g l =
     let eq = g.U.Key.PartialEq.eq in
-    unseen (λ q. list_any (λ a. eq q (arc_value a)) l.seen.keys) l.users + length l.todo.items
+    unseen (λ q. list_any (λ a. eq q (arc_value a)) l.seen) l.users + length l.todo.items
