@@ -68,19 +68,6 @@ impl<U: Universe> Job<U> {
         Ok(Job { work })
     }
 
-    /// A run of a key that is not injected, after these answered batches, which are those that it
-    /// asks first. It begins, and goes through them, when it is advanced.
-    pub fn replay(assignment: Assignment<U>) -> Result<Job<U>, NoMemory>
-        requires work { assignment.work ≡ Computes }
-        requires kind { U.meaning.kind assignment.name.key ≢ Injected }
-        requires asks { AsksThese U.meaning assignment.name.key assignment.name.version
-            assignment.answered }
-        ensures { IfOk result (λ j. j ≡ assignment) }
-    {
-        let work = Work::ready(assignment.alloc(), assignment, Course::Idle)?;
-        Ok(Job { work })
-    }
-
     /// What the job is for.
     pub fn assignment(&self) -> &Assignment<U>
         ensures { result.now ≡ self.now }

@@ -1,11 +1,13 @@
 //! What comes of a job.
-ghost use Rattle.std.specs.Prelude.{◌≡◌, IsTrue, ◌↔◌};
+ghost use Rattle.std.specs.Prelude.{◌≡◌, ◌≢◌, IsTrue, ◌↔◌};
+ghost use Rattle.dice_key.specs.declared.universe.Kind.TheVariants.{Injected};
 ghost use Rattle.dice_jobs.specs.Alike.{AreAlike};
-ghost use Rattle.dice_jobs.specs.Jobs.{outcome_of, IsExplained, waiting_after};
+ghost use Rattle.dice_jobs.specs.Jobs.{Computes, AsksThese, outcome_of, IsExplained, waiting_after};
 
 use crate::assignment::Assignment;
+use crate::job::Job;
 use crate::parked::Parked;
-use crate::work::{Stand, Work};
+use crate::work::{Course, Stand, Work};
 use dice_key::{Batch, Universe};
 use std::marker::Model;
 use std::sync::Arc;
@@ -101,5 +103,22 @@ impl<U: Universe> Step<U> {
             Stand::Asks(_) => Some(Parked { work }),
             _ => None,
         }
+    }
+
+    /// A run of a key that is not injected, after these answered batches, which are those that it
+    /// asks first. It begins, and goes through them, when it is advanced. It lies in the box of the
+    /// step, whose own job is given up. It takes no memory.
+    pub fn into_replay(self, assignment: Assignment<U>) -> Job<U>
+        requires work { assignment.work ≡ Computes }
+        requires kind { U.meaning.kind assignment.name.key ≢ Injected }
+        requires asks { AsksThese U.meaning assignment.name.key assignment.name.version
+            assignment.answered }
+        ensures { result ≡ assignment }
+    {
+        let Step { mut work } = self;
+        work.assignment = assignment;
+        work.course = Course::Idle;
+        work.stand = Stand::Ready;
+        Job { work }
     }
 }
