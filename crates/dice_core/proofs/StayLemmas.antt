@@ -1,5 +1,5 @@
 -- Those that still ask are answered as before if tasks go that nobody asks for; so they are if a job is lost, except those that waited for it.
-use Rattle.std.proofs.Common.{◌≡◌, ◌≢◌, ◌<◌, ◌+◌, ◌-◌, ◌&&◌, ◌||◌, ◌++◌, ◌⊎◌, inl, inr, ℕ, zero, suc, Bool, true, false, cond, nat_eq, eqb, eq-eqb, List, [], ◌∷◌, length, map, reverse, Option, Some, None, refl, sym, ap, ◌∙◌, subst, append_assoc, arith}
+use Rattle.std.proofs.Common.{◌≡◌, ◌≢◌, ◌<◌, ◌+◌, ◌-◌, ◌&&◌, ◌||◌, ◌++◌, ◌⊎◌, inl, inr, ℕ, zero, suc, Bool, true, false, cond, nat_eq, eqb, eq-eqb, List, [], ◌∷◌, length, map, reverse, Some, None, refl, sym, ap, ◌∙◌, subst, append_assoc, arith}
 use Rattle.std.specs.List.{list_any}
 use Rattle.std.proofs.lemmas.Bool.{eqb-true}
 use Rattle.dice_key.specs.Meaning.{Meaning}
@@ -21,7 +21,7 @@ use Rattle.dice_jobs.specs.Jobs.{Name}
 use Rattle.dice_tasks.specs.Endings.{GivesUpAll}
 use Rattle.dice_tasks.specs.Helds.{Held, held_ended}
 use Rattle.dice_tasks.proofs.EndsLemmas.{back_more}
-use Rattle.dice_core.specs.Cores.{CoreSeen, Came, ToValue, ToNothing, Absent, events_of, past_of, table_at, held_to, injected_to, held_in, poll_of, PutsTable, DropsThese, CoreStands}
+use Rattle.dice_core.specs.Cores.{CoreSeen, Came, ToValue, ToNothing, events_of, past_of, table_at, held_to, injected_to, held_in, poll_of, PutsTable, DropsThese, CoreStands}
 use Rattle.dice_core.specs.Staying.{AnswersStay, LosesWaitersOnly}
 use Rattle.dice_core.proofs.CoreLemmas.{table_put}
 use Rattle.dice_core.proofs.EventLemmas.{count_works, all_works, all_drops}

@@ -4,12 +4,10 @@ ghost use Rattle.std.specs.Arc.{arc_value};
 ghost use Rattle.dice_key.specs.declared.universe.Kind.TheVariants.{Injected};
 ghost use Rattle.dice_core.specs.Joinings.{KeepsAtHand, AsksForKey, IsOpenAt, MayBeWith, OwesOneMore};
 
+use crate::sessions::Asking;
 use dice_key::{KeyRef, Kind, NoMemory, Universe, laws_of};
-use dice_tasks::{Desk, Tasks, make, prepare};
-use journal::Event;
-use std::alloc::Global;
-use std::sync::Arc;
-use versioned_graph::Graph;
+use dice_steps::Shared;
+use dice_tasks::{Tasks, make, prepare};
 
 /// Whether the key is injected.
 fn is_injected<U: Universe>(universe: &U, key: &KeyRef<U>) -> bool
@@ -28,39 +26,46 @@ fn is_injected<U: Universe>(universe: &U, key: &KeyRef<U>) -> bool
 ///
 /// It costs a look-up or a few.
 pub(crate) fn ask_key<U: Universe>(
-    alloc: Global,
-    universe: &U,
-    graph: &mut Graph<U>,
-    desk: &mut Desk<U>,
+    shared: &mut Shared<U>,
     tasks: &mut Tasks<U>,
     owed: usize,
     version: u64,
-    key: &KeyRef<U>,
-    by: u64,
-    tx: u64,
+    asking: &Asking<U>,
 ) -> Result<u64, NoMemory>
-    requires hand { MayBeWith U.Key.eq U.meaning version owed tasks.old desk.old graph.old }
-    requires opened { IsOpenAt (reverse desk.old.events) version tx }
-    ensures index { IfOk result (λ n. n ≡ length desk.old.events) }
-    ensures asked { OnOk result (AsksForKey U.Key.eq U.meaning version by tx (arc_value key.now)
-        tasks.old tasks.new graph.old graph.new desk.old desk.new) }
-    ensures kept { OnOk result (OwesOneMore U.Key.eq U.meaning version owed tasks.old desk.old
-        graph.old tasks.new desk.new graph.new) }
-    ensures err { OnErr result (KeepsAtHand U.Key.eq tasks.old tasks.new desk.old desk.new) }
-    ensures graph { OnErr result (graph.new ≡ graph.old) }
+    requires hand { MayBeWith U.Key.eq U.meaning version owed tasks.old shared.old.desk
+        shared.old.graph }
+    requires opened { IsOpenAt (reverse shared.old.desk.events) version asking.now.opened }
+    ensures index { IfOk result (λ n. n ≡ length shared.old.desk.events) }
+    ensures asked { OnOk result (AsksForKey U.Key.eq U.meaning version asking.now.by
+        asking.now.opened asking.now.key tasks.old tasks.new shared.old.graph shared.new.graph
+        shared.old.desk shared.new.desk) }
+    ensures kept { OnOk result (OwesOneMore U.Key.eq U.meaning version owed tasks.old
+        shared.old.desk shared.old.graph tasks.new shared.new.desk shared.new.graph) }
+    ensures err { OnErr result (KeepsAtHand U.Key.eq tasks.old tasks.new shared.old.desk
+        shared.new.desk) }
+    ensures graph { OnErr result (shared.new.graph ≡ shared.old.graph) }
+    ensures cells { shared.new.cells ≡ shared.old.cells }
 {
     laws_of::<U>();
-    let index = desk.next_index()?;
-    desk.reserve(owed, 3, 1)?;
-    let event = Arc::try_clone(key)?;
-    if is_injected::<U>(universe, key) {
-        desk.push(Event::Ask(by, tx, event));
+    let key = asking.key();
+    let index = shared.desk.next_index()?;
+    shared.desk.reserve(owed, 3, 1)?;
+    let told = asking.told()?;
+    if is_injected::<U>(&*shared.universe, key) {
+        shared.desk.push(told);
         return Ok(index);
     }
     tasks.reserve_promise(key)?;
-    let making = prepare(alloc, graph, tasks, version, key, index + 1)?;
-    desk.push(Event::Ask(by, tx, event));
+    let making = prepare(shared.alloc, &shared.graph, tasks, version, key, index + 1)?;
+    shared.desk.push(told);
     tasks.add_promise(key, index);
-    make(desk, tasks, graph, version, key, making);
+    make(
+        &mut shared.desk,
+        tasks,
+        &mut shared.graph,
+        version,
+        key,
+        making,
+    );
     Ok(index)
 }

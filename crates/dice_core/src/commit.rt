@@ -13,17 +13,15 @@ ghost use Rattle.dice_steps.specs.Cells.{CellsStand};
 ghost use Rattle.lists.specs.Lists.{AreDistinct};
 
 use dice_key::{KeyRef, Kind, NoMemory, Universe, ValueRef, Version, laws_of};
-use dice_steps::note;
-use dice_tasks::Desk;
+use dice_steps::{Shared, note};
 use injected::{Cells, cells_are_the_inputs, cells_in_order};
 use journal::{Changes, Event};
+use small_set::SmallSet;
 use std::alloc::Global;
-use std::collections::HashSet;
 use std::error::Error;
 use std::fmt::{self, Debug, Display, Formatter};
 use std::hash::Hash;
 use std::sync::Arc;
-use versioned_graph::Graph;
 
 /// Why a commit is refused.
 #[derive(Drop)]
@@ -72,7 +70,7 @@ pub(crate) fn check_changes<'a, U: Universe>(
         → MatchResult result (λ _. ⊥) (λ e. IfSome (fault_of e) (λ g. g ≡ f)) }
 {
     laws_of::<U>();
-    let mut seen = HashSet::with_hasher(alloc, universe.seed());
+    let mut seen = SmallSet::new(alloc, universe.seed());
     for (key, _) in changes {
         match universe.kind(key) {
             Kind::Injected => {}
@@ -177,39 +175,39 @@ pub(crate) fn set_cells<U: Universe>(
 /// Commits the changes that differ, if all keys are injected and distinct. At an error all is as
 /// before.
 fn commit_settable<U: Universe>(
-    alloc: Global,
-    cells: &mut Cells<U>,
-    graph: &mut Graph<U>,
-    desk: &mut Desk<U>,
+    shared: &mut Shared<U>,
     by: u64,
     changes: &[(KeyRef<U>, ValueRef<U>)],
 ) -> Result<Version, NoMemory>
     requires settable { AreSettable U.meaning (keys_of (pairs_of changes.now)) }
-    requires newest { cells.old.last < u64.MAX }
-    ensures version { IfOk result (λ v. v ≡ cells.new.last) }
-    ensures ok { OnOk result (Commits U.Key.eq by
-        (differing_of U.Key.eq U.Value.eq U.meaning cells.old (pairs_of changes.now)) cells.old
-        cells.new desk.old.events desk.new.events) }
-    ensures err { OnErr result
-        (IsAsBefore U.Key.eq cells.old cells.new desk.old.events desk.new.events) }
-    ensures cut { OnOk result (CommitsEntries U.Key.eq U.meaning
-        (differing_of U.Key.eq U.Value.eq U.meaning cells.old (pairs_of changes.now))
-        (cells.old.last + 1) graph.old graph.new) }
-    ensures graph { OnErr result (graph.new ≡ graph.old) }
-    ensures hands { KeepsWork desk.old desk.new }
+    requires newest { shared.old.cells.last < u64.MAX }
+    ensures version { IfOk result (λ v. v ≡ shared.new.cells.last) }
+    ensures ok { OnOk result (Commits U.Key.eq by (differing_of U.Key.eq U.Value.eq U.meaning
+        shared.old.cells (pairs_of changes.now)) shared.old.cells shared.new.cells
+        shared.old.desk.events shared.new.desk.events) }
+    ensures err { OnErr result (IsAsBefore U.Key.eq shared.old.cells shared.new.cells
+        shared.old.desk.events shared.new.desk.events) }
+    ensures cut { OnOk result (CommitsEntries U.Key.eq U.meaning (differing_of U.Key.eq U.Value.eq
+        U.meaning shared.old.cells (pairs_of changes.now)) (shared.old.cells.last + 1)
+        shared.old.graph shared.new.graph) }
+    ensures graph { OnErr result (shared.new.graph ≡ shared.old.graph) }
+    ensures hands { KeepsWork shared.old.desk shared.new.desk }
 {
-    let differing = differing(alloc, cells, changes)?;
+    let alloc = shared.alloc;
+    let differing = differing(alloc, &shared.cells, changes)?;
     if differing.is_empty() {
-        return Ok(cells.last());
+        return Ok(shared.cells.last());
     }
-    let version = cells.last() + 1;
+    let version = shared.cells.last() + 1;
     let keys = changed_keys(alloc, &differing)?;
     let sets = copied_changes(alloc, &differing)?;
-    desk.reserve_event()?;
-    reserve_cells(cells, &sets)?;
-    graph.commit(&keys, version)?;
-    set_cells(cells, version, sets);
-    desk.push(Event::Commit(by, Changes::from_pairs(differing)));
+    shared.desk.reserve_event()?;
+    reserve_cells(&mut shared.cells, &sets)?;
+    shared.graph.commit(&keys, version)?;
+    set_cells(&mut shared.cells, version, sets);
+    shared
+        .desk
+        .push(Event::Commit(by, Changes::from_pairs(differing)));
     Ok(version)
 }
 
@@ -220,15 +218,11 @@ fn commit_settable<U: Universe>(
 /// All room that was made stays. It costs a look-up for each change, and for each recorded user of
 /// what is reached.
 pub(crate) fn commit<'a, U: Universe>(
-    alloc: Global,
-    universe: &U,
-    cells: &mut Cells<U>,
-    graph: &mut Graph<U>,
-    desk: &mut Desk<U>,
+    shared: &mut Shared<U>,
     by: u64,
     changes: &'a [(KeyRef<U>, ValueRef<U>)],
 ) -> Result<Version, CommitRefusal<'a, U>>
-    requires { cells.old.last < u64.MAX }
+    requires { shared.old.cells.last < u64.MAX }
 
     // Faults of the changes.
     ensures settable { OnOk result (AreSettable U.meaning (keys_of (pairs_of changes.now))) }
@@ -238,33 +232,33 @@ pub(crate) fn commit<'a, U: Universe>(
         → MatchResult result (λ _. ⊥) (λ e. IfSome (fault_of e) (λ g. g ≡ f)) }
 
     // What is committed.
-    ensures version { IfOk result (λ v. v ≡ cells.new.last) }
-    ensures ok { OnOk result (Commits U.Key.eq by
-        (differing_of U.Key.eq U.Value.eq U.meaning cells.old (pairs_of changes.now)) cells.old
-        cells.new desk.old.events desk.new.events) }
-    ensures err { OnErr result
-        (IsAsBefore U.Key.eq cells.old cells.new desk.old.events desk.new.events) }
-    ensures cut { OnOk result (CommitsEntries U.Key.eq U.meaning
-        (differing_of U.Key.eq U.Value.eq U.meaning cells.old (pairs_of changes.now))
-        (cells.old.last + 1) graph.old graph.new) }
-    ensures graph { OnErr result (graph.new ≡ graph.old) }
-    ensures hands { KeepsWork desk.old desk.new }
+    ensures version { IfOk result (λ v. v ≡ shared.new.cells.last) }
+    ensures ok { OnOk result (Commits U.Key.eq by (differing_of U.Key.eq U.Value.eq U.meaning
+        shared.old.cells (pairs_of changes.now)) shared.old.cells shared.new.cells
+        shared.old.desk.events shared.new.desk.events) }
+    ensures err { OnErr result (IsAsBefore U.Key.eq shared.old.cells shared.new.cells
+        shared.old.desk.events shared.new.desk.events) }
+    ensures cut { OnOk result (CommitsEntries U.Key.eq U.meaning (differing_of U.Key.eq U.Value.eq
+        U.meaning shared.old.cells (pairs_of changes.now)) (shared.old.cells.last + 1)
+        shared.old.graph shared.new.graph) }
+    ensures graph { OnErr result (shared.new.graph ≡ shared.old.graph) }
+    ensures hands { KeepsWork shared.old.desk shared.new.desk }
 
     // What is kept.
-    ensures kept { CellsStand U.Key.eq (reverse desk.old.events) cells.old
-        → CellsStand U.Key.eq (reverse desk.new.events) cells.new }
-    ensures allowed { OnOk result (CellsStand U.Key.eq (reverse desk.old.events) cells.old
-        → AllByRecursion (IsAllowed U.Key.eq U.meaning (reverse desk.old.events))
-        (event_of by
-        (differing_of U.Key.eq U.Value.eq U.meaning cells.old (pairs_of changes.now)))) }
-    ensures lawful { CellsStand U.Key.eq (reverse desk.old.events) cells.old
-        → IsLawfulJournal U.Key.eq U.meaning desk.old.events
-        → IsLawfulJournal U.Key.eq U.meaning desk.new.events }
+    ensures kept { CellsStand U.Key.eq (reverse shared.old.desk.events) shared.old.cells
+        → CellsStand U.Key.eq (reverse shared.new.desk.events) shared.new.cells }
+    ensures allowed { OnOk result (CellsStand U.Key.eq (reverse shared.old.desk.events)
+        shared.old.cells
+        → AllByRecursion (IsAllowed U.Key.eq U.meaning (reverse shared.old.desk.events)) (event_of
+        by (differing_of U.Key.eq U.Value.eq U.meaning shared.old.cells (pairs_of changes.now)))) }
+    ensures lawful { CellsStand U.Key.eq (reverse shared.old.desk.events) shared.old.cells
+        → IsLawfulJournal U.Key.eq U.meaning shared.old.desk.events
+        → IsLawfulJournal U.Key.eq U.meaning shared.new.desk.events }
 {
     laws_of::<U>();
     cells_are_the_inputs::<U>();
-    check_changes(alloc, universe, changes)?;
-    match commit_settable(alloc, cells, graph, desk, by, changes) {
+    check_changes(shared.alloc, &*shared.universe, changes)?;
+    match commit_settable(shared, by, changes) {
         Ok(version) => Ok(version),
         Err(NoMemory) => Err(CommitRefusal::NoMemory),
     }

@@ -37,6 +37,7 @@ use crate::polled::Polled;
 use crate::sessions::Sessions;
 use dice_jobs::{Job, JobName, Step, true_jobs_are_one};
 use dice_key::{KeyRef, Kind, NoMemory, Universe, ValueRef, Version, laws_of};
+use dice_steps::Shared;
 use dice_tasks::{Desk, Tasks};
 use injected::{Cells, cells_are_the_inputs};
 use journal::Journal;
@@ -53,12 +54,8 @@ use versioned_graph::Graph;
 /// It is one state without threads. Its calls take what there is to take and give what has come;
 /// the work on keys is done outside, by [`dice_jobs::Job::advance`].
 pub struct Core<U: Universe> {
-    alloc: Global,
-    universe: Arc<U>,
-    desk: Desk<U>,
+    shared: Shared<U>,
     versions: HashMap<u64, Tasks<U>>,
-    graph: Graph<U>,
-    cells: Cells<U>,
     sessions: Sessions<U>,
 }
 
@@ -66,12 +63,8 @@ pub struct Core<U: Universe> {
 impl<U: Universe> Drop for Core<U> {
     fn drop(self) {
         let Core {
-            alloc: _,
-            universe: _universe,
-            desk: _desk,
+            shared: _shared,
             versions: _versions,
-            graph: _graph,
-            cells: _cells,
             sessions: _sessions,
         } = self;
     }
@@ -85,18 +78,18 @@ impl<U: Universe> Model for Core<U> {
     ghost use Rattle.dice_core.specs.Cores.{CoreStands};
 
     ghost view = { λ c. record {
-      desk = c.desk;
+      desk = c.shared.desk;
       tables = c.versions.entries;
-      entries = c.graph;
-      cells = c.cells;
+      entries = c.shared.graph;
+      cells = c.shared.cells;
       sessions = c.sessions;
     } };
 
     ghost invariant = { λ c. CoreStands U.Key.eq U.meaning (record {
-      desk = c.desk;
+      desk = c.shared.desk;
       tables = c.versions.entries;
-      entries = c.graph;
-      cells = c.cells;
+      entries = c.shared.graph;
+      cells = c.shared.cells;
       sessions = c.sessions;
     }) };
 }
@@ -113,13 +106,16 @@ impl<U: Universe> Core<U> {
         let desk = Desk::new(alloc, universe.seed());
         let versions = HashMap::new(alloc);
         let sessions = Sessions::new(alloc);
-        Ok(Core {
+        let shared = Shared {
             alloc,
             universe,
-            desk,
-            versions,
-            graph,
             cells,
+            graph,
+            desk,
+        };
+        Ok(Core {
+            shared,
+            versions,
             sessions,
         })
     }
@@ -166,7 +162,7 @@ impl<U: Universe> Core<U> {
             → asks U.Key.eq (table_at self.now.tables v) d (Tasked k) ≡ true
             → AsksFor U.Key.eq U.meaning (commits_of (past_of self.now)) v k d }
     {
-        let _ = &self.universe;
+        let _ = &self.shared.universe;
     }
 
     /// What a key has come to at a version. It takes no memory, and costs a look-up or two.
@@ -203,14 +199,7 @@ impl<U: Universe> Core<U> {
     {
         laws_of::<U>();
         cells_are_the_inputs::<U>();
-        polled_at(
-            &*self.universe,
-            &self.cells,
-            &self.sessions,
-            &self.versions,
-            version,
-            key,
-        )
+        polled_at(&self.shared, &self.sessions, &self.versions, version, key)
     }
 
     /// Applies changes together: those whose value is not the key's newest one are a commit, one
@@ -249,18 +238,10 @@ impl<U: Universe> Core<U> {
         ensures err { OnErr result (IsAsBefore U.Key.eq self.old self.new) }
     {
         laws_of::<U>();
-        let Ok(_) = self.desk.next_index() else {
+        let Ok(_) = self.shared.desk.next_index() else {
             return Err(CommitRefusal::NoMemory);
         };
-        commit(
-            self.alloc,
-            &*self.universe,
-            &mut self.cells,
-            &mut self.graph,
-            &mut self.desk,
-            by,
-            changes,
-        )
+        commit(&mut self.shared, by, changes)
     }
 
     /// Opens a transaction at the newest version, and keeps room for its close; the index of its
@@ -275,11 +256,11 @@ impl<U: Universe> Core<U> {
     {
         laws_of::<U>();
         open_at_newest(
-            self.alloc,
-            &mut self.desk,
+            self.shared.alloc,
+            &mut self.shared.desk,
             &mut self.versions,
             &mut self.sessions,
-            self.cells.last(),
+            self.shared.cells.last(),
             by,
         )
     }
@@ -299,10 +280,7 @@ impl<U: Universe> Core<U> {
     {
         laws_of::<U>();
         ask_in(
-            self.alloc,
-            &*self.universe,
-            &mut self.graph,
-            &mut self.desk,
+            &mut self.shared,
             &mut self.versions,
             &mut self.sessions,
             by,
@@ -325,7 +303,12 @@ impl<U: Universe> Core<U> {
         ensures rest { (self.new.entries ≡ self.old.entries) × (self.new.cells ≡ self.old.cells) }
     {
         laws_of::<U>();
-        close_in(&mut self.desk, &mut self.versions, &mut self.sessions, tx);
+        close_in(
+            &mut self.shared.desk,
+            &mut self.versions,
+            &mut self.sessions,
+            tx,
+        );
     }
 
     /// Leaves an ask, and drops the tasks that nobody asks for any more. It takes no memory.
@@ -343,7 +326,12 @@ impl<U: Universe> Core<U> {
         ensures rest { (self.new.entries ≡ self.old.entries) × (self.new.cells ≡ self.old.cells) }
     {
         laws_of::<U>();
-        leave_ask(&mut self.desk, &mut self.versions, &mut self.sessions, ask);
+        leave_ask(
+            &mut self.shared.desk,
+            &mut self.versions,
+            &mut self.sessions,
+            ask,
+        );
     }
 
     /// Takes the job of a ready task, which is out then; `None` exactly if no task is ready. No
@@ -361,8 +349,8 @@ impl<U: Universe> Core<U> {
             × (self.new.sessions ≡ self.old.sessions) }
     {
         laws_of::<U>();
-        self.desk.turn();
-        take_next(&mut self.desk, &mut self.versions)
+        self.shared.desk.turn();
+        take_next(&mut self.shared.desk, &mut self.versions)
     }
 
     /// Brings a job back, undone: its task is ready again. It is handed back exactly if it is not
@@ -377,7 +365,7 @@ impl<U: Universe> Core<U> {
             × (self.new.sessions ≡ self.old.sessions) }
     {
         laws_of::<U>();
-        bring_back(&mut self.desk, &mut self.versions, job)
+        bring_back(&mut self.shared.desk, &mut self.versions, job)
     }
 
     /// Gives up the job of this name, for which there is no memory. Its task and all that wait for
@@ -405,7 +393,7 @@ impl<U: Universe> Core<U> {
             × (self.new.sessions ≡ self.old.sessions) }
     {
         laws_of::<U>();
-        fail_named(&mut self.desk, &mut self.versions, name)
+        fail_named(&mut self.shared.desk, &mut self.versions, name)
     }
 
     /// Takes up a step: a value is kept and ends its task; a check that found all as it was keeps
@@ -430,16 +418,7 @@ impl<U: Universe> Core<U> {
     {
         laws_of::<U>();
         let owed = self.sessions.owed();
-        give_in(
-            self.alloc,
-            &*self.universe,
-            &self.cells,
-            &mut self.graph,
-            &mut self.desk,
-            &mut self.versions,
-            owed,
-            step,
-        )
+        give_in(&mut self.shared, &mut self.versions, owed, step)
     }
 
     /// Takes up a step whose answers are known to be the values at its version, as of a job that
@@ -464,44 +443,35 @@ impl<U: Universe> Core<U> {
             return Ok(Gave::Stale(step));
         }
         let owed = self.sessions.owed();
-        take_up(
-            self.alloc,
-            &*self.universe,
-            &self.cells,
-            &mut self.graph,
-            &mut self.desk,
-            &mut self.versions,
-            owed,
-            step,
-        )
+        take_up(&mut self.shared, &mut self.versions, owed, step)
     }
 
     /// How many tasks are ready.
     pub fn ready(&self) -> u64
         ensures { result ≡ length self.now.desk.ready }
     {
-        self.desk.ready() as u64
+        self.shared.desk.ready() as u64
     }
 
     /// How many jobs are out.
     pub fn out(&self) -> u64
         ensures { result ≡ length self.now.desk.out }
     {
-        self.desk.out() as u64
+        self.shared.desk.out() as u64
     }
 
     /// The newest version: the number of commits.
     pub fn newest(&self) -> Version
         ensures { result ≡ length (commits_of (past_of self.now)) }
     {
-        self.cells.last()
+        self.shared.cells.last()
     }
 
     /// The journal.
     pub fn journal(&self) -> &Journal<U>
         ensures { result.now.events ≡ events_of self.now }
     {
-        self.desk.journal()
+        self.shared.desk.journal()
     }
 
     /// Whether the transaction of this index is open.
@@ -522,22 +492,20 @@ impl<U: Universe> Core<U> {
 /// What a key has come to at a version: an injected one has its value only while a transaction is
 /// open there.
 fn polled_at<'a, U: Universe>(
-    universe: &U,
-    cells: &'a Cells<U>,
+    shared: &'a Shared<U>,
     sessions: &Sessions<U>,
     versions: &'a HashMap<u64, Tasks<U>>,
     version: u64,
     key: &KeyRef<U>,
 ) -> Polled<'a, U>
     ensures { came_of result
-        ≡ injected_to (U.meaning.kind (arc_value key.now))
-        (open_count_of sessions.now.epochs version)
-        (cell_at U.Key.eq U.meaning cells.now version (arc_value key.now))
-        (held_to (task_at U.Key.eq (table_at versions.now.entries version) (arc_value key.now))) }
+        ≡ injected_to (U.meaning.kind (arc_value key.now)) (open_count_of sessions.now.epochs
+        version) (cell_at U.Key.eq U.meaning shared.now.cells version (arc_value key.now)) (held_to
+        (task_at U.Key.eq (table_at versions.now.entries version) (arc_value key.now))) }
 {
-    match universe.kind(key) {
+    match shared.universe.kind(key) {
         Kind::Injected if sessions.open_count(version) != 0 => {
-            Polled::Value(cells.at(version, key))
+            Polled::Value(shared.cells.at(version, key))
         }
         _ => polled(versions, version, key),
     }

@@ -13,14 +13,14 @@ ghost use Rattle.dice_core.specs.Sessions.{SessionsSeen};
 use crate::ask::ask_key;
 use crate::asking::leave_promise;
 use crate::close::close_asks;
-use crate::sessions::Sessions;
+use crate::sessions::{Asking, Sessions};
 use dice_key::{KeyRef, NoMemory, Seed, Universe, Version, laws_of};
+use dice_steps::Shared;
 use dice_tasks::{Desk, Tasks};
 use journal::Event;
 use std::alloc::Global;
 use std::collections::HashMap;
 use task_share::Table;
-use versioned_graph::Graph;
 
 /// Makes a table for the tasks of a version, if there is none.
 fn place_table<U: Universe>(
@@ -114,10 +114,7 @@ pub(crate) fn leave_ask<U: Universe>(
 /// A seat asks for a key in an open transaction; the index of the event is the name of the ask. If
 /// memory is refused all is as before.
 pub(crate) fn ask_in<U: Universe>(
-    alloc: Global,
-    universe: &U,
-    graph: &mut Graph<U>,
-    desk: &mut Desk<U>,
+    shared: &mut Shared<U>,
     versions: &mut HashMap<u64, Tasks<U>>,
     sessions: &mut Sessions<U>,
     by: u64,
@@ -125,22 +122,25 @@ pub(crate) fn ask_in<U: Universe>(
     key: KeyRef<U>,
 ) -> Result<u64, NoMemory>
     requires stands { (s : Seen U.Key U.Value)
-        × CoreStands U.Key.eq U.meaning
-        (core_of desk.old versions.old.entries graph.old s sessions.old) }
-    requires opened { is_some (open_at (reverse desk.old.events) tx) ≡ true }
-    ensures index { IfOk result (λ i. i ≡ length desk.old.events) }
-    ensures asked { OnOk result ((o : Opened) × (open_at (reverse desk.old.events) tx ≡ Some o)
-        × Turned U.Key.eq U.meaning o.version versions.old.entries versions.new.entries
-        (λ ps qs. AsksForKey U.Key.eq U.meaning o.version by tx (arc_value key) ps qs graph.old
-        graph.new desk.old desk.new)) }
+        × CoreStands U.Key.eq U.meaning (core_of shared.old.desk versions.old.entries
+        shared.old.graph s sessions.old) }
+    requires opened { is_some (open_at (reverse shared.old.desk.events) tx) ≡ true }
+    ensures index { IfOk result (λ i. i ≡ length shared.old.desk.events) }
+    ensures asked { OnOk result ((o : Opened) × (open_at (reverse shared.old.desk.events) tx
+        ≡ Some o)
+        × Turned U.Key.eq U.meaning o.version versions.old.entries versions.new.entries (λ ps qs.
+        AsksForKey U.Key.eq U.meaning o.version by tx (arc_value key) ps qs shared.old.graph
+        shared.new.graph shared.old.desk shared.new.desk)) }
     ensures err { OnErr result ((s : Seen U.Key U.Value)
-        → IsAsBefore U.Key.eq (core_of desk.old versions.old.entries graph.old s sessions.old)
-        (core_of desk.new versions.new.entries graph.new s sessions.new)) }
+        → IsAsBefore U.Key.eq (core_of shared.old.desk versions.old.entries shared.old.graph s
+        sessions.old) (core_of shared.new.desk versions.new.entries shared.new.graph s
+        sessions.new)) }
+    ensures cells { shared.new.cells ≡ shared.old.cells }
     ensures kept { OnOk result ((s : Seen U.Key U.Value)
-        → CoreStands U.Key.eq U.meaning
-        (core_of desk.old versions.old.entries graph.old s sessions.old)
-        → CoreStands U.Key.eq U.meaning
-        (core_of desk.new versions.new.entries graph.new s sessions.new)) }
+        → CoreStands U.Key.eq U.meaning (core_of shared.old.desk versions.old.entries
+        shared.old.graph s sessions.old)
+        → CoreStands U.Key.eq U.meaning (core_of shared.new.desk versions.new.entries
+        shared.new.graph s sessions.new)) }
 {
     laws_of::<U>();
     let Some(session) = sessions.session(tx) else {
@@ -152,10 +152,9 @@ pub(crate) fn ask_in<U: Universe>(
     let Some(tasks) = versions.get_mut(&version) else {
         unreachable!();
     };
-    let index = ask_key::<U>(
-        alloc, universe, graph, desk, tasks, owed, version, &key, by, tx,
-    )?;
-    sessions.ask(index, by, tx, key);
+    let asking = Asking::new(by, tx, key);
+    let index = ask_key::<U>(shared, tasks, owed, version, &asking)?;
+    sessions.ask(index, asking);
     Ok(index)
 }
 

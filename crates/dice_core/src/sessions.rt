@@ -1,8 +1,9 @@
 //! What is open: transactions, and the asks in them.
-ghost use Rattle.std.specs.Prelude.{◌≡◌, ◌+◌, ◌<◌, ℕ, List, [], ◌∷◌, nat_eq, true, false, Some, None, length, is_some, if◌then◌else◌, IfSome, IfNone, OnOk, OnErr};
+ghost use Rattle.std.specs.Prelude.{◌≡◌, ◌+◌, ◌<◌, ℕ, List, [], ◌∷◌, nat_eq, true, false, Some, None, length, is_some, if◌then◌else◌, IfOk, IfSome, IfNone, OnOk, OnErr};
 ghost use Rattle.std.specs.Arc.{arc_value};
 ghost use Rattle.std.specs.Option.{option_copied};
 ghost use Rattle.journal.specs.Events.{Opened};
+ghost use Rattle.journal.specs.Tell.{told};
 ghost use Rattle.journal.specs.declared.event.Told.{Told};
 ghost use Rattle.journal.specs.declared.event.Told.TheVariants.{Open, Ask, Leave};
 ghost use Rattle.version_epoch.specs.Standings.{open_count_of, epoch_of};
@@ -10,9 +11,11 @@ ghost use Rattle.dice_core.specs.Sessions.{opened_of, has_ask, opened_in, room_i
 
 use dice_key::{KeyRef, NoMemory, Universe};
 use indexmap::IndexSet;
+use journal::Event;
 use std::alloc::Global;
 use std::collections::HashMap;
 use std::marker::Model;
+use std::sync::Arc;
 use version_epoch::Tracker;
 
 /// An open transaction: the seat that opened it, its version, and the indices of its asks that were
@@ -145,6 +148,21 @@ impl<U: Universe> Model for Asking<U> {
 }
 
 impl<U: Universe> Asking<U> {
+    /// An ask of a seat for a key, in the transaction of this index.
+    pub(crate) fn new(by: u64, opened: u64, key: KeyRef<U>) -> Asking<U>
+        ensures { result ≡ record { by = by; opened = opened; key = arc_value key } }
+    {
+        Asking { by, opened, key }
+    }
+
+    /// The event that tells it.
+    pub(crate) fn told(&self) -> Result<Event<U::Key, U::Value>, NoMemory>
+        ensures { IfOk result
+            (λ e. told e ≡ Ask self.now.by self.now.opened self.now.key) }
+    {
+        Ok(Event::Ask(self.by, self.opened, Arc::try_clone(&self.key)?))
+    }
+
     /// The number of the seat that asked.
     pub(crate) fn by(&self) -> u64
         ensures { result ≡ self.now.by }
@@ -288,20 +306,15 @@ impl<U: Universe> Sessions<U> {
 
     /// In an open transaction a seat asks for a key; the index is that of the Ask, which is written
     /// next. It takes the room that was made for it, and no memory.
-    pub(crate) fn ask(&mut self, index: u64, by: u64, tx: u64, key: KeyRef<U>)
+    pub(crate) fn ask(&mut self, index: u64, asking: Asking<U>)
         requires fresh { ask_at self.old index ≡ None }
         requires room { 0 < self.old.room }
-        requires listed { 0 < ask_room self.old tx }
-        ensures exact { Asks index (record { by = by; opened = tx; key = arc_value key }) self.old
-            self.new }
-        ensures stands { (R : List (Told U.Key U.Value)) → SessionsStand R self.old
-            → length R ≡ index → SessionsStand (Ask by tx (arc_value key) ∷ R) self.new }
+        requires listed { 0 < ask_room self.old asking.opened }
+        ensures exact { Asks index asking self.old self.new }
+        ensures stands { (R : List (Told U.Key U.Value)) → SessionsStand R self.old → length R
+            ≡ index → SessionsStand (Ask asking.by asking.opened asking.key ∷ R) self.new }
     {
-        let asking = Asking {
-            by,
-            opened: tx,
-            key,
-        };
+        let tx = asking.opened;
         let _ = self.asks.insert(index, asking);
         list_in(&mut self.transactions, tx, index);
     }

@@ -95,6 +95,18 @@ module _ {K V : Type 0} (m : Meaning K V) (veq : V → V → Bool) (a : Assigned
       by_work Computes i f = (i, done_step (m.next a.name.key a.answered a.name.version) x f)
       by_work (Checks y T b) i f = absurd (no_value (finding veq T (values_of a.answered)) x f)
 
+  no_change : (s : Step K V) (d : K) → of_move s ≡ Changed d → ⊥
+  no_change (Asks ks) d e = let c : Wanting ks ≡ Changed d = e in cc
+  no_change (Ends x) d e = let c : Valued x ≡ Changed d = e in cc
+
+  -- what finds a change is a check
+  pub found_by_check : (d : K) → outcome_of m veq a ≡ Changed d → (x : V) × (T : List (Answered K V)) × (b : ℕ) × (a.work ≡ Checks x T b)
+  found_by_check d e = by_work a.work refl e
+    where
+      by_work : (w : Work K V) → a.work ≡ w → comes m veq w a.name a.answered ≡ Changed d → (x : V) × (T : List (Answered K V)) × (b : ℕ) × (a.work ≡ Checks x T b)
+      by_work Computes i f = absurd (no_change (m.next a.name.key a.answered a.name.version) d f)
+      by_work (Checks x T b) i f = (x, T, b, i)
+
   module _ (s : Stepped K V) (step : IsStepOf m veq s a) (y : V) (T : List (Answered K V)) (b : ℕ) (work : a.work ≡ Checks y T b) where
     explained : Explains T (values_of a.answered) s.outcome
     explained = subst (λ w. IsExplained w a.answered s.outcome) work step.explained

@@ -6,6 +6,7 @@ ghost use Rattle.std.specs.Option.{option_copied};
 ghost use Rattle.versioned_graph.specs.Entries.{Stored, kept_of};
 ghost use Rattle.dice_steps.specs.Agreements.{ChecksOne, HoldsAtBase, HoldsAtBoth};
 
+use crate::shared::Shared;
 use dice_jobs::Assignment;
 use dice_key::{Batch, KeyRef, Kind, Universe};
 use versioned_graph::{Entry, Graph};
@@ -27,21 +28,21 @@ fn asked_alone<'a, U: Universe>(
 
 /// Whether a check asks one key, whose entry holds at the version and at the check's base.
 pub(crate) fn holds_at_both<U: Universe>(
-    universe: &U,
-    graph: &Graph<U>,
+    shared: &Shared<U>,
     version: u64,
     assignment: &Assignment<U>,
     batch: &Batch<U::Key>,
 ) -> bool
-    ensures { result ≡ true → HoldsAtBoth U.Key.eq graph.now version assignment.now batch.now }
+    ensures { result ≡ true
+        → HoldsAtBoth U.Key.eq shared.now.graph version assignment.now batch.now }
 {
     let Some((key, base)) = asked_alone::<U>(assignment, batch) else {
         return false;
     };
-    if let Kind::Injected = universe.kind(key) {
+    if let Kind::Injected = shared.universe.kind(key) {
         return false;
     }
-    match graph.entry(key) {
+    match shared.graph.entry(key) {
         Some(entry) => entry.holds_at(version) && entry.holds_at(base),
         None => false,
     }

@@ -20,11 +20,11 @@ ghost use Rattle.dice_steps.specs.Taken.{IsBatchDone};
 ghost use Rattle.dice_steps.specs.Batches.{AreMakable, GivesUp, HasRoomToMake, MakesOn, MakesParted, MakesParts, TakesUp};
 
 use crate::plan::{Part, Plan, plan_batch};
+use crate::shared::Shared;
 use dice_jobs::{Parked, Report, Step};
 use dice_key::{KeyRef, NoMemory, Universe, laws_of};
 use dice_tasks::{Desk, How, Tasks, cascade, end_all, go_on, make, park};
-use injected::{Cells, cells_are_the_inputs};
-use std::alloc::Global;
+use injected::cells_are_the_inputs;
 use std::sync::Arc;
 use versioned_graph::Graph;
 
@@ -118,9 +118,8 @@ fn make_part<U: Universe>(
 /// Does what was planned: the task of a key, which was out, ends, or goes on or waits once what its
 /// batch needs is made. It takes no memory.
 fn take_up<U: Universe>(
-    desk: &mut Desk<U>,
+    shared: &mut Shared<U>,
     tasks: &mut Tasks<U>,
-    graph: &mut Graph<U>,
     version: u64,
     key: &KeyRef<U>,
     parked: Parked<U>,
@@ -132,33 +131,41 @@ fn take_up<U: Universe>(
     requires next { AsksNext U.Key.eq U.meaning version (arc_value key.now) parked.job.work
         parked.job.answered (IsWaiting parked.keys) }
     requires hand { (w : World U.Key U.Value) × (owed : ℕ) × (s : Seen U.Key U.Value)
-        × AtHand U.Key.eq U.meaning version w owed tasks.old desk.old graph.old s
-        × IsPlan U.Key.eq U.meaning version owed parked.job parked.keys tasks.old desk.old graph.old
-        s plan }
-    ensures given { TakesUp U.Key.eq U.meaning version parked.job parked.keys tasks.old desk.old
-        tasks.new desk.new }
+        × AtHand U.Key.eq U.meaning version w owed tasks.old shared.old.desk shared.old.graph s
+        × IsPlan U.Key.eq U.meaning version owed parked.job parked.keys tasks.old shared.old.desk
+        shared.old.graph s plan }
+    ensures given { TakesUp U.Key.eq U.meaning version parked.job parked.keys tasks.old
+        shared.old.desk tasks.new shared.new.desk }
+    ensures cells { shared.new.cells ≡ shared.old.cells }
     ensures done { (w : World U.Key U.Value) (owed : ℕ) (s : Seen U.Key U.Value)
-        → AtHand U.Key.eq U.meaning version w owed tasks.old desk.old graph.old s
-        → IsPlan U.Key.eq U.meaning version owed parked.job parked.keys tasks.old desk.old graph.old
-        s plan
-        → IsPlanDone U.Key.eq U.meaning version owed parked.job parked.keys tasks.old desk.old
-        graph.old s plan tasks.new desk.new graph.new }
+        → AtHand U.Key.eq U.meaning version w owed tasks.old shared.old.desk shared.old.graph s
+        → IsPlan U.Key.eq U.meaning version owed parked.job parked.keys tasks.old shared.old.desk
+        shared.old.graph s plan
+        → IsPlanDone U.Key.eq U.meaning version owed parked.job parked.keys tasks.old
+        shared.old.desk shared.old.graph s plan tasks.new shared.new.desk shared.new.graph }
     ensures kept { (w : World U.Key U.Value) (owed : ℕ) (s : Seen U.Key U.Value)
-        → AtHand U.Key.eq U.meaning version w owed tasks.old desk.old graph.old s
-        → IsPlan U.Key.eq U.meaning version owed parked.job parked.keys tasks.old desk.old graph.old
-        s plan → AtHand U.Key.eq U.meaning version w owed tasks.new desk.new graph.new s }
+        → AtHand U.Key.eq U.meaning version w owed tasks.old shared.old.desk shared.old.graph s
+        → IsPlan U.Key.eq U.meaning version owed parked.job parked.keys tasks.old shared.old.desk
+        shared.old.graph s plan
+        → AtHand U.Key.eq U.meaning version w owed tasks.new shared.new.desk shared.new.graph s }
 {
     laws_of::<U>();
     cells_are_the_inputs::<U>();
     match plan {
-        Plan::Ends(owners) => give_up::<U>(desk, tasks, version, key, How::Cycle(owners)),
+        Plan::Ends(owners) => give_up::<U>(
+            &mut shared.desk,
+            tasks,
+            version,
+            key,
+            How::Cycle(owners),
+        ),
         Plan::GoesOn(parts, next) => {
-            make_all::<U>(desk, tasks, graph, version, parts);
-            go_on::<U>(desk, tasks, version, key, parked, next);
+            make_all::<U>(&mut shared.desk, tasks, &mut shared.graph, version, parts);
+            go_on::<U>(&mut shared.desk, tasks, version, key, parked, next);
         }
         Plan::Waits(parts, waits) => {
-            make_all::<U>(desk, tasks, graph, version, parts);
-            park::<U>(desk, tasks, version, key, parked, waits);
+            make_all::<U>(&mut shared.desk, tasks, &mut shared.graph, version, parts);
+            park::<U>(&mut shared.desk, tasks, version, key, parked, waits);
         }
     }
 }
@@ -171,11 +178,7 @@ fn take_up<U: Universe>(
 /// for `owed` events beside then as before. It costs a look-up for each key of the batch, a walk
 /// over the waits that begin there, and what `give_up` says.
 pub fn ask_batch<U: Universe>(
-    alloc: Global,
-    universe: &U,
-    cells: &Cells<U>,
-    graph: &mut Graph<U>,
-    desk: &mut Desk<U>,
+    shared: &mut Shared<U>,
     tasks: &mut Tasks<U>,
     owed: usize,
     step: Step<U>,
@@ -183,51 +186,46 @@ pub fn ask_batch<U: Universe>(
     requires asks { (ks : List U.Key) × (step.outcome ≡ Wanting ks) }
     requires out { task_at U.Key.eq tasks.old step.job.name.key ≡ Some (held_of step.job IsOut) }
     requires hand { (w : World U.Key U.Value)
-        × AtHand U.Key.eq U.meaning step.job.name.version w owed tasks.old desk.old graph.old
-        cells.now }
+        × AtHand U.Key.eq U.meaning step.job.name.version w owed tasks.old shared.old.desk
+        shared.old.graph shared.old.cells }
     ensures given { OnOk result ((ks : List U.Key) → step.outcome ≡ Wanting ks
-        → TakesUp U.Key.eq U.meaning step.job.name.version step.job ks tasks.old desk.old tasks.new
-        desk.new) }
+        → TakesUp U.Key.eq U.meaning step.job.name.version step.job ks tasks.old shared.old.desk
+        tasks.new shared.new.desk) }
     ensures done { OnOk result ((ks : List U.Key) → step.outcome ≡ Wanting ks
-        → IsBatchDone U.Key.eq U.meaning step.job.name.version step.job ks cells.now tasks.old
-        desk.old graph.old tasks.new desk.new graph.new) }
+        → IsBatchDone U.Key.eq U.meaning step.job.name.version step.job ks shared.old.cells
+        tasks.old shared.old.desk shared.old.graph tasks.new shared.new.desk shared.new.graph) }
+    ensures cells { shared.new.cells ≡ shared.old.cells }
     ensures kept { (w : World U.Key U.Value)
-        → AtHand U.Key.eq U.meaning step.job.name.version w owed tasks.old desk.old graph.old
-        cells.now
-        → AtHand U.Key.eq U.meaning step.job.name.version w owed tasks.new desk.new graph.new
-        cells.now }
+        → AtHand U.Key.eq U.meaning step.job.name.version w owed tasks.old shared.old.desk
+        shared.old.graph shared.old.cells
+        → AtHand U.Key.eq U.meaning step.job.name.version w owed tasks.new shared.new.desk
+        shared.new.graph shared.old.cells }
 
     // If memory is refused, all that is seen is as before.
     ensures step { IfErr result (λ e. e.1 ≡ step) }
     ensures tasks { OnErr result (KeepsTasks U.Key.eq tasks.old tasks.new) }
     ensures waits { OnErr result (KeepsAsks U.Key.eq tasks.old tasks.new) }
     ensures room { OnErr result (KeepsRoom U.Key.eq tasks.old tasks.new) }
-    ensures hands { OnErr result (KeepsHands desk.old desk.new) }
-    ensures desk_room { OnErr result (KeepsDeskRoom desk.old desk.new) }
-    ensures graph { OnErr result (graph.new ≡ graph.old) }
+    ensures hands { OnErr result (KeepsHands shared.old.desk shared.new.desk) }
+    ensures desk_room { OnErr result (KeepsDeskRoom shared.old.desk shared.new.desk) }
+    ensures graph { OnErr result (shared.new.graph ≡ shared.old.graph) }
 {
     laws_of::<U>();
     let version = step.assignment().name().version();
-    let (key, plan) = match plan_step::<U>(
-        alloc, universe, cells, graph, desk, tasks, owed, &step,
-    ) {
+    let (key, plan) = match plan_step::<U>(shared, tasks, owed, &step) {
         Ok(planned) => planned,
         Err(refused) => return Err((refused, step)),
     };
     let Some(parked) = step.into_parked() else {
         unreachable!();
     };
-    take_up::<U>(desk, tasks, graph, version, &key, parked, plan);
+    take_up::<U>(shared, tasks, version, &key, parked, plan);
     Ok(())
 }
 
 /// Plans what comes of the batch that a step asks, and copies the key of its task.
 fn plan_step<U: Universe>(
-    alloc: Global,
-    universe: &U,
-    cells: &Cells<U>,
-    graph: &Graph<U>,
-    desk: &mut Desk<U>,
+    shared: &mut Shared<U>,
     tasks: &mut Tasks<U>,
     owed: usize,
     step: &Step<U>,
@@ -236,19 +234,21 @@ fn plan_step<U: Universe>(
     requires out { task_at U.Key.eq tasks.old step.now.job.name.key
         ≡ Some (held_of step.now.job IsOut) }
     requires hand { (w : World U.Key U.Value)
-        × AtHand U.Key.eq U.meaning step.now.job.name.version w owed tasks.old desk.old graph.now
-        cells.now }
+        × AtHand U.Key.eq U.meaning step.now.job.name.version w owed tasks.old shared.old.desk
+        shared.old.graph shared.old.cells }
     ensures tasks { KeepsTasks U.Key.eq tasks.old tasks.new }
     ensures asks { KeepsAsks U.Key.eq tasks.old tasks.new }
     ensures room { KeepsRoom U.Key.eq tasks.old tasks.new }
-    ensures hands { KeepsHands desk.old desk.new }
-    ensures desk_room { KeepsDeskRoom desk.old desk.new }
+    ensures hands { KeepsHands shared.old.desk shared.new.desk }
+    ensures desk_room { KeepsDeskRoom shared.old.desk shared.new.desk }
+    ensures graph { shared.new.graph ≡ shared.old.graph }
+    ensures cells { shared.new.cells ≡ shared.old.cells }
     ensures key { IfOk result (λ r. arc_value r.0 ≡ step.now.job.name.key) }
     ensures plan { IfOk result (λ r. (ks : List U.Key) → step.now.outcome ≡ Wanting ks
         → IsPlan U.Key.eq U.meaning step.now.job.name.version owed step.now.job ks tasks.new
-        desk.new graph.now cells.now r.1) }
-    ensures still { IfOk result
-        (λ r. IfEnds r.1 ((tasks.new ≡ tasks.old) × (desk.new ≡ desk.old))) }
+        shared.new.desk shared.new.graph shared.new.cells r.1) }
+    ensures still { IfOk result (λ r. IfEnds r.1 ((tasks.new ≡ tasks.old) × (shared.new.desk
+        ≡ shared.old.desk))) }
     ensures next { IfOk result (λ r. (ks : List U.Key) → step.now.outcome ≡ Wanting ks
         → AsksNext U.Key.eq U.meaning step.now.job.name.version step.now.job.name.key
         step.now.job.work step.now.job.answered (IsWaiting ks)) }
@@ -258,9 +258,7 @@ fn plan_step<U: Universe>(
     let key = Arc::try_clone(assignment.name().key())?;
     match step.report() {
         Report::Asks(batch) => {
-            let plan = plan_batch::<U>(
-                alloc, universe, cells, graph, desk, tasks, owed, assignment, batch,
-            )?;
+            let plan = plan_batch::<U>(shared, tasks, owed, assignment, batch)?;
             Ok((key, plan))
         }
         _ => unreachable!(),

@@ -8,9 +8,11 @@ mod batch;
 mod finish;
 mod noted;
 mod plan;
+mod shared;
 mod wake;
 mod woken;
 
 pub use batch::{ask_batch, give_up};
 pub use finish::{differs, done, same};
 pub use noted::note;
+pub use shared::Shared;

@@ -22,13 +22,13 @@ ghost use Rattle.lists.specs.Lists.{Has};
 
 use crate::agreed::holds_at_both;
 use crate::noted::note;
+use crate::shared::Shared;
 use cycle_guard::{count_above, would_close};
 use dice_jobs::Assignment;
-use dice_key::{Answers, Batch, KeyRef, Kind, NoMemory, Path, Seed, Universe, ValueRef, laws_of};
+use dice_key::{Answers, Batch, KeyRef, Kind, NoMemory, Path, Universe, ValueRef, laws_of};
 use dice_tasks::{Desk, Making, Next, Owners, Tasks, looked, prepare, prepare_anew};
-use injected::Cells;
+use small_set::SmallSet;
 use std::alloc::Global;
-use std::collections::HashSet;
 use std::sync::Arc;
 use task_share::{Wait, table_in_order};
 use versioned_graph::{Found, Graph};
@@ -79,19 +79,15 @@ pub(crate) enum Plan<U: Universe> {
 /// It costs a look-up for each key, and a walk over the waits that begin there; if there is a
 /// cycle, also a walk over the tasks that end with it.
 pub(crate) fn plan_batch<U: Universe>(
-    alloc: Global,
-    universe: &U,
-    cells: &Cells<U>,
-    graph: &Graph<U>,
-    desk: &mut Desk<U>,
+    shared: &mut Shared<U>,
     tasks: &mut Tasks<U>,
     owed: usize,
     assignment: &Assignment<U>,
     batch: &Batch<U::Key>,
 ) -> Result<Plan<U>, NoMemory>
     requires hand { (w : World U.Key U.Value)
-        × AtHand U.Key.eq U.meaning assignment.now.name.version w owed tasks.old desk.old graph.now
-        cells.now }
+        × AtHand U.Key.eq U.meaning assignment.now.name.version w owed tasks.old shared.old.desk
+        shared.old.graph shared.old.cells }
     requires out { task_at U.Key.eq tasks.old assignment.now.name.key
         ≡ Some (held_of assignment.now IsOut) }
     requires next { AsksNext U.Key.eq U.meaning assignment.now.name.version assignment.now.name.key
@@ -99,18 +95,22 @@ pub(crate) fn plan_batch<U: Universe>(
     ensures tasks { KeepsTasks U.Key.eq tasks.old tasks.new }
     ensures asks { KeepsAsks U.Key.eq tasks.old tasks.new }
     ensures room { KeepsRoom U.Key.eq tasks.old tasks.new }
-    ensures hands { KeepsHands desk.old desk.new }
-    ensures desk_room { KeepsDeskRoom desk.old desk.new }
+    ensures hands { KeepsHands shared.old.desk shared.new.desk }
+    ensures desk_room { KeepsDeskRoom shared.old.desk shared.new.desk }
+    ensures graph { shared.new.graph ≡ shared.old.graph }
+    ensures cells { shared.new.cells ≡ shared.old.cells }
     ensures plan { IfOk result (IsPlan U.Key.eq U.meaning assignment.now.name.version owed
-        assignment.now batch.now tasks.new desk.new graph.now cells.now) }
-    ensures still { IfOk result (λ p. IfEnds p ((tasks.new ≡ tasks.old) × (desk.new ≡ desk.old))) }
+        assignment.now batch.now tasks.new shared.new.desk shared.new.graph shared.new.cells) }
+    ensures still { IfOk result (λ p. IfEnds p ((tasks.new ≡ tasks.old) × (shared.new.desk
+        ≡ shared.old.desk))) }
 {
     laws_of::<U>();
     let name = assignment.name();
     let version = name.version();
     let own = name.key();
-    let born = told_so_far::<U>(desk);
-    let parts = match look_over::<U>(alloc, universe, graph, tasks, version, own, batch, born)? {
+    let alloc = shared.alloc;
+    let born = told_so_far::<U>(&shared.desk);
+    let parts = match look_over::<U>(shared, tasks, version, own, batch, born)? {
         Survey::Cycle(path) => {
             let count = count_above(alloc, tasks, own)?;
             return Ok(Plan::Ends(Owners::new(alloc, path, count)?));
@@ -119,15 +119,14 @@ pub(crate) fn plan_batch<U: Universe>(
     };
     let waits = reserve_parts::<U>(alloc, tasks, own, &parts)?;
     let count = parts.len();
-    desk.reserve(owed, count, count)?;
+    shared.desk.reserve(owed, count, count)?;
     if !waits.is_empty() {
         return Ok(Plan::Waits(parts, waits));
     }
-    let Some(answers) = answers_of::<U>(alloc, universe, cells, graph, tasks, version, batch)?
-    else {
+    let Some(answers) = answers_of::<U>(shared, tasks, version, batch)? else {
         return Ok(Plan::Waits(parts, waits));
     };
-    let agreed = holds_at_both::<U>(universe, graph, version, assignment, batch);
+    let agreed = holds_at_both::<U>(shared, version, assignment, batch);
     let next = Next::of_batch(assignment, batch, answers, agreed)?;
     Ok(Plan::GoesOn(parts, next))
 }
@@ -142,25 +141,23 @@ fn told_so_far<U: Universe>(desk: &Desk<U>) -> u64
 /// What the keys of a batch come to, in their order: if one comes to a cycle the others are not
 /// looked at. It changes nothing.
 fn look_over<U: Universe>(
-    alloc: Global,
-    universe: &U,
-    graph: &Graph<U>,
+    shared: &Shared<U>,
     tasks: &Tasks<U>,
     version: u64,
     own: &KeyRef<U>,
     batch: &Batch<U::Key>,
     born: u64,
 ) -> Result<Survey<U>, NoMemory>
-    ensures { IfOk result (IsSurvey U.Key.eq U.meaning version born tasks.now graph.now
+    ensures { IfOk result (IsSurvey U.Key.eq U.meaning version born tasks.now shared.now.graph
         (arc_value own.now) batch.now) }
 {
     match batch.keys() {
-        [key] => look_at::<U>(alloc, universe, graph, tasks, version, own, key, born),
+        [key] => look_at::<U>(shared, tasks, version, own, key, born),
         keys => {
             if keys.len() <= FEW {
-                look_over_few::<U>(alloc, universe, graph, tasks, version, own, keys, born)
+                look_over_few::<U>(shared, tasks, version, own, keys, born)
             } else {
-                look_over_all::<U>(alloc, universe, graph, tasks, version, own, keys, born)
+                look_over_all::<U>(shared, tasks, version, own, keys, born)
             }
         }
     }
@@ -168,23 +165,21 @@ fn look_over<U: Universe>(
 
 /// What a key that is asked alone comes to.
 fn look_at<U: Universe>(
-    alloc: Global,
-    universe: &U,
-    graph: &Graph<U>,
+    shared: &Shared<U>,
     tasks: &Tasks<U>,
     version: u64,
     own: &KeyRef<U>,
     key: &KeyRef<U>,
     born: u64,
 ) -> Result<Survey<U>, NoMemory>
-    ensures { IfOk result (IsSurvey U.Key.eq U.meaning version born tasks.now graph.now
+    ensures { IfOk result (IsSurvey U.Key.eq U.meaning version born tasks.now shared.now.graph
         (arc_value own.now) (arc_value key.now ∷ [])) }
 {
-    let mut parts = Vec::new(alloc);
-    if let Kind::Injected = universe.kind(key) {
+    let mut parts = Vec::new(shared.alloc);
+    if let Kind::Injected = shared.universe.kind(key) {
         return Ok(Survey::Parts(parts));
     }
-    match meet::<U>(alloc, graph, tasks, version, own, key, born)? {
+    match meet::<U>(shared, tasks, version, own, key, born)? {
         Met::Cycle(path) => Ok(Survey::Cycle(path)),
         Met::Part(part) => {
             parts.push(part)?;
@@ -196,25 +191,23 @@ fn look_at<U: Universe>(
 /// What a few keys come to, in their order; each is looked at where it stands first. Those that
 /// stand twice are found by a walk over the parts, which takes no memory.
 fn look_over_few<U: Universe>(
-    alloc: Global,
-    universe: &U,
-    graph: &Graph<U>,
+    shared: &Shared<U>,
     tasks: &Tasks<U>,
     version: u64,
     own: &KeyRef<U>,
     keys: &[KeyRef<U>],
     born: u64,
 ) -> Result<Survey<U>, NoMemory>
-    ensures { IfOk result (IsSurvey U.Key.eq U.meaning version born tasks.now graph.now
+    ensures { IfOk result (IsSurvey U.Key.eq U.meaning version born tasks.now shared.now.graph
         (arc_value own.now) (map arc_value keys.now)) }
 {
     laws_of::<U>();
-    let mut parts = Vec::new(alloc);
+    let mut parts = Vec::new(shared.alloc);
     for key in keys {
-        if is_passed::<U>(universe, &parts, key) {
+        if is_passed::<U>(&*shared.universe, &parts, key) {
             continue;
         }
-        match meet::<U>(alloc, graph, tasks, version, own, key, born)? {
+        match meet::<U>(shared, tasks, version, own, key, born)? {
             Met::Cycle(path) => return Ok(Survey::Cycle(path)),
             Met::Part(part) => parts.push(part)?,
         }
@@ -257,26 +250,24 @@ fn is_for<U: Universe>(part: &Part<U>, key: &KeyRef<U>) -> bool
 
 /// What many keys come to, in their order; each is looked at where it stands first.
 fn look_over_all<U: Universe>(
-    alloc: Global,
-    universe: &U,
-    graph: &Graph<U>,
+    shared: &Shared<U>,
     tasks: &Tasks<U>,
     version: u64,
     own: &KeyRef<U>,
     keys: &[KeyRef<U>],
     born: u64,
 ) -> Result<Survey<U>, NoMemory>
-    ensures { IfOk result (IsSurvey U.Key.eq U.meaning version born tasks.now graph.now
+    ensures { IfOk result (IsSurvey U.Key.eq U.meaning version born tasks.now shared.now.graph
         (arc_value own.now) (map arc_value keys.now)) }
 {
     laws_of::<U>();
-    let mut seen = HashSet::with_hasher(alloc, universe.seed());
-    let mut parts = Vec::new(alloc);
+    let mut seen = SmallSet::new(shared.alloc, shared.universe.seed());
+    let mut parts = Vec::new(shared.alloc);
     for key in keys {
-        if !is_new::<U>(universe, &mut seen, key)? {
+        if !is_new::<U>(&*shared.universe, &mut seen, key)? {
             continue;
         }
-        match meet::<U>(alloc, graph, tasks, version, own, key, born)? {
+        match meet::<U>(shared, tasks, version, own, key, born)? {
             Met::Cycle(path) => return Ok(Survey::Cycle(path)),
             Met::Part(part) => parts.push(part)?,
         }
@@ -288,17 +279,17 @@ fn look_over_all<U: Universe>(
 /// Whether a key is not injected and was not seen before. It is noted then.
 fn is_new<U: Universe>(
     universe: &U,
-    seen: &mut HashSet<KeyRef<U>, Seed>,
+    seen: &mut SmallSet<KeyRef<U>>,
     key: &KeyRef<U>,
 ) -> Result<bool, NoMemory>
     ensures new { IfOk result (λ b. MatchBool b ((U.meaning.kind (arc_value key.now) ≢ Injected)
-        × (list_any (λ k. U.Key.eq (arc_value key.now) (arc_value k)) seen.old.keys ≡ false))
+        × (list_any (λ k. U.Key.eq (arc_value key.now) (arc_value k)) seen.old ≡ false))
         ((U.meaning.kind (arc_value key.now) ≡ Injected)
-        ⊎ (list_any (λ k. U.Key.eq (arc_value key.now) (arc_value k)) seen.old.keys ≡ true))) }
+        ⊎ (list_any (λ k. U.Key.eq (arc_value key.now) (arc_value k)) seen.old ≡ true))) }
     ensures seen { IfOk result (λ b. (q : U.Key)
-        → list_any (λ k. U.Key.eq q (arc_value k)) seen.new.keys
+        → list_any (λ k. U.Key.eq q (arc_value k)) seen.new
         ≡ ((b && U.Key.eq (arc_value key.now) q)
-        || list_any (λ k. U.Key.eq q (arc_value k)) seen.old.keys)) }
+        || list_any (λ k. U.Key.eq q (arc_value k)) seen.old)) }
 {
     laws_of::<U>();
     match universe.kind(key) {
@@ -307,11 +298,10 @@ fn is_new<U: Universe>(
     }
 }
 
-/// What a key that is not injected comes to, if the task of `own` asks for it. One that has no place
-/// in the table is looked up there once.
+/// What a key that is not injected comes to, if the task of `own` asks for it. One that has no
+/// place in the table is looked up there once.
 fn meet<U: Universe>(
-    alloc: Global,
-    graph: &Graph<U>,
+    shared: &Shared<U>,
     tasks: &Tasks<U>,
     version: u64,
     own: &KeyRef<U>,
@@ -319,17 +309,17 @@ fn meet<U: Universe>(
     born: u64,
 ) -> Result<Met<U>, NoMemory>
     requires { U.meaning.kind (arc_value key.now) ≢ Injected }
-    ensures { IfOk result (IsMet U.Key.eq U.meaning version born tasks.now graph.now
+    ensures { IfOk result (IsMet U.Key.eq U.meaning version born tasks.now shared.now.graph
         (arc_value own.now) (arc_value key.now)) }
 {
     let name = Arc::try_clone(key)?;
     let making = if is_unplaced::<U>(tasks, own, key) {
-        prepare_anew::<U>(alloc, graph, version, key, born)?
+        prepare_anew::<U>(shared.alloc, &shared.graph, version, key, born)?
     } else {
-        if let Some(path) = cycle_at::<U>(alloc, tasks, own, key)? {
+        if let Some(path) = cycle_at::<U>(shared.alloc, tasks, own, key)? {
             return Ok(Met::Cycle(path));
         }
-        prepare::<U>(alloc, graph, tasks, version, key, born)?
+        prepare::<U>(shared.alloc, &shared.graph, tasks, version, key, born)?
     };
     let awaited = is_awaited::<U>(tasks, key, &making);
     Ok(Met::Part(Part {
@@ -449,24 +439,21 @@ fn reserve_part<U: Universe>(
 
 /// The answers to a batch, if each of its keys has a value at hand.
 fn answers_of<U: Universe>(
-    alloc: Global,
-    universe: &U,
-    cells: &Cells<U>,
-    graph: &Graph<U>,
+    shared: &Shared<U>,
     tasks: &Tasks<U>,
     version: u64,
     batch: &Batch<U::Key>,
 ) -> Result<Option<Answers<U::Value>>, NoMemory>
-    ensures some { IfOk result (λ o. IfSome o
-        (AllZip (IsAtHand U.Key.eq U.meaning version tasks.now graph.now cells.now) batch.now)) }
+    ensures some { IfOk result (λ o. IfSome o (AllZip (IsAtHand U.Key.eq U.meaning version tasks.now
+        shared.now.graph shared.now.cells) batch.now)) }
     ensures none { IfOk result (λ o. IfNone o ((q : U.Key) × Has batch.now q
-        × HasNone U.Key.eq U.meaning version tasks.now graph.now q)) }
+        × HasNone U.Key.eq U.meaning version tasks.now shared.now.graph q)) }
 {
     laws_of::<U>();
-    let mut answers = Answers::new(alloc);
+    let mut answers = Answers::new(shared.alloc);
     let keys = batch.keys();
     for key in keys {
-        let Some(value) = value_at_hand::<U>(universe, cells, graph, tasks, version, key) else {
+        let Some(value) = value_at_hand::<U>(shared, tasks, version, key) else {
             return Ok(None);
         };
         answers.push(Arc::try_clone(value)?)?;
@@ -476,23 +463,21 @@ fn answers_of<U: Universe>(
 
 /// The value of a key at a version, if it is at hand.
 fn value_at_hand<'a, U: Universe>(
-    universe: &U,
-    cells: &'a Cells<U>,
-    graph: &'a Graph<U>,
+    shared: &'a Shared<U>,
     tasks: &'a Tasks<U>,
     version: u64,
     key: &KeyRef<U>,
 ) -> Option<&'a ValueRef<U>>
-    ensures some { IfSome result (λ x. IsAtHand U.Key.eq U.meaning version tasks.now graph.now
-        cells.now (arc_value key.now) (arc_value x.now)) }
-    ensures none { IfNone result
-        (HasNone U.Key.eq U.meaning version tasks.now graph.now (arc_value key.now)) }
+    ensures some { IfSome result (λ x. IsAtHand U.Key.eq U.meaning version tasks.now
+        shared.now.graph shared.now.cells (arc_value key.now) (arc_value x.now)) }
+    ensures none { IfNone result (HasNone U.Key.eq U.meaning version tasks.now shared.now.graph
+        (arc_value key.now)) }
 {
-    match universe.kind(key) {
-        Kind::Injected => Some(cells.at(version, key)),
+    match shared.universe.kind(key) {
+        Kind::Injected => Some(shared.cells.at(version, key)),
         _ => match ended_value::<U>(tasks, key) {
             Some(value) => Some(value),
-            None => kept_value::<U>(graph, key, version),
+            None => kept_value::<U>(&shared.graph, key, version),
         },
     }
 }

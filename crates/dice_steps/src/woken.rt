@@ -7,14 +7,22 @@ ghost use Rattle.dice_steps.specs.Agreements.{IsEntryOf, AgreesIfKept, AllAgreeI
 ghost use Rattle.dice_steps.specs.Wokens.{AsksAlone, AsksMore, HasAnswer, IsAnswer, WaitsAlone, HasAnswers, IsAnswered, AreWoken};
 
 use crate::agreed::holds_at_base;
+use crate::shared::Shared;
 use crate::wake::Woken;
 use dice_key::{Answers, KeyRef, Kind, NoMemory, Universe, ValueRef, laws_of};
 use dice_tasks::{Next, Tasks};
-use injected::Cells;
-use std::alloc::Global;
 use std::sync::Arc;
 use task_share::table_in_order;
 use versioned_graph::{Entry, Graph};
+
+/// A key whose task ends, its value, and what the graph keeps of it with that value, if more than
+/// one task asks for it.
+#[derive(Drop)]
+struct Ended<'a, U: Universe> {
+    key: &'a KeyRef<U>,
+    value: &'a ValueRef<U>,
+    kept: Option<&'a Entry<U>>,
+}
 
 /// The tasks that wait for a key alone, each with what it goes on with when the key's task ends
 /// with this value: the answers to its batch. It takes the memory for them, and changes nothing.
@@ -23,30 +31,26 @@ use versioned_graph::{Entry, Graph};
 /// wait for it alone; if more than one asks, also a comparison of the value with the one that the
 /// graph keeps of the key.
 pub(crate) fn woken_by<U: Universe>(
-    alloc: Global,
-    universe: &U,
-    cells: &Cells<U>,
-    graph: &Graph<U>,
+    shared: &Shared<U>,
     tasks: &Tasks<U>,
     version: u64,
     key: &KeyRef<U>,
     value: &ValueRef<U>,
 ) -> Result<Vec<Woken<U>>, NoMemory>
     requires answers { HasAnswers U.Key.eq U.meaning (arc_value key.now) tasks.now }
-    requires agree { AllAgreeIfKept U.Key.eq U.meaning cells.now version (arc_value key.now)
-        (arc_value value.now) tasks.now graph.now }
-    ensures { IfOk result (λ ws. AreWoken U.Key.eq U.meaning cells.now version (arc_value key.now)
-        (arc_value value.now) tasks.now ws.items) }
+    requires agree { AllAgreeIfKept U.Key.eq U.meaning shared.now.cells version (arc_value key.now)
+        (arc_value value.now) tasks.now shared.now.graph }
+    ensures { IfOk result (λ ws. AreWoken U.Key.eq U.meaning shared.now.cells version (arc_value
+        key.now) (arc_value value.now) tasks.now ws.items) }
 {
     laws_of::<U>();
     let askers = tasks.askers(key).tasks;
-    let kept = shared_entry::<U>(graph, key, value, askers.len());
-    let mut woken = Vec::new(alloc);
+    let kept = entry_of::<U>(&shared.graph, key, value, askers.len());
+    let ended = Ended { key, value, kept };
+    let mut woken = Vec::new(shared.alloc);
     for asker in askers {
         if asks_alone::<U>(tasks, asker, key) {
-            let next = next_of::<U>(
-                alloc, universe, cells, tasks, version, key, value, kept, asker,
-            )?;
+            let next = next_of::<U>(shared, tasks, version, &ended, asker)?;
             let one = Woken::new(version, asker, next)?;
             woken.push(one)?;
         }
@@ -74,25 +78,21 @@ fn asks_alone<U: Universe>(tasks: &Tasks<U>, asker: &KeyRef<U>, key: &KeyRef<U>)
 
 /// What a task that waits for a key alone goes on with when the key's task ends with this value.
 fn next_of<U: Universe>(
-    alloc: Global,
-    universe: &U,
-    cells: &Cells<U>,
+    shared: &Shared<U>,
     tasks: &Tasks<U>,
     version: u64,
-    key: &KeyRef<U>,
-    value: &ValueRef<U>,
-    kept: Option<&Entry<U>>,
+    ended: &Ended<'_, U>,
     asker: &KeyRef<U>,
 ) -> Result<Next<U>, NoMemory>
-    requires waits { WaitsAlone U.Key.eq U.meaning (arc_value key.now) tasks.now
+    requires waits { WaitsAlone U.Key.eq U.meaning (arc_value ended.now.key.now) tasks.now
         (arc_value asker.now) }
     requires agrees { (es : List (U.Key × Stored U.Key U.Value))
-        × IfSome (option_copied kept) (λ e. IsEntryOf U.Key.eq es (arc_value key.now)
-        (arc_value value.now) (kept_of e))
-        × AgreesIfKept U.Key.eq U.meaning cells.now version (arc_value key.now)
-        (arc_value value.now) tasks.now es (arc_value asker.now) }
-    ensures { IfOk result (IsAnswered U.Key.eq U.meaning cells.now version (arc_value key.now)
-        (arc_value value.now) tasks.now (arc_value asker.now)) }
+        × IfSome (option_copied ended.now.kept) (λ e. IsEntryOf U.Key.eq es (arc_value
+        ended.now.key.now) (arc_value ended.now.value.now) (kept_of e))
+        × AgreesIfKept U.Key.eq U.meaning shared.now.cells version (arc_value ended.now.key.now)
+        (arc_value ended.now.value.now) tasks.now es (arc_value asker.now) }
+    ensures { IfOk result (IsAnswered U.Key.eq U.meaning shared.now.cells version (arc_value
+        ended.now.key.now) (arc_value ended.now.value.now) tasks.now (arc_value asker.now)) }
 {
     let Some(task) = tasks.task(asker) else {
         unreachable!();
@@ -103,21 +103,22 @@ fn next_of<U: Universe>(
     let Some(assignment) = task.assignment() else {
         unreachable!();
     };
-    let mut answers = Answers::new(alloc);
+    let mut answers = Answers::new(shared.alloc);
     let keys = batch.keys();
     for asked in keys {
-        let Some(answer) = answer_of::<U>(universe, cells, tasks, version, key, value, asked) else {
+        let Some(answer) = answer_of::<U>(shared, tasks, version, ended.key, ended.value, asked)
+        else {
             unreachable!();
         };
         answers.push(Arc::try_clone(answer)?)?;
     }
-    let agreed = holds_at_base::<U>(kept, assignment, batch);
+    let agreed = holds_at_base::<U>(ended.kept, assignment, batch);
     task.next(answers, agreed)
 }
 
 /// What the graph keeps of a key for which so many tasks ask, if they are more than one and its
 /// value is this. It costs a look-up and a comparison of the values.
-fn shared_entry<'a, U: Universe>(
+fn entry_of<'a, U: Universe>(
     graph: &'a Graph<U>,
     key: &KeyRef<U>,
     value: &ValueRef<U>,
@@ -139,23 +140,21 @@ fn shared_entry<'a, U: Universe>(
 /// The answer to a key of a batch: the input of an injected key at the version, the value with
 /// which the task of `key` ends, and of any other key the value with which its task has ended.
 fn answer_of<'a, U: Universe>(
-    universe: &U,
-    cells: &'a Cells<U>,
+    shared: &'a Shared<U>,
     tasks: &'a Tasks<U>,
     version: u64,
     key: &KeyRef<U>,
     value: &'a ValueRef<U>,
     asked: &KeyRef<U>,
 ) -> Option<&'a ValueRef<U>>
-    ensures answer { IfSome result (λ x. IsAnswer U.Key.eq U.meaning cells.now version
-        (arc_value key.now) (arc_value value.now) tasks.now (arc_value asked.now)
-        (arc_value x.now)) }
+    ensures answer { IfSome result (λ x. IsAnswer U.Key.eq U.meaning shared.now.cells version
+        (arc_value key.now) (arc_value value.now) tasks.now (arc_value asked.now) (arc_value x.now)) }
     ensures some { HasAnswer U.Key.eq U.meaning (arc_value key.now) tasks.now (arc_value asked.now)
         → IsSome result }
 {
     laws_of::<U>();
-    match universe.kind(asked) {
-        Kind::Injected => Some(cells.at(version, asked)),
+    match shared.universe.kind(asked) {
+        Kind::Injected => Some(shared.cells.at(version, asked)),
         _ if **asked == **key => Some(value),
         _ => tasks.task(asked)?.value(),
     }

@@ -76,7 +76,7 @@ loop-key-preserved g c =
     let injected : m.kind k ≡ Injected = sym (c.kind.ensures ∙ ap m.kind c.deref.ensures) ∙ c.in-Injected.is in record {
       settable = subst (AreSettable m) (sym more) (settable_more m ks k c.loop-key.invariant.settable injected
           (λ h. was_new _ _ _ c.in-Ok-true.ensures.added c.in-Ok-true.field-0-test (c.loop-key.invariant.seen k) (has_any eq law ks k h)));
-      seen = subst (AreSeen eq c.note.new.seen.keys) (sym more) (seen_more eq law c.loop-key.seen.keys c.note.new.seen.keys ks k c.loop-key.invariant.seen c.in-Ok-true.ensures.seen);
+      seen = subst (AreSeen eq c.note.new.seen) (sym more) (seen_more eq law c.loop-key.seen c.note.new.seen ks k c.loop-key.invariant.seen c.in-Ok-true.ensures.seen);
     }
 
 pub returns-clause-first : goal.returns-clause-first

@@ -9,5 +9,5 @@ use Rattle.dice_core.proofs.commit.check_changes.Given as goal
 abbrev pub invariant-loop-key : goal.invariant-loop-key
 invariant-loop-key g l = record {
   settable : AreSettable g.U.Universe.meaning (keys_of (pairs_of (take l.key-index l.changes)));
-  seen : AreSeen g.U.Key.PartialEq.eq l.seen.keys (keys_of (pairs_of (take l.key-index l.changes)));
+  seen : AreSeen g.U.Key.PartialEq.eq l.seen (keys_of (pairs_of (take l.key-index l.changes)));
 }

@@ -14,17 +14,17 @@ returns-in-Ok-clause-first g c = λ f h. c.in_ok-check_changes.ensures.first f h
 pub returns-in-Ok-clause-kept : goal.returns-in-Ok-clause-kept
 returns-in-Ok-clause-kept g c = λ h.
     let eq = g.U.Key.PartialEq.eq in
-    let left = differing_of eq g.U.Value.PartialEq.eq g.U.Universe.meaning c.args.cells.now (pairs_of c.args.changes.now) in
-    commit_kept eq c.args.by left c.args.cells.now c.commit_settable.new.cells c.args.desk.now.events c.commit_settable.new.desk.events c.in-Ok.ensures.ok h
+    let left = differing_of eq g.U.Value.PartialEq.eq g.U.Universe.meaning c.args.shared.now.cells (pairs_of c.args.changes.now) in
+    commit_kept eq c.args.by left c.args.shared.now.cells c.commit_settable.new.shared.cells c.args.shared.now.desk.events c.commit_settable.new.shared.desk.events c.in-Ok.ensures.ok h
 
 pub returns-in-Ok-clause-allowed : goal.returns-in-Ok-clause-allowed
 returns-in-Ok-clause-allowed g c = λ h.
-    commit_allowed g.U.Key.PartialEq.eq g.U.Value.PartialEq.eq c.laws_of.ensures.values g.U.Universe.meaning (reverse c.args.desk.now.events) c.args.cells.now h c.args.by (pairs_of c.args.changes.now) c.in_ok-check_changes.ensures.ok
+    commit_allowed g.U.Key.PartialEq.eq g.U.Value.PartialEq.eq c.laws_of.ensures.values g.U.Universe.meaning (reverse c.args.shared.now.desk.events) c.args.shared.now.cells h c.args.by (pairs_of c.args.changes.now) c.in_ok-check_changes.ensures.ok
 
 pub returns-in-Ok-clause-lawful : goal.returns-in-Ok-clause-lawful
 returns-in-Ok-clause-lawful g c = λ h l.
     let eq = g.U.Key.PartialEq.eq in
     let m = g.U.Universe.meaning in
-    let left = differing_of eq g.U.Value.PartialEq.eq m c.args.cells.now (pairs_of c.args.changes.now) in
-    commit_lawful eq m c.args.by left c.args.desk.now.events c.commit_settable.new.desk.events c.in-Ok.ensures.ok.events
-    (commit_allowed eq g.U.Value.PartialEq.eq c.laws_of.ensures.values m (reverse c.args.desk.now.events) c.args.cells.now h c.args.by (pairs_of c.args.changes.now) c.in_ok-check_changes.ensures.ok) l
+    let left = differing_of eq g.U.Value.PartialEq.eq m c.args.shared.now.cells (pairs_of c.args.changes.now) in
+    commit_lawful eq m c.args.by left c.args.shared.now.desk.events c.commit_settable.new.shared.desk.events c.in-Ok.ensures.ok.events
+    (commit_allowed eq g.U.Value.PartialEq.eq c.laws_of.ensures.values m (reverse c.args.shared.now.desk.events) c.args.shared.now.cells h c.args.by (pairs_of c.args.changes.now) c.in_ok-check_changes.ensures.ok) l

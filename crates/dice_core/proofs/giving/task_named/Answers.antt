@@ -1,4 +1,4 @@
-use Rattle.std.proofs.Common.{◌≡◌, sym, ap, ◌∙◌}
+use Rattle.std.proofs.Common.{sym, ap, ◌∙◌}
 use Rattle.std.specs.Option.{option_copied}
 use Rattle.dice_core.proofs.JobsLemmas.{held_found, held_missing}
 use Rattle.dice_core.proofs.giving.task_named.Goals as goal

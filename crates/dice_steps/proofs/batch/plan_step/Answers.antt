@@ -12,8 +12,8 @@ returns-clause-next g c ks wants =
     let m = g.U.Universe.meaning in
     let a = c.args.step.now.job in
     let r = c.requires.hand in
-    next_asked eq m g.U.Value.PartialEq.eq (reverse c.args.desk.now.events) a c.args.step.now.outcome ks wants c.report.ensures.outcome c.report.ensures.explained
-    (stood eq c.laws_of.ensures.keys m c.laws_of.ensures.lawful a.name.version r.0 c.args.owed c.args.tasks.now c.args.desk.now r.1.working a ks c.requires.out).standing.work
+    next_asked eq m g.U.Value.PartialEq.eq (reverse c.args.shared.now.desk.events) a c.args.step.now.outcome ks wants c.report.ensures.outcome c.report.ensures.explained
+    (stood eq c.laws_of.ensures.keys m c.laws_of.ensures.lawful a.name.version r.0 c.args.owed c.args.tasks.now c.args.shared.now.desk r.1.working a ks c.requires.out).standing.work
 
 pub plan_batch-requires-clause-next : goal.plan_batch-requires-clause-next
 plan_batch-requires-clause-next g c κs within =
@@ -24,5 +24,5 @@ plan_batch-requires-clause-next g c κs within =
     let ks = c.in-Asks.batch.now in
     let wants : c.args.step.now.outcome ≡ Wanting ks = sym (rw c.in-Asks.is at c.report.ensures.report) in
     subst (λ (b : Assigned g.row.U-Key.Denot g.row.U-Value.Denot). AsksNext eq m b.name.version b.name.key b.work b.answered (IsWaiting ks)) (sym c.assignment-assignment.ensures)
-    (next_asked eq m g.U.Value.PartialEq.eq (reverse c.args.desk.now.events) a c.args.step.now.outcome ks wants c.report.ensures.outcome c.report.ensures.explained
-    (stood eq c.laws_of.ensures.keys m c.laws_of.ensures.lawful a.name.version r.0 c.args.owed c.args.tasks.now c.args.desk.now r.1.working a ks c.requires.out).standing.work)
+    (next_asked eq m g.U.Value.PartialEq.eq (reverse c.args.shared.now.desk.events) a c.args.step.now.outcome ks wants c.report.ensures.outcome c.report.ensures.explained
+    (stood eq c.laws_of.ensures.keys m c.laws_of.ensures.lawful a.name.version r.0 c.args.owed c.args.tasks.now c.args.shared.now.desk r.1.working a ks c.requires.out).standing.work)

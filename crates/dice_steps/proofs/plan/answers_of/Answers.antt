@@ -13,7 +13,7 @@ returns-in_default-clause-none g c =
 
 pub loop-key-preserved : goal.loop-key-preserved
 loop-key-preserved g c =
-    let P = IsAtHand g.U.Key.PartialEq.eq g.U.Universe.meaning c.args.version c.args.tasks.now c.args.graph.now c.args.cells.now in
+    let P = IsAtHand g.U.Key.PartialEq.eq g.U.Universe.meaning c.args.version c.args.tasks.now c.args.shared.now.graph c.args.shared.now.cells in
     let x = c.key-item.result in
     subst (λ z. AllZip P z c.push.new.self) (sym (keys_next c.keys-keys.result.now c.loop-key.key-index x c.loop-key-test.true c.key-item.is))
     (subst (AllZip P (map arc_value (take c.loop-key.key-index c.keys-keys.result.now) ++ arc_value x ∷ [])) (sym (c.in_ok-push.ensures.ok ∙ ap (λ z. c.loop-key.answers ++ z ∷ []) c.in_ok-try_clone.ensures))

@@ -6,4 +6,4 @@ use Rattle.dice_steps.proofs.plan.answers_of.Given as goal
 
 -- these are the values at hand of the keys so far
 abbrev pub invariant-loop-key : goal.invariant-loop-key
-invariant-loop-key g l = AllZip (IsAtHand g.U.Key.PartialEq.eq g.U.Universe.meaning l.version l.tasks l.graph l.cells) (map arc_value (take l.key-index l.keys)) l.answers
+invariant-loop-key g l = AllZip (IsAtHand g.U.Key.PartialEq.eq g.U.Universe.meaning l.version l.tasks l.shared.graph l.shared.cells) (map arc_value (take l.key-index l.keys)) l.answers

@@ -15,9 +15,9 @@ returns-in-Injected g c =
     let m = g.U.Universe.meaning in
     let own = arc_value c.args.own.now in
     let k = arc_value c.args.key.now in
-    let injected : m.kind k ≡ Injected = subst (λ z. m.kind z ≡ Injected) c.deref.ensures (sym c.kind.ensures ∙ c.in-Injected.is) in
-    subst (λ zs. AreParts eq m c.args.version c.args.born c.args.tasks.now c.args.graph.now own (k ∷ []) zs × AreLastFirst (k ∷ []) (map key_in zs)) (sym c.new-parts.ensures.items)
-    (parts_skip eq m c.args.version c.args.born c.args.tasks.now c.args.graph.now own [] k [] (parts_none eq m c.args.version c.args.born c.args.tasks.now c.args.graph.now own) (inl injected), λ x y h. absurd h)
+    let injected : m.kind k ≡ Injected = subst (λ z. m.kind z ≡ Injected) c.deref-2.ensures (sym c.kind.ensures ∙ c.in-Injected.is) in
+    subst (λ zs. AreParts eq m c.args.version c.args.born c.args.tasks.now c.args.shared.now.graph own (k ∷ []) zs × AreLastFirst (k ∷ []) (map key_in zs)) (sym c.new-parts.ensures.items)
+    (parts_skip eq m c.args.version c.args.born c.args.tasks.now c.args.shared.now.graph own [] k [] (parts_none eq m c.args.version c.args.born c.args.tasks.now c.args.shared.now.graph own) (inl injected), λ x y h. absurd h)
 
 pub returns-in-Cycle : goal.returns-in-Cycle
 returns-in-Cycle g c = record {
@@ -38,9 +38,9 @@ returns-in_ok-push-in-Part g c =
     let p = c.in-Part.part in
     let met = rw c.in-Part.is at c.in_ok-path.ensures in
     let is = met.1 in
-    subst (λ zs. AreParts eq m c.args.version c.args.born c.args.tasks.now c.args.graph.now own (k ∷ []) zs × AreLastFirst (k ∷ []) (map key_in zs)) (sym c.in_ok-push-in-Part.ensures.items)
-    (subst (λ zs. AreParts eq m c.args.version c.args.born c.args.tasks.now c.args.graph.now own (k ∷ []) (zs ++ p ∷ []) × AreLastFirst (k ∷ []) (map key_in (zs ++ p ∷ []))) (sym c.new-parts.ensures.items) (
-      subst (λ z. AreParts eq m c.args.version c.args.born c.args.tasks.now c.args.graph.now own (z ∷ []) (p ∷ [])) is
-          (parts_more eq m c.args.version c.args.born c.args.tasks.now c.args.graph.now own [] [] p (parts_none eq m c.args.version c.args.born c.args.tasks.now c.args.graph.now own) met.0 (subst (λ z. Leads (asked_of eq c.args.tasks.now) z own → ⊥) (sym is) met.2) (λ h. h)),
+    subst (λ zs. AreParts eq m c.args.version c.args.born c.args.tasks.now c.args.shared.now.graph own (k ∷ []) zs × AreLastFirst (k ∷ []) (map key_in zs)) (sym c.in_ok-push-in-Part.ensures.items)
+    (subst (λ zs. AreParts eq m c.args.version c.args.born c.args.tasks.now c.args.shared.now.graph own (k ∷ []) (zs ++ p ∷ []) × AreLastFirst (k ∷ []) (map key_in (zs ++ p ∷ []))) (sym c.new-parts.ensures.items) (
+      subst (λ z. AreParts eq m c.args.version c.args.born c.args.tasks.now c.args.shared.now.graph own (z ∷ []) (p ∷ [])) is
+          (parts_more eq m c.args.version c.args.born c.args.tasks.now c.args.shared.now.graph own [] [] p (parts_none eq m c.args.version c.args.born c.args.tasks.now c.args.shared.now.graph own) met.0 (subst (λ z. Leads (asked_of eq c.args.tasks.now) z own → ⊥) (sym is) met.2) (λ h. h)),
       order_one (k ∷ []) (key_in p),
     ))

@@ -18,7 +18,7 @@ returns-in-Cycle g c = record {
   key = arc_value c.key-item.result;
   later = (batch_at c.args.keys.now c.loop-key.key-index c.key-item.result c.loop-key-test.true c.key-item.is).0;
   all = (batch_at c.args.keys.now c.loop-key.key-index c.key-item.result c.loop-key-test.true c.key-item.is).1;
-  earlier = comes_to_none g.U.Key.PartialEq.eq c.laws_of.ensures.keys g.U.Universe.meaning c.args.version c.args.born c.args.tasks.now c.args.graph.now (arc_value c.args.own.now) c.args.keys.now c.loop-key.key-index c.key-item.result c.loop-key-test.true c.key-item.is c.loop-key.parts.items c.loop-key.invariant.parts;
+  earlier = comes_to_none g.U.Key.PartialEq.eq c.laws_of.ensures.keys g.U.Universe.meaning c.args.version c.args.born c.args.tasks.now c.args.shared.now.graph (arc_value c.args.own.now) c.args.keys.now c.loop-key.key-index c.key-item.result c.loop-key-test.true c.key-item.is c.loop-key.parts.items c.loop-key.invariant.parts;
   found = rw c.in-Cycle.is at c.in_ok-path.ensures;
 }
 
@@ -26,9 +26,9 @@ pub loop-key-init : goal.loop-key-init
 loop-key-init g c =
     let eq = g.U.Key.PartialEq.eq in
     record {
-      parts = subst (λ zs. AreParts eq g.U.Universe.meaning c.args.version c.args.born c.args.tasks.now c.args.graph.now (arc_value c.args.own.now) [] zs) (sym c.new-parts.ensures.items) (parts_none eq g.U.Universe.meaning c.args.version c.args.born c.args.tasks.now c.args.graph.now (arc_value c.args.own.now));
+      parts = subst (λ zs. AreParts eq g.U.Universe.meaning c.args.version c.args.born c.args.tasks.now c.args.shared.now.graph (arc_value c.args.own.now) [] zs) (sym c.new-parts.ensures.items) (parts_none eq g.U.Universe.meaning c.args.version c.args.born c.args.tasks.now c.args.shared.now.graph (arc_value c.args.own.now));
       order = subst (λ zs. AreInOrder [] (map key_in zs)) (sym c.new-parts.ensures.items) (λ x y h. absurd h);
-      seen = λ q. ap (λ z. list_any (λ a. eq q (arc_value a)) z) c.with_hasher-seen.ensures.empty ∙ sym (ap (λ zs. list_any (eq q) (map key_in zs)) c.new-parts.ensures.items);
+      seen = λ q. ap (λ z. list_any (λ a. eq q (arc_value a)) z) c.new-seen.ensures ∙ sym (ap (λ zs. list_any (eq q) (map key_in zs)) c.new-parts.ensures.items);
     }
 
 pub loop-key-preserved-then-not-branch : goal.loop-key-preserved-then-not-branch
@@ -39,10 +39,10 @@ loop-key-preserved-then-not-branch g c =
     let xs = c.loop-key.parts.items in
     let old = rw c.if-not-branch.true at c.in_ok-is_new.ensures.new in
     record {
-      parts = skips eq law g.U.Universe.meaning c.args.version c.args.born c.args.tasks.now c.args.graph.now (arc_value c.args.own.now) c.args.keys.now c.loop-key.key-index x c.loop-key-test.true c.key-item.is xs c.loop-key.invariant.parts
-          (elim old as (λ _. (g.U.Universe.meaning.kind (arc_value x) ≡ Injected) ⊎ Has (map key_in xs) (arc_value x)) [ inl i ↦ inl i | inr e ↦ inr (seen_has eq law c.loop-key.seen.keys c.is_new.new.seen.keys (map key_in xs) (arc_value x) c.loop-key.invariant.seen e) ]);
-      order = skips_on eq law g.U.Universe.meaning c.args.version c.args.born c.args.tasks.now c.args.graph.now (arc_value c.args.own.now) c.args.keys.now c.loop-key.key-index x c.loop-key-test.true c.key-item.is xs c.loop-key.invariant.parts c.loop-key.invariant.order;
-      seen = seen_same eq law c.loop-key.seen.keys c.is_new.new.seen.keys (map key_in xs) (arc_value x) c.loop-key.invariant.seen _ c.if-not-branch.true c.in_ok-is_new.ensures.seen;
+      parts = skips eq law g.U.Universe.meaning c.args.version c.args.born c.args.tasks.now c.args.shared.now.graph (arc_value c.args.own.now) c.args.keys.now c.loop-key.key-index x c.loop-key-test.true c.key-item.is xs c.loop-key.invariant.parts
+          (elim old as (λ _. (g.U.Universe.meaning.kind (arc_value x) ≡ Injected) ⊎ Has (map key_in xs) (arc_value x)) [ inl i ↦ inl i | inr e ↦ inr (seen_has eq law c.loop-key.seen c.is_new.new.seen (map key_in xs) (arc_value x) c.loop-key.invariant.seen e) ]);
+      order = skips_on eq law g.U.Universe.meaning c.args.version c.args.born c.args.tasks.now c.args.shared.now.graph (arc_value c.args.own.now) c.args.keys.now c.loop-key.key-index x c.loop-key-test.true c.key-item.is xs c.loop-key.invariant.parts c.loop-key.invariant.order;
+      seen = seen_same eq law c.loop-key.seen c.is_new.new.seen (map key_in xs) (arc_value x) c.loop-key.invariant.seen _ c.if-not-branch.true c.in_ok-is_new.ensures.seen;
     }
 
 pub loop-key-preserved : goal.loop-key-preserved
@@ -57,15 +57,15 @@ loop-key-preserved g c =
     let met = rw c.in-Part.is at c.in_ok-path.ensures in
     let k = met.1 in
     record {
-      parts = subst (λ zs. AreParts eq m c.args.version c.args.born c.args.tasks.now c.args.graph.now (arc_value c.args.own.now) (map arc_value (take (c.loop-key.key-index + 1) c.args.keys.now)) zs) (sym c.in_ok-push-in-Part.ensures.items)
-          (adds eq law m c.args.version c.args.born c.args.tasks.now c.args.graph.now (arc_value c.args.own.now) c.args.keys.now c.loop-key.key-index x c.loop-key-test.true c.key-item.is xs c.loop-key.invariant.parts p k met.0 met.2
-          (unseen eq law c.loop-key.seen.keys c.is_new.new.seen.keys (map key_in xs) (arc_value x) c.loop-key.invariant.seen new.1));
+      parts = subst (λ zs. AreParts eq m c.args.version c.args.born c.args.tasks.now c.args.shared.now.graph (arc_value c.args.own.now) (map arc_value (take (c.loop-key.key-index + 1) c.args.keys.now)) zs) (sym c.in_ok-push-in-Part.ensures.items)
+          (adds eq law m c.args.version c.args.born c.args.tasks.now c.args.shared.now.graph (arc_value c.args.own.now) c.args.keys.now c.loop-key.key-index x c.loop-key-test.true c.key-item.is xs c.loop-key.invariant.parts p k met.0 met.2
+          (unseen eq law c.loop-key.seen c.is_new.new.seen (map key_in xs) (arc_value x) c.loop-key.invariant.seen new.1));
       order = subst (λ zs. AreInOrder (map arc_value (take (c.loop-key.key-index + 1) c.args.keys.now)) (map key_in zs)) (sym c.in_ok-push-in-Part.ensures.items)
-          (adds_on eq law m c.args.version c.args.born c.args.tasks.now c.args.graph.now (arc_value c.args.own.now) c.args.keys.now c.loop-key.key-index x c.loop-key-test.true c.key-item.is xs c.loop-key.invariant.parts p k new.0
-          (unseen eq law c.loop-key.seen.keys c.is_new.new.seen.keys (map key_in xs) (arc_value x) c.loop-key.invariant.seen new.1) c.loop-key.invariant.order);
-      seen = subst (λ zs. AreSeen eq c.is_new.new.seen.keys (map key_in zs)) (sym c.in_ok-push-in-Part.ensures.items) (subst (AreSeen eq c.is_new.new.seen.keys) (sym (map_last key_in xs p))
-          (subst (λ z. AreSeen eq c.is_new.new.seen.keys (map key_in xs ++ z ∷ [])) (sym k)
-          (seen_new eq law c.loop-key.seen.keys c.is_new.new.seen.keys (map key_in xs) (arc_value x) c.loop-key.invariant.seen _ c.if-not-branch.false c.in_ok-is_new.ensures.seen)));
+          (adds_on eq law m c.args.version c.args.born c.args.tasks.now c.args.shared.now.graph (arc_value c.args.own.now) c.args.keys.now c.loop-key.key-index x c.loop-key-test.true c.key-item.is xs c.loop-key.invariant.parts p k new.0
+          (unseen eq law c.loop-key.seen c.is_new.new.seen (map key_in xs) (arc_value x) c.loop-key.invariant.seen new.1) c.loop-key.invariant.order);
+      seen = subst (λ zs. AreSeen eq c.is_new.new.seen (map key_in zs)) (sym c.in_ok-push-in-Part.ensures.items) (subst (AreSeen eq c.is_new.new.seen) (sym (map_last key_in xs p))
+          (subst (λ z. AreSeen eq c.is_new.new.seen (map key_in xs ++ z ∷ [])) (sym k)
+          (seen_new eq law c.loop-key.seen c.is_new.new.seen (map key_in xs) (arc_value x) c.loop-key.invariant.seen _ c.if-not-branch.false c.in_ok-is_new.ensures.seen)));
     }
 
 pub returns : goal.returns
@@ -76,8 +76,8 @@ returns g c =
     let xs = c.loop-key.parts.items in
     let own = arc_value c.args.own.now in
     let all = ap (map arc_value) (take_all c.loop-key.key-index keys c.loop-key-test.false) in
-    subst (λ zs. AreParts eq m c.args.version c.args.born c.args.tasks.now c.args.graph.now own (map arc_value c.args.keys.now) zs × AreLastFirst (map arc_value c.args.keys.now) (map key_in zs)) (sym c.reverse.ensures.items) (
-      parts_turned eq m c.args.version c.args.born c.args.tasks.now c.args.graph.now own (map arc_value c.args.keys.now) xs
-          (subst (λ ks. AreParts eq m c.args.version c.args.born c.args.tasks.now c.args.graph.now own ks xs) all c.loop-key.invariant.parts),
+    subst (λ zs. AreParts eq m c.args.version c.args.born c.args.tasks.now c.args.shared.now.graph own (map arc_value c.args.keys.now) zs × AreLastFirst (map arc_value c.args.keys.now) (map key_in zs)) (sym c.reverse.ensures.items) (
+      parts_turned eq m c.args.version c.args.born c.args.tasks.now c.args.shared.now.graph own (map arc_value c.args.keys.now) xs
+          (subst (λ ks. AreParts eq m c.args.version c.args.born c.args.tasks.now c.args.shared.now.graph own ks xs) all c.loop-key.invariant.parts),
       order_turned key_in (map arc_value c.args.keys.now) xs (subst (λ ks. AreInOrder ks (map key_in xs)) all c.loop-key.invariant.order),
     )

@@ -7,6 +7,6 @@ use Rattle.dice_steps.proofs.plan.look_over_few.Given as goal
 -- these are the parts of the keys so far, in their order
 abbrev pub invariant-loop-key : goal.invariant-loop-key
 invariant-loop-key g l = record {
-  parts : AreParts g.U.Key.PartialEq.eq g.U.Universe.meaning l.version l.born l.tasks l.graph (arc_value l.own) (map arc_value (take l.key-index l.keys)) l.parts.items;
+  parts : AreParts g.U.Key.PartialEq.eq g.U.Universe.meaning l.version l.born l.tasks l.shared.graph (arc_value l.own) (map arc_value (take l.key-index l.keys)) l.parts.items;
   order : AreInOrder (map arc_value (take l.key-index l.keys)) (map key_in l.parts.items);
 }

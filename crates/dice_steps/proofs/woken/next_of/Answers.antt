@@ -16,7 +16,7 @@ use Rattle.lists.specs.Lists.{Has}
 
 pub loop-asked-preserved : goal.loop-asked-preserved
 loop-asked-preserved g c =
-    let R = IsAnswer g.U.Key.PartialEq.eq g.U.Universe.meaning c.args.cells.now c.args.version (arc_value c.args.key.now) (arc_value c.args.value.now) c.args.tasks.now in
+    let R = IsAnswer g.U.Key.PartialEq.eq g.U.Universe.meaning c.args.shared.now.cells c.args.version (arc_value c.args.ended.now.key.now) (arc_value c.args.ended.now.value.now) c.args.tasks.now in
     zip_next R arc_value c.keys-keys.result.now c.loop-asked.asked-index c.asked-item.result c.loop-asked.answers c.push.new.self (arc_value c.in_ok-try_clone.field-0) c.loop-asked-test.true c.asked-item.is c.loop-asked.invariant
     (subst (R (arc_value c.asked-item.result)) (sym c.in_ok-try_clone.ensures) c.in-Some-answer_of.ensures.answer) c.in_ok-push.ensures.ok
 
@@ -35,12 +35,12 @@ pub next-requires-after_bounds : goal.next-requires-after_bounds
 next-requires-after_bounds g c κs within =
     let eq = g.U.Key.PartialEq.eq in
     let m = g.U.Universe.meaning in
-    let k = arc_value c.args.key.now in
-    let x = arc_value c.args.value.now in
+    let k = arc_value c.args.ended.now.key.now in
+    let x = arc_value c.args.ended.now.value.now in
     let w = c.requires.waits.waits in
     let is : c.in-Some.task.now ≡ held_of w.job (IsWaiting w.keys) = same_Some _ _ (c.in-Some.ensures ∙ c.requires.waits.held) in
     let keys = same_Some _ _ (c.in-Some-batch.ensures ∙ ap (λ (z : Held g.row.U-Key.Denot g.row.U-Value.Denot). waits_for z.standing) is) in
-    let R = IsAnswer eq m c.args.cells.now c.args.version k x c.args.tasks.now in
+    let R = IsAnswer eq m c.args.shared.now.cells c.args.version k x c.args.tasks.now in
     let z : AllZip R w.keys c.loop-asked.answers = subst (λ ks. AllZip R ks c.loop-asked.answers) (all_taken arc_value c.keys-keys.result.now c.loop-asked.asked-index c.loop-asked-test.false ∙ (c.keys-keys.ensures ∙ keys)) c.loop-asked.invariant in
     let agrees = c.requires.agrees in
     let held = rw c.in-Some-assignment.is at c.assignment.ensures.some in
@@ -57,13 +57,13 @@ pub returns : goal.returns
 returns g c =
     let eq = g.U.Key.PartialEq.eq in
     let m = g.U.Universe.meaning in
-    let k = arc_value c.args.key.now in
-    let x = arc_value c.args.value.now in
+    let k = arc_value c.args.ended.now.key.now in
+    let x = arc_value c.args.ended.now.value.now in
     let j = arc_value c.args.asker.now in
     let w = c.requires.waits.waits in
-    let R = IsAnswer eq m c.args.cells.now c.args.version k x c.args.tasks.now in
+    let R = IsAnswer eq m c.args.shared.now.cells c.args.version k x c.args.tasks.now in
     let is : c.in-Some.task.now ≡ held_of w.job (IsWaiting w.keys) = same_Some _ _ (c.in-Some.ensures ∙ c.requires.waits.held) in
     let keys = same_Some _ _ (c.in-Some-batch.ensures ∙ ap (λ (z : Held g.row.U-Key.Denot g.row.U-Value.Denot). waits_for z.standing) is) in
     let z : AllZip R w.keys c.loop-asked.answers = subst (λ ks. AllZip R ks c.loop-asked.answers) (all_taken arc_value c.keys-keys.result.now c.loop-asked.asked-index c.loop-asked-test.false ∙ (c.keys-keys.ensures ∙ keys)) c.loop-asked.invariant in
-    IfOk-weaker c.next.result (λ n. FollowsOn c.in-Some.task.now n × (n.values ≡ c.loop-asked.answers)) (IsAnswered eq m c.args.cells.now c.args.version k x c.args.tasks.now j)
-    (λ n h. answered_so eq m c.args.cells.now c.args.version k x c.args.tasks.now j c.in-Some.task.now w n c.loop-asked.answers (sym c.in-Some.ensures) is h.0 h.1 z) c.next.ensures
+    IfOk-weaker c.next.result (λ n. FollowsOn c.in-Some.task.now n × (n.values ≡ c.loop-asked.answers)) (IsAnswered eq m c.args.shared.now.cells c.args.version k x c.args.tasks.now j)
+    (λ n h. answered_so eq m c.args.shared.now.cells c.args.version k x c.args.tasks.now j c.in-Some.task.now w n c.loop-asked.answers (sym c.in-Some.ensures) is h.0 h.1 z) c.next.ensures

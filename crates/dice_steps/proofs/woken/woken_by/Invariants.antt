@@ -5,4 +5,4 @@ use Rattle.dice_steps.proofs.woken.woken_by.Given as goal
 
 -- those that wait for the key alone among the askers so far
 abbrev pub invariant-loop-asker : goal.invariant-loop-asker
-invariant-loop-asker g l = SoFar g.U.Key.PartialEq.eq g.U.Universe.meaning l.cells l.version (arc_value l.key) (arc_value l.value) l.tasks (map arc_value (take l.asker-index l.askers)) l.woken.items
+invariant-loop-asker g l = SoFar g.U.Key.PartialEq.eq g.U.Universe.meaning l.shared.cells l.version (arc_value l.key) (arc_value l.value) l.tasks (map arc_value (take l.asker-index l.askers)) l.woken.items

@@ -7,7 +7,7 @@ use Rattle.dice_core.proofs.StayLemmas.{closed_alone}
 use Rattle.dice_core.proofs.machine.Core.close.Goals as goal
 
 pub invariant_of-self : goal.invariant_of-self
-invariant_of-self g c = c.close_in.ensures.kept c.self.inside.graph c.self.inside.cells c.self.invariant
+invariant_of-self g c = c.close_in.ensures.kept c.self.inside.shared.graph c.self.inside.shared.cells c.self.invariant
 
 pub returns-clause-log : goal.returns-clause-log
 returns-clause-log g c =
@@ -19,6 +19,6 @@ returns-clause-others g c =
     let m = g.U.Universe.meaning in
     let l = c.close_in.ensures.log in
     let s = c.self.inside in
-    let after = core_of c.close_in.new.desk c.close_in.new.versions.entries s.graph s.cells c.close_in.new.sessions in
+    let after = core_of c.close_in.new.desk c.close_in.new.versions.entries s.shared.graph s.shared.cells c.close_in.new.sessions in
     subst (λ (v : CoreSeen g.row.U-Key.Denot g.row.U-Value.Denot). AnswersStay eq m v after) c.self.view_is
-    (closed_alone eq c.laws_of.ensures.keys m c.laws_of.ensures.lawful (core_of s.desk s.versions.entries s.graph s.cells s.sessions) after c.self.invariant (invariant_of-self g c) refl l.0.version l.0.by c.args.tx (nat_eq (open_count (reverse c.close_in.new.desk.events) l.0.version) 0) l.1 l.3 l.4)
+    (closed_alone eq c.laws_of.ensures.keys m c.laws_of.ensures.lawful (core_of s.shared.desk s.versions.entries s.shared.graph s.shared.cells s.sessions) after c.self.invariant (invariant_of-self g c) refl l.0.version l.0.by c.args.tx (nat_eq (open_count (reverse c.close_in.new.desk.events) l.0.version) 0) l.1 l.3 l.4)

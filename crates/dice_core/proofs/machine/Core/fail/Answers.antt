@@ -10,7 +10,7 @@ use Rattle.dice_core.proofs.machine.Core.fail.Goals as goal
 use Rattle.lists.specs.Lists.{Has}
 
 pub invariant_of-self : goal.invariant_of-self
-invariant_of-self g c = c.fail_named.ensures.kept c.self.inside.graph c.self.inside.cells c.self.inside.sessions c.self.invariant
+invariant_of-self g c = c.fail_named.ensures.kept c.self.inside.shared.graph c.self.inside.shared.cells c.self.inside.sessions c.self.invariant
 
 pub returns-clause-out : goal.returns-clause-out
 returns-clause-out g c =
@@ -25,15 +25,15 @@ returns-clause-log g c = λ t.
     let f = (c.fail_named.ensures.failed t).1 in
     let n = c.args.name.now in
     subst (λ (v : CoreSeen g.row.U-Key.Denot g.row.U-Value.Denot). (ls ks : List g.row.U-Key.Denot) × Has ls n.key × (c.fail_named.new.desk.events ≡ events_of v ++ (map (Lost n.version) ls ++ map (Drop n.version) ks))) c.self.view_is
-    (lost_log g.U.Key.PartialEq.eq c.laws_of.ensures.keys g.U.Universe.meaning c.laws_of.ensures.lawful s.desk c.fail_named.new.desk s.versions.entries c.fail_named.new.versions.entries s.graph s.graph s.cells s.sessions s.sessions n.version n.key f.tasks f.put f.turned)
+    (lost_log g.U.Key.PartialEq.eq c.laws_of.ensures.keys g.U.Universe.meaning c.laws_of.ensures.lawful s.shared.desk c.fail_named.new.desk s.versions.entries c.fail_named.new.versions.entries s.shared.graph s.shared.graph s.shared.cells s.sessions s.sessions n.version n.key f.tasks f.put f.turned)
 
 pub returns-clause-tasks : goal.returns-clause-tasks
 returns-clause-tasks g c = λ t.
     let s = c.self.inside in
     let f = (c.fail_named.ensures.failed t).1 in
     let n = c.args.name.now in
-    subst (λ (v : CoreSeen g.row.U-Key.Denot g.row.U-Value.Denot). GivesUpOnly g.U.Key.PartialEq.eq v (core_of c.fail_named.new.desk c.fail_named.new.versions.entries s.graph s.cells s.sessions)) c.self.view_is
-    (gives_up_only g.U.Key.PartialEq.eq c.laws_of.ensures.keys g.U.Universe.meaning c.laws_of.ensures.lawful s.desk c.fail_named.new.desk s.versions.entries c.fail_named.new.versions.entries s.graph s.graph s.cells s.sessions s.sessions n.version n.key f.tasks f.put f.turned)
+    subst (λ (v : CoreSeen g.row.U-Key.Denot g.row.U-Value.Denot). GivesUpOnly g.U.Key.PartialEq.eq v (core_of c.fail_named.new.desk c.fail_named.new.versions.entries s.shared.graph s.shared.cells s.sessions)) c.self.view_is
+    (gives_up_only g.U.Key.PartialEq.eq c.laws_of.ensures.keys g.U.Universe.meaning c.laws_of.ensures.lawful s.shared.desk c.fail_named.new.desk s.versions.entries c.fail_named.new.versions.entries s.shared.graph s.shared.graph s.shared.cells s.sessions s.sessions n.version n.key f.tasks f.put f.turned)
 
 pub returns-clause-failed : goal.returns-clause-failed
 returns-clause-failed g c = λ t.
@@ -47,7 +47,7 @@ returns-clause-home g c = λ t out.
     let s = c.self.inside in
     let f = (c.fail_named.ensures.failed t).1 in
     let n = c.args.name.now in
-    home_now g.U.Key.PartialEq.eq c.laws_of.ensures.keys g.U.Universe.meaning c.laws_of.ensures.lawful s.desk c.fail_named.new.desk s.versions.entries c.fail_named.new.versions.entries s.graph s.graph s.cells s.sessions s.sessions n.version n.key f.tasks f.put f.turned out.0 out.1
+    home_now g.U.Key.PartialEq.eq c.laws_of.ensures.keys g.U.Universe.meaning c.laws_of.ensures.lawful s.shared.desk c.fail_named.new.desk s.versions.entries c.fail_named.new.versions.entries s.shared.graph s.shared.graph s.shared.cells s.sessions s.sessions n.version n.key f.tasks f.put f.turned out.0 out.1
 
 pub returns-clause-others : goal.returns-clause-others
 returns-clause-others g c = λ t.
@@ -56,6 +56,6 @@ returns-clause-others g c = λ t.
     let s = c.self.inside in
     let f = (c.fail_named.ensures.failed t).1 in
     let n = c.args.name.now in
-    let after = core_of c.fail_named.new.desk c.fail_named.new.versions.entries s.graph s.cells s.sessions in
+    let after = core_of c.fail_named.new.desk c.fail_named.new.versions.entries s.shared.graph s.shared.cells s.sessions in
     subst (λ (v : CoreSeen g.row.U-Key.Denot g.row.U-Value.Denot). LosesWaitersOnly eq m n v after) c.self.view_is
-    (loses_waiters_only eq c.laws_of.ensures.keys m c.laws_of.ensures.lawful (core_of s.desk s.versions.entries s.graph s.cells s.sessions) after c.self.invariant (invariant_of-self g c) refl refl n f.tasks f.put f.turned)
+    (loses_waiters_only eq c.laws_of.ensures.keys m c.laws_of.ensures.lawful (core_of s.shared.desk s.versions.entries s.shared.graph s.shared.cells s.sessions) after c.self.invariant (invariant_of-self g c) refl refl n f.tasks f.put f.turned)

@@ -15,11 +15,11 @@ invariant_of-self g c =
 pub returns-clause-err : goal.returns-clause-err
 returns-clause-err g c =
     let s = c.self.inside in
-    subst (λ (v : CoreSeen g.row.U-Key.Denot g.row.U-Value.Denot). OnErr c.give_in.result (IsJobOut g.U.Key.PartialEq.eq v c.args.step.job × IsAsBefore g.U.Key.PartialEq.eq v (core_of c.give_in.new.desk c.give_in.new.versions.entries c.give_in.new.graph s.cells s.sessions))) c.self.view_is
+    subst (λ (v : CoreSeen g.row.U-Key.Denot g.row.U-Value.Denot). OnErr c.give_in.result (IsJobOut g.U.Key.PartialEq.eq v c.args.step.job × IsAsBefore g.U.Key.PartialEq.eq v (core_of c.give_in.new.shared.desk c.give_in.new.versions.entries c.give_in.new.shared.graph c.give_in.new.shared.cells s.sessions))) c.self.view_is
     (on_err c.give_in.result _ _ c.give_in.ensures.err (λ b. (b.0, b.1 s.sessions)))
 
 pub returns-clause-does : goal.returns-clause-does
 returns-clause-does g c =
     let s = c.args.step in
-    subst (λ (v : CoreSeen g.row.U-Key.Denot g.row.U-Value.Denot). IfOk c.give_in.result (λ x. IfNone (stale_of x) (Turned g.U.Key.PartialEq.eq g.U.Universe.meaning s.job.name.version v.tables c.give_in.new.versions.entries (λ ps qs. IsTakenUp g.U.Key.PartialEq.eq g.U.Universe.meaning g.U.Value.PartialEq.eq s.job.name.version s v.cells ps qs v.entries c.give_in.new.graph v.desk c.give_in.new.desk s.outcome)))) c.self.view_is
+    subst (λ (v : CoreSeen g.row.U-Key.Denot g.row.U-Value.Denot). IfOk c.give_in.result (λ x. IfNone (stale_of x) (Turned g.U.Key.PartialEq.eq g.U.Universe.meaning s.job.name.version v.tables c.give_in.new.versions.entries (λ ps qs. IsTakenUp g.U.Key.PartialEq.eq g.U.Universe.meaning g.U.Value.PartialEq.eq s.job.name.version s v.cells ps qs v.entries c.give_in.new.shared.graph v.desk c.give_in.new.shared.desk s.outcome)))) c.self.view_is
     c.give_in.ensures.does

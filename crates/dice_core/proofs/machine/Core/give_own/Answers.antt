@@ -25,7 +25,7 @@ take_up-requires-clause-out g c κs within =
     let eq = g.U.Key.PartialEq.eq in
     let m = g.U.Universe.meaning in
     let s = c.self.inside in
-    let old = core_of s.desk s.versions.entries s.graph s.cells s.sessions in
+    let old = core_of s.shared.desk s.versions.entries s.shared.graph s.shared.cells s.sessions in
     let a = c.args.step.job in
     let j = c.if-not-is_like_out.ensures.0 refl in
     let truly = subst (λ (v : CoreSeen g.row.U-Key.Denot g.row.U-Value.Denot). AnsweredTruly eq m (commits_of (past_of v)) a) (sym c.self.view_is) c.requires in
@@ -36,18 +36,18 @@ returns-clause-err g c =
     let eq = g.U.Key.PartialEq.eq in
     let m = g.U.Universe.meaning in
     let s = c.self.inside in
-    let old = core_of s.desk s.versions.entries s.graph s.cells s.sessions in
+    let old = core_of s.shared.desk s.versions.entries s.shared.graph s.shared.cells s.sessions in
     let a = c.args.step.job in
     let j = c.if-not-is_like_out.ensures.0 refl in
     let truly = subst (λ (v : CoreSeen g.row.U-Key.Denot g.row.U-Value.Denot). AnsweredTruly eq m (commits_of (past_of v)) a) (sym c.self.view_is) c.requires in
     let out = own_out eq m old c.self.invariant.rests.each (c.true_jobs_are_one.ensures.one (commits_of (past_of old))) a j.0 truly j.1 j.2 in
-    subst (λ (v : CoreSeen g.row.U-Key.Denot g.row.U-Value.Denot). OnErr c.take_up.result (IsJobOut eq v a × IsAsBefore eq v (core_of c.take_up.new.desk c.take_up.new.versions.entries c.take_up.new.graph s.cells s.sessions))) c.self.view_is
+    subst (λ (v : CoreSeen g.row.U-Key.Denot g.row.U-Value.Denot). OnErr c.take_up.result (IsJobOut eq v a × IsAsBefore eq v (core_of c.take_up.new.shared.desk c.take_up.new.versions.entries c.take_up.new.shared.graph c.take_up.new.shared.cells s.sessions))) c.self.view_is
     (on_err c.take_up.result _ _ c.take_up.ensures.err (λ b. (out, b s.sessions)))
 
 pub returns-clause-does : goal.returns-clause-does
 returns-clause-does g c =
     let s = c.args.step in
-    subst (λ (v : CoreSeen g.row.U-Key.Denot g.row.U-Value.Denot). IfOk c.take_up.result (λ x. IfNone (stale_of x) (Turned g.U.Key.PartialEq.eq g.U.Universe.meaning s.job.name.version v.tables c.take_up.new.versions.entries (λ ps qs. IsTakenUp g.U.Key.PartialEq.eq g.U.Universe.meaning g.U.Value.PartialEq.eq s.job.name.version s v.cells ps qs v.entries c.take_up.new.graph v.desk c.take_up.new.desk s.outcome)))) c.self.view_is
+    subst (λ (v : CoreSeen g.row.U-Key.Denot g.row.U-Value.Denot). IfOk c.take_up.result (λ x. IfNone (stale_of x) (Turned g.U.Key.PartialEq.eq g.U.Universe.meaning s.job.name.version v.tables c.take_up.new.versions.entries (λ ps qs. IsTakenUp g.U.Key.PartialEq.eq g.U.Universe.meaning g.U.Value.PartialEq.eq s.job.name.version s v.cells ps qs v.entries c.take_up.new.shared.graph v.desk c.take_up.new.shared.desk s.outcome)))) c.self.view_is
     c.take_up.ensures.does
 
 pub returns-then-not-is_like_out-clause-stale : goal.returns-then-not-is_like_out-clause-stale

@@ -1,6 +1,5 @@
 use Rattle.std.proofs.Common.{rules, arith}
 use Rattle.std.proofs.lemmas.Grind.{common_steps}
-use Rattle.std.specs.Arc.{arc_value}
 use Rattle.dice_core.proofs.SessionLemmas.{asks_stand}
 use Rattle.dice_core.proofs.sessions.Sessions.ask.Goals as goal
 
@@ -8,4 +7,4 @@ pub returns-clause-exact : goal.returns-clause-exact
 returns-clause-exact g c = first_of (search rules, grind (arith, common_steps))
 
 pub returns-clause-stands : goal.returns-clause-stands
-returns-clause-stands g c R st e = asks_stand R c.args.index c.args.by c.args.tx (arc_value c.args.key) c.args.self.now _ (returns-clause-exact g c) st e
+returns-clause-stands g c R st e = asks_stand R c.args.index c.args.asking.by c.args.asking.opened c.args.asking.key c.args.self.now _ (returns-clause-exact g c) st e
