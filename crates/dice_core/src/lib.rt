@@ -11,6 +11,7 @@ mod machine;
 mod opening;
 mod polled;
 mod sessions;
+mod spare;
 
 pub use commit::CommitRefusal;
 pub use dice_jobs::{Job, JobName, Step};

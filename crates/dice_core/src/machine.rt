@@ -35,6 +35,7 @@ use crate::jobs_out::{bring_back, fail_named, take_next};
 use crate::opening::{ask_in, close_in, leave_ask, open_at_newest};
 use crate::polled::Polled;
 use crate::sessions::Sessions;
+use crate::spare::Spare;
 use dice_jobs::{Job, JobName, Step, true_jobs_are_one};
 use dice_key::{KeyRef, Kind, NoMemory, Universe, ValueRef, Version, laws_of};
 use dice_steps::Shared;
@@ -57,6 +58,7 @@ pub struct Core<U: Universe> {
     shared: Shared<U>,
     versions: HashMap<u64, Tasks<U>>,
     sessions: Sessions<U>,
+    spare: Spare<U>,
 }
 
 // (One function for all places that drop one: a derived drop is written out at each.)
@@ -66,6 +68,7 @@ impl<U: Universe> Drop for Core<U> {
             shared: _shared,
             versions: _versions,
             sessions: _sessions,
+            spare: _spare,
         } = self;
     }
 }
@@ -117,6 +120,7 @@ impl<U: Universe> Core<U> {
             shared,
             versions,
             sessions,
+            spare: Spare::new(alloc),
         })
     }
 
@@ -256,7 +260,7 @@ impl<U: Universe> Core<U> {
     {
         laws_of::<U>();
         open_at_newest(
-            self.shared.alloc,
+            &mut self.spare,
             &mut self.shared.desk,
             &mut self.versions,
             &mut self.sessions,
@@ -307,6 +311,7 @@ impl<U: Universe> Core<U> {
             &mut self.shared.desk,
             &mut self.versions,
             &mut self.sessions,
+            &mut self.spare,
             tx,
         );
     }

@@ -14,17 +14,16 @@ use crate::ask::ask_key;
 use crate::asking::leave_promise;
 use crate::close::close_asks;
 use crate::sessions::{Asking, Sessions};
+use crate::spare::Spare;
 use dice_key::{KeyRef, NoMemory, Seed, Universe, Version, laws_of};
 use dice_steps::Shared;
 use dice_tasks::{Desk, Tasks};
 use journal::Event;
-use std::alloc::Global;
 use std::collections::HashMap;
-use task_share::Table;
 
 /// Makes a table for the tasks of a version, if there is none.
 fn place_table<U: Universe>(
-    alloc: Global,
+    spare: &mut Spare<U>,
     seed: Seed,
     versions: &mut HashMap<u64, Tasks<U>>,
     version: Version,
@@ -38,14 +37,14 @@ fn place_table<U: Universe>(
     if versions.contains_key(&version) {
         return Ok(());
     }
-    let _ = versions.insert(version, Table::new(alloc, seed))?;
+    let _ = versions.insert(version, spare.take(seed))?;
     Ok(())
 }
 
 /// Opens a transaction at the newest version, and keeps room for its close. If memory is refused
 /// all is as before.
 pub(crate) fn open_at_newest<U: Universe>(
-    alloc: Global,
+    spare: &mut Spare<U>,
     desk: &mut Desk<U>,
     versions: &mut HashMap<u64, Tasks<U>>,
     sessions: &mut Sessions<U>,
@@ -71,7 +70,7 @@ pub(crate) fn open_at_newest<U: Universe>(
     laws_of::<U>();
     let index = desk.next_index()?;
     desk.reserve(sessions.owed(), 2, 0)?;
-    place_table::<U>(alloc, desk.seed(), versions, newest)?;
+    place_table::<U>(spare, desk.seed(), versions, newest)?;
     sessions.open(index, by, newest)?;
     desk.push(Event::Open(by, newest));
     Ok(index)
@@ -164,6 +163,7 @@ pub(crate) fn close_in<U: Universe>(
     desk: &mut Desk<U>,
     versions: &mut HashMap<u64, Tasks<U>>,
     sessions: &mut Sessions<U>,
+    spare: &mut Spare<U>,
     tx: u64,
 )
     requires stands { (es : List (U.Key × Stored U.Key U.Value)) × (s : Seen U.Key U.Value)
@@ -189,5 +189,7 @@ pub(crate) fn close_in<U: Universe>(
     if sessions.open_count(version) != 0 {
         return;
     }
-    versions.remove(&version);
+    if let Some(table) = versions.remove(&version) {
+        spare.keep(table);
+    }
 }

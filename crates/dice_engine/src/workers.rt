@@ -20,6 +20,9 @@ const REST: u64 = 1000;
 /// How often a rest is twice as long as the one before it, at most.
 const DOUBLED: u32 = 5;
 
+/// If more turns than so many end in the time of `REST`, jobs are short.
+const MANY: u64 = 64;
+
 impl<U: Universe> Engine<U> {
     /// Splits off so many seats for workers. If memory is refused, those that were split off are let
     /// go.
@@ -104,8 +107,9 @@ impl<U: Universe> Engine<U> {
     }
 
     // Does jobs until it is stopped, which it answers. After each job it rests a little, and for
-    // longer while it finds none; if the engine is taken, it rests first. So the turns are left to
-    // the caller: most jobs are short.
+    // longer while it finds none, or while many turns end as it rests: then jobs are short, and a
+    // turn of a worker costs more than it saves. If the engine is taken, it rests first. So the
+    // turns are left to the caller: most jobs are short.
     fn work_on<R: Wait, G: Gate>(&self, rt: &R, place: Place<U>, gate: &G, stop: &AtomicU64) -> bool
         requires { IsPlaceOf self.now place }
     {
@@ -116,22 +120,26 @@ impl<U: Universe> Engine<U> {
             if stop.load(Ordering::Acquire) != 0 {
                 return true;
             }
-            if !self.is_taken() {
-                match self.work(rt, &mut seat, gate, worker) {
-                    Worked::Did => tries = 0,
-                    Worked::Idle => tries = tries.saturating_add(1),
-                }
-            }
-            rest(rt, stop, tries);
+            let found = !self.is_taken()
+                && matches!(self.work(rt, &mut seat, gate, worker), Worked::Did);
+            let are_long = self.rest(rt, stop, tries);
+            tries = if found && are_long {
+                0
+            } else {
+                tries.saturating_add(1)
+            };
         }
         unreachable!()
     }
-}
 
-/// Sleeps for a while, the longer the more tries found nothing, but not on after the stop.
-fn rest<R: Wait>(rt: &R, stop: &AtomicU64, tries: u32) {
-    let time = Duration::from_micros(REST << tries.min(DOUBLED));
-    stop.park_timeout(rt, 0, time);
+    // Sleeps for a while, the longer the more tries were for nothing, but not on after the stop. It
+    // answers whether few turns ended meanwhile, as if jobs are long.
+    fn rest<R: Wait>(&self, rt: &R, stop: &AtomicU64, tries: u32) -> bool {
+        let doubled = tries.min(DOUBLED);
+        let before = self.stile.turns();
+        stop.park_timeout(rt, 0, Duration::from_micros(REST << doubled));
+        self.stile.turns().wrapping_sub(before) <= MANY << doubled
+    }
 }
 
 /// Calls `f` in this thread, and `work` on what is given in another one, which is told to stop when

@@ -15,6 +15,9 @@ use std::alloc::Global;
 use std::sync::Wait;
 use std::thread::Threads;
 
+/// How many jobs may be out for each worker before the driver does some itself.
+const PATIENCE: u64 = 4;
+
 /// Drives a script on an engine whose one writer this seat is, with so many workers beside it, and
 /// answers its output: what each line prints, in the order of the lines. A request that the script
 /// cancels has the line `cancelled`; each other one is waited for, at its `wait` or at the end, in
@@ -74,7 +77,7 @@ fn drive_with<R: Threads + Wait + Sync, G: Gate>(
     ensures output { IfOk result.1 (λ out. IsPrintout trace script.now result.0.seen out.items) }
     ensures journal { OnOk result.1 (IsJournalOf script.now result.0.seen) }
 {
-    let patience = 16u64.saturating_mul(seats.len() as u64);
+    let patience = PATIENCE.saturating_mul(seats.len() as u64);
     engine.with_workers(
         rt,
         seats,

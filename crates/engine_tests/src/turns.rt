@@ -105,6 +105,8 @@ struct Course {
     /// version.
     joined: u64,
     last: ((u64, u64, u64), u64),
+    /// How many turns have ended.
+    turns: u64,
     ledger: Ledger,
 }
 
@@ -120,6 +122,7 @@ fn course_of_two<R: Wait>(rt: &R, alloc: Global) -> Result<Course, AllocError> {
     let found = first_entry(rt, &turnstile, &mut zero);
     let joined = turnstile.join(&mut zero, one);
     let last = (zero.left(), turnstile.newest(&mut zero));
+    let turns = turnstile.turns();
     let ledger = turnstile.end(rt, zero);
     Ok(Course {
         numbers,
@@ -128,6 +131,7 @@ fn course_of_two<R: Wait>(rt: &R, alloc: Global) -> Result<Course, AllocError> {
         found,
         joined,
         last,
+        turns,
         ledger,
     })
 }
@@ -143,7 +147,7 @@ fn is_as_wanted(course: &Course) -> bool {
     let left = course.before == ((0, 0, 0), 0) && course.after == ((1, 0, 0), 1);
     let (seen, taken, later) = course.found;
     let found = seen == Some(ENTRY) && taken && !later;
-    let last = course.joined == 1 && course.last == ((1, 0, 0), 1);
+    let last = course.joined == 1 && course.last == ((1, 0, 0), 1) && course.turns == 2;
     numbers && left && found && last && course.ledger.entries.as_slice() == [ENTRY].as_slice()
 }
 

@@ -84,6 +84,20 @@ impl<K: Eq + Hash + Drop, T: Drop> Table<K, T> {
         }
     }
 
+    /// Takes out all tasks, askers and room for them; the memory of the places stays, for others. It
+    /// takes no memory.
+    pub fn clear(&mut self)
+        ensures { self.new ≡ [] }
+    {
+        self.places.clear();
+        self.candidates.clear();
+    }
+
+    /// How many keys have had a task, an asker or room for one.
+    pub fn place_count(&self) -> usize {
+        self.places.len()
+    }
+
     /// Makes room for a task of the key, so that `make_reserved` may follow. Nothing else changes.
     pub fn reserve(&mut self, key: &Arc<K>) -> Result<(), NoMemory>
         ensures tasks { KeepsTasks K.eq self.old self.new }

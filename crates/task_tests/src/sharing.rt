@@ -148,3 +148,14 @@ fn room_made_ahead_is_filled(rt: HostRuntime) -> Result<(), Fail> {
     assert!(rt; tasks.counts() == (0, 0));
     Ok(())
 }
+
+#[test]
+fn a_table_that_was_cleared_is_like_a_new_one(rt: HostRuntime) -> Result<(), Fail> {
+    let mut tasks = shared_tasks(rt.alloc())?;
+    assert!(rt; tasks.table.place_count() == 2);
+    tasks.table.clear();
+    assert!(rt; tasks.table.place_count() == 0 && !tasks.has(10) && tasks.is_asked_by(&[]));
+    assert!(rt; make(&mut tasks.table, &tasks.one, 30)? && tasks.has(30));
+    assert!(rt; tasks.next() == Some((1, 30)) && tasks.next() == None);
+    Ok(())
+}

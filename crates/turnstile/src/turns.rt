@@ -105,6 +105,11 @@ impl<S: Tale> Turnstile<S> {
         self.table.shared.peek(NEXT) != self.table.shared.peek(SERVING)
     }
 
+    /// How many turns have ended so far, modulo 2^64. It is a hint, as `is_taken` is.
+    pub fn turns(&self) -> u64 {
+        self.table.shared.peek(SERVING)
+    }
+
     // Waits for a turn, and takes the state.
     pub(crate) fn take<R: Wait>(&self, rt: &R, seat: &mut RawSeat<S>) -> S
         requires own { seat.old.table_id ≡ self.now }
