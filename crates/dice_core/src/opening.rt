@@ -189,7 +189,5 @@ pub(crate) fn close_in<U: Universe>(
     if sessions.open_count(version) != 0 {
         return;
     }
-    if let Some(table) = versions.remove(&version) {
-        spare.keep(table);
-    }
+    spare.keep(versions.remove(&version));
 }

@@ -36,13 +36,14 @@ impl<U: Universe> Spare<U> {
         }
     }
 
-    /// Keeps the room of a table, unless it is large. It takes no memory.
-    pub(crate) fn keep(&mut self, table: Tasks<U>) {
-        if table.place_count() > MOST {
+    /// Keeps the room of a table, if there is one and it is not large. It takes no memory.
+    pub(crate) fn keep(&mut self, table: Option<Tasks<U>>) {
+        let Some(mut table) = table else {
             return;
+        };
+        if table.place_count() <= MOST {
+            table.clear();
+            self.table = Some(table);
         }
-        let mut table = table;
-        table.clear();
-        self.table = Some(table);
     }
 }
