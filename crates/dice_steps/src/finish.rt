@@ -156,9 +156,8 @@ pub fn differs<U: Universe>(
         assignment,
         own,
     } = begun;
-    let version = own.name().version();
     let job = step.into_replay(assignment);
-    differ(desk, tasks, version, &key, event, job, own);
+    differ(desk, tasks, &key, event, job, own);
     Ok(())
 }
 

@@ -237,29 +237,15 @@ module _ {K T : Type 0} (eq : K → K → Bool) (k : K) (t : T) (ps qs : List (K
       by_test true y = refl
       by_test false y = refl
 
-  -- the same, and then the task has ended
-  pub makes_ended_of : (rs : List (K × Share K T)) → Makes eq k t ps rs → ((q : K) → task_at eq qs q ≡ task_at eq rs q) → ((q : K) → is_live eq qs q ≡ (is_live eq rs q && not (eq k q))) → ((q : K) (a : By K) → asks eq qs q a ≡ (asks eq rs q a && not (is_by eq (Tasked k) a)))
-      → KeepsOtherRoom eq k rs qs → MakesEnded eq k t ps qs
-  makes_ended_of rs h a b c d = record {
-    tasks = λ q. a q ∙ h.tasks q;
-    live = λ q. b q ∙ (ap (λ x. x && not (eq k q)) (h.live q) ∙ by_test (eq k q) (is_live eq ps q));
-    asks = λ q x. c q x ∙ ap (λ y. y && not (is_by eq (Tasked k) x)) (h.asks q x);
-    room = record {
-      places = λ q n p. d.places q n (h.room.places q p);
-      promises = λ q n. (let x = h.room.promises q in let y = d.promises q n in omega arith);
-      askers = λ q n. (let x = h.room.askers q in let y = d.askers q n in omega arith);
-      waits = λ q n. (let x = h.room.waits q in let y = d.waits q n in omega arith);
-      count = (let x = h.room.count in let y = d.count in omega arith);
-    };
-  }
+  -- the same of a task that has ended
+  pub makes_ended_of : ((q : K) → task_at eq qs q ≡ cond (eq k q) (Some t) (task_at eq ps q)) → ((q : K) → is_live eq qs q ≡ (is_live eq ps q && not (eq k q))) → ((q : K) (a : By K) → asks eq qs q a ≡ (asks eq ps q a && not (is_by eq (Tasked k) a))) → KeepsOtherRoom eq k ps qs → MakesEnded eq k t ps qs
+  makes_ended_of a b c d = record { tasks = a; live = λ q. b q ∙ by_test (eq k q) (is_live eq ps q); asks = c; room = d }
     where
-      kept : (y : Bool) → (y && true) ≡ y
-      kept true = refl
-      kept false = refl
-
-      by_test : (x y : Bool) → (cond x true y && not x) ≡ cond x false y
-      by_test true y = refl
-      by_test false y = kept y
+      by_test : (x y : Bool) → (y && not x) ≡ cond x false y
+      by_test true true = refl
+      by_test true false = refl
+      by_test false true = refl
+      by_test false false = refl
 
 module _ {K V : Type 0} (eq : K → K → Bool) (equality : IsEquality eq) (m : Meaning K V) (law : IsLawful m) (v : ℕ) (k : K) (ps qs : List (K × Share K (Held K V))) (d e : DeskSeen K V) where
   -- a match was kept, and its entry seen

@@ -26,31 +26,31 @@ use journal::Event;
 pub fn differ<U: Universe>(
     desk: &mut Desk<U>,
     tasks: &mut Tasks<U>,
-    version: u64,
     key: &KeyRef<U>,
     event: Event<U::Key, U::Value>,
     job: Job<U>,
     own: Assignment<U>,
 )
-    requires known { Knows U.Key.eq version tasks.old desk.old }
+    requires known { Knows U.Key.eq job.name.version tasks.old desk.old }
     requires check { (x : U.Value) × (T : List (Answered U.Key U.Value)) × (b : ℕ)
         × (task_at U.Key.eq tasks.old (arc_value key.now)
         ≡ Some (held_of (checking job x T b) IsOut)) }
     requires own { own ≡ job }
     requires job { job.work ≡ Computes }
     ensures begun { (x : U.Value) × (T : List (Answered U.Key U.Value)) × (b : ℕ)
-        × BeginsAnew U.Key.eq version (arc_value key.now) (held_of (checking job x T b) IsOut)
-        (held_of job IsReady) (told event) tasks.old tasks.new desk.old desk.new }
+        × BeginsAnew U.Key.eq job.name.version (arc_value key.now)
+        (held_of (checking job x T b) IsOut) (held_of job IsReady) (told event) tasks.old tasks.new desk.old desk.new }
     ensures tasked { AreTasked U.Key.eq tasks.old → AreTasked U.Key.eq tasks.new }
     ensures kept { (w : World U.Key U.Value) (W : List U.Key) (owed : ℕ) (x : U.Value)
         (T : List (Answered U.Key U.Value)) (base : ℕ) (changed : U.Key)
-        → Working U.Key.eq U.meaning version W w (owed + 1) tasks.old desk.old
-        → told event ≡ Start version (arc_value key.now) (Differs base changed)
+        → Working U.Key.eq U.meaning job.name.version W w (owed + 1) tasks.old desk.old
+        → told event ≡ Start job.name.version (arc_value key.now) (Differs base changed)
         → task_at U.Key.eq tasks.old (arc_value key.now)
         ≡ Some (held_of (checking job x T base) IsOut) → ChangesFirst T job.answered changed
-        → Working U.Key.eq U.meaning version W w owed tasks.new desk.new }
+        → Working U.Key.eq U.meaning job.name.version W w owed tasks.new desk.new }
 {
     laws_of::<U>();
+    let version = job.name().version();
     let Some(task) = tasks.task_mut(key) else {
         return;
     };

@@ -182,7 +182,7 @@ impl<U: Universe> Desk<U> {
         ensures none { IfNone result
             (Has (self.now.ready ++ self.now.out) (version, arc_value key.now) → ⊥) }
     {
-        index_of::<U>(&self.at_hand, version, key)
+        index_of::<U>(&self.at_hand, self.ready, version, key)
     }
 
     /// The key of the task of this number.

@@ -1,26 +1,18 @@
 //! Tasks that are made.
-ghost use Rattle.std.specs.Prelude.{◌≡◌, ◌≢◌, ◌+◌, ◌∷◌, ℕ, List, reverse, cond, IfOk, MatchBool};
+ghost use Rattle.std.specs.Prelude.{◌≡◌, ◌≢◌, ◌<◌, ◌+◌, ℕ, List, reverse, true, false, IfOk, MatchBool};
 ghost use Rattle.std.specs.Arc.{arc_value};
-ghost use Rattle.std.specs.Option.{option_map};
 ghost use Rattle.dice_jobs.specs.Jobs.{Name};
-ghost use Rattle.task_share.specs.Seen.{task_at};
-ghost use Rattle.journal.specs.declared.event.Told.TheVariants.{Start, Keep};
-ghost use Rattle.journal.specs.Law.{IsTrueCause};
-ghost use Rattle.journal.specs.Tell.{reason_of};
-ghost use Rattle.versioned_graph.specs.Edges.{is_edge};
-ghost use Rattle.versioned_graph.specs.Entries.{entry_at, seen_at};
+ghost use Rattle.task_share.specs.Seen.{task_at, is_live, has_place};
+ghost use Rattle.versioned_graph.specs.Entries.{entry_at};
 ghost use Rattle.core_laws.specs.Desk.{World};
-ghost use Rattle.core_laws.specs.Stands.{WasSeen};
-ghost use Rattle.core_laws.specs.Tasks.{WithValue};
-ghost use Rattle.dice_key.specs.Meaning.{Answered};
 ghost use Rattle.dice_key.specs.declared.universe.Kind.TheVariants.{Injected};
 ghost use Rattle.versioned_graph.specs.Looks.{Matches, Computes, Checks, look};
 ghost use Rattle.dice_tasks.specs.Loads.{AreCopies};
-ghost use Rattle.dice_tasks.specs.Entries.{EntriesStand, IsMatched};
-ghost use Rattle.dice_tasks.specs.Helds.{held_ended};
-ghost use Rattle.dice_tasks.specs.Hands.{Readies, Working, with_event, with_made};
-ghost use Rattle.dice_tasks.specs.Makings.{CanMake, HasMakeRoom, HasTask, IsFree, IsMade, IsMaking, IsMakingFor, IsOfKey, Makes, MakesAlone, MakesEnded, MayMake, held_run, held_check};
+ghost use Rattle.dice_tasks.specs.Entries.{EntriesStand};
+ghost use Rattle.dice_tasks.specs.Hands.{Readies, Working, with_made};
+ghost use Rattle.dice_tasks.specs.Makings.{CanMake, HasTask, IsFree, IsMade, IsMaking, IsMakingFor, IsOfKey, Makes, MakesAlone, MayMake};
 ghost use Rattle.dice_tasks.specs.Shelves.{place_of};
+ghost use Rattle.lists.specs.Lists.{Has};
 
 use crate::Tasks;
 use crate::desk::Desk;
@@ -86,116 +78,39 @@ pub fn make<U: Universe>(
     match making {
         Making::Join => {}
         Making::Match { event, base, task } => {
-            make_match::<U>(desk, tasks, graph, version, key, event, base, task);
+            desk.push(Event::Keep(version, event, base));
+            tasks.make_ended(key, task);
+            seen::<U>(graph, key, version);
         }
         Making::Run {
             event,
             cause,
             ready,
             task,
-        } => make_run::<U>(desk, tasks, version, key, event, cause, ready, task),
-        Making::Check { ready, task } => make_check::<U>(desk, tasks, version, key, ready, task),
+        } => {
+            desk.push(Event::Start(version, event, cause));
+            begin::<U>(desk, tasks, key, ready, task);
+        }
+        Making::Check { ready, task } => begin::<U>(desk, tasks, key, ready, task),
     }
 }
 
-/// Puts a task that has ended with a value that was looked up. It takes no memory.
-fn make_match<U: Universe>(
+/// Puts a task of a key, which is at work and ready from then on. It takes no memory.
+fn begin<U: Universe>(
     desk: &mut Desk<U>,
     tasks: &mut Tasks<U>,
-    graph: &mut Graph<U>,
-    version: u64,
-    key: &KeyRef<U>,
-    event: KeyRef<U>,
-    base: u64,
-    task: Task<U>,
-)
-    requires room { HasMakeRoom U.Key.eq version (arc_value key.now) tasks.old desk.old }
-    requires event { arc_value event ≡ arc_value key.now }
-    ensures tasks { MakesEnded U.Key.eq (arc_value key.now) task tasks.old tasks.new }
-    ensures desk { desk.new ≡ with_event desk.old (Keep version (arc_value key.now) base) }
-    ensures entries { (q : U.Key)
-        → entry_at U.Key.eq graph.new q
-        ≡ cond (U.Key.eq (arc_value key.now) q)
-        (option_map (seen_at version) (entry_at U.Key.eq graph.old (arc_value key.now)))
-        (entry_at U.Key.eq graph.old q) }
-    ensures edges { (j : U.Key) (q : U.Key)
-        → is_edge U.Key.eq graph.new j q ≡ is_edge U.Key.eq graph.old j q }
-    ensures stands { (x : U.Value) (w : World U.Key U.Value) (W : List U.Key) (owed born : ℕ)
-        → Working U.Key.eq U.meaning version W w (owed + 1) tasks.old desk.old
-        → EntriesStand U.Key.eq U.meaning (reverse desk.old.events) graph.old
-        → MayMake U.Key.eq U.meaning (reverse desk.old.events) version (arc_value key.now) born
-        → IsFree (task_at U.Key.eq tasks.old (arc_value key.now))
-        → IsMatched U.Key.eq U.meaning (reverse desk.old.events) graph.old version
-        (arc_value key.now) x base
-        → task
-        ≡ held_ended (record { version = version; key = arc_value key.now; born = born })
-        (WithValue x)
-        → Working U.Key.eq U.meaning version W w owed tasks.new desk.new
-        × EntriesStand U.Key.eq U.meaning (reverse desk.new.events) graph.new }
-{
-    laws_of::<U>();
-    desk.push(Event::Keep(version, event, base));
-    tasks.make_reserved(key, task);
-    tasks.ended(key);
-    seen::<U>(graph, key, version);
-}
-
-/// Puts a task that computes its key's value, which is begun. It takes no memory.
-fn make_run<U: Universe>(
-    desk: &mut Desk<U>,
-    tasks: &mut Tasks<U>,
-    version: u64,
-    key: &KeyRef<U>,
-    event: KeyRef<U>,
-    cause: Cause<U::Key>,
-    ready: ReadyTask<U::Key>,
-    task: Task<U>,
-)
-    requires room { HasMakeRoom U.Key.eq version (arc_value key.now) tasks.old desk.old }
-    requires event { arc_value event ≡ arc_value key.now }
-    requires ready { place_of ready ≡ (version, arc_value key.now) }
-    ensures tasks { Makes U.Key.eq (arc_value key.now) task tasks.old tasks.new }
-    ensures desk { Readies (version, arc_value key.now)
-        (with_made (with_event desk.old (Start version (arc_value key.now) (reason_of cause))))
-        desk.new }
-    ensures kept { (w : World U.Key U.Value) (W : List U.Key) (owed born : ℕ)
-        → Working U.Key.eq U.meaning version W w (owed + 3) tasks.old desk.old
-        → MayMake U.Key.eq U.meaning (reverse desk.old.events) version (arc_value key.now) born
-        → IsFree (task_at U.Key.eq tasks.old (arc_value key.now))
-        → IsTrueCause U.Key.eq U.meaning (reverse desk.old.events) version (arc_value key.now)
-        (reason_of cause)
-        → task ≡ held_run (record { version = version; key = arc_value key.now; born = born })
-        → Working U.Key.eq U.meaning version W w owed tasks.new desk.new }
-{
-    laws_of::<U>();
-    desk.push(Event::Start(version, event, cause));
-    desk.made();
-    desk.readied(ready);
-    tasks.make_reserved(key, task);
-}
-
-/// Puts a task that checks an earlier value of its key. It takes no memory.
-fn make_check<U: Universe>(
-    desk: &mut Desk<U>,
-    tasks: &mut Tasks<U>,
-    version: u64,
     key: &KeyRef<U>,
     ready: ReadyTask<U::Key>,
     task: Task<U>,
 )
-    requires room { HasMakeRoom U.Key.eq version (arc_value key.now) tasks.old desk.old }
-    requires ready { place_of ready ≡ (version, arc_value key.now) }
+    requires place { has_place U.Key.eq tasks.old (arc_value key.now) ≡ true }
+    requires idle { is_live U.Key.eq tasks.old (arc_value key.now) ≡ false }
+    requires unready { Has desk.old.ready (place_of ready) → ⊥ }
+    requires home { Has desk.old.out (place_of ready) → ⊥ }
+    requires ready_room { 0 < desk.old.ready_room }
+    requires live_room { 0 < desk.old.live_room }
     ensures tasks { Makes U.Key.eq (arc_value key.now) task tasks.old tasks.new }
-    ensures desk { Readies (version, arc_value key.now) (with_made desk.old) desk.new }
-    ensures kept { (x : U.Value) (T : List (Answered U.Key U.Value)) (b : ℕ)
-        (w : World U.Key U.Value) (W : List U.Key) (owed born : ℕ)
-        → Working U.Key.eq U.meaning version W w (owed + 2) tasks.old desk.old
-        → MayMake U.Key.eq U.meaning (reverse desk.old.events) version (arc_value key.now) born
-        → IsFree (task_at U.Key.eq tasks.old (arc_value key.now))
-        → WasSeen U.Key.eq U.meaning (reverse desk.old.events) (arc_value key.now) x T b
-        → task
-        ≡ held_check (record { version = version; key = arc_value key.now; born = born }) x T b
-        → Working U.Key.eq U.meaning version W w owed tasks.new desk.new }
+    ensures desk { Readies (place_of ready) (with_made desk.old) desk.new }
 {
     laws_of::<U>();
     desk.made();

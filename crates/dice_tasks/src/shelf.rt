@@ -1,8 +1,9 @@
 //! Tasks that are ready or out, in one set: the ready ones first.
-ghost use Rattle.std.specs.Prelude.{◌≡◌, ◌<◌, ◌≤◌, ◌+◌, ◌^◌, ◌++◌, ◌&&◌, nat_eq, [], ◌∷◌, ℕ, length, map, slice_get, Some, IfSome, IfNone};
+ghost use Rattle.std.specs.Prelude.{◌≡◌, true, ◌<◌, ◌≤◌, ◌+◌, ◌^◌, ◌++◌, ◌&&◌, nat_eq, [], ◌∷◌, ℕ, length, map, slice_get, Some, IfSome, IfNone};
 ghost use Rattle.std.specs.Arc.{arc_value};
 ghost use Rattle.std.specs.Cmp.{unsigned_Decides, first_so, second_so};
 ghost use Rattle.std.specs.Hash as fed;
+ghost use Rattle.std.specs.List.{swap};
 ghost use Rattle.indexmap.specs.IndexSet.{spare};
 ghost use Rattle.core_laws.specs.Desk.{Loses};
 ghost use Rattle.dice_tasks.specs.Hands.{Stays};
@@ -45,9 +46,22 @@ impl<K: Eq + Hash> Equivalent<ReadyTask<K>> for (u64, &Arc<K>) {
 /// ready.
 pub(crate) type Shelf<U> = IndexSet<ReadyTask<<U as Universe>::Key>, Seed>;
 
-/// The index of a task.
+/// Whether this task has the index.
+fn stands_at<U: Universe>(shelf: &Shelf<U>, index: usize, version: u64, key: &KeyRef<U>) -> bool
+    ensures { result ≡ true → (x : Ready U.Key) × (slice_get shelf.now.keys index ≡ Some x)
+        × (place_of x ≡ (version, arc_value key.now)) }
+{
+    laws_of::<U>();
+    match shelf.get_index(index) {
+        Some(task) => (version, key).equivalent(task),
+        None => false,
+    }
+}
+
+/// The index of a task. This index is looked at first.
 pub(crate) fn index_of<U: Universe>(
     shelf: &Shelf<U>,
+    first: usize,
     version: u64,
     key: &KeyRef<U>,
 ) -> Option<usize>
@@ -57,7 +71,25 @@ pub(crate) fn index_of<U: Universe>(
         (Has (map place_of shelf.now.keys) (version, arc_value key.now) → ⊥) }
 {
     laws_of::<U>();
+    if stands_at::<U>(shelf, first, version, key) {
+        return Some(first);
+    }
     shelf.get_index_of((version, key))
+}
+
+/// Exchanges two tasks. There is nothing to be done if they are one.
+fn swap_tasks<U: Universe>(shelf: &mut Shelf<U>, first: usize, second: usize)
+    requires first { first < length shelf.old.keys }
+    requires second { second < length shelf.old.keys }
+    requires distinct { AreDistinct (map place_of shelf.old.keys) }
+    ensures keys { shelf.new.keys ≡ swap shelf.old.keys first second }
+    ensures distinct { AreDistinct (map place_of shelf.new.keys) }
+    ensures room { spare shelf.old ≤ spare shelf.new }
+{
+    laws_of::<U>();
+    if first != second {
+        shelf.swap_indices(first, second);
+    }
 }
 
 /// Puts a task that is out to the end of those that are ready; these are one more then.
@@ -80,8 +112,8 @@ pub(crate) fn put_back<U: Universe>(
     ensures room { spare shelf.old ≤ spare shelf.new }
 {
     laws_of::<U>();
-    if let Some(index) = index_of::<U>(shelf, version, key) {
-        shelf.swap_indices(index, ready);
+    if let Some(index) = index_of::<U>(shelf, ready, version, key) {
+        swap_tasks::<U>(shelf, index, ready);
     }
 }
 
@@ -104,7 +136,7 @@ pub(crate) fn take_away<U: Universe>(
     ensures room { spare shelf.old ≤ spare shelf.new }
 {
     laws_of::<U>();
-    if let Some(index) = index_of::<U>(shelf, version, key) {
+    if let Some(index) = index_of::<U>(shelf, ready, version, key) {
         shelf.swap_remove_index(index);
     }
 }
@@ -126,7 +158,7 @@ pub(crate) fn put_in<U: Universe>(shelf: &mut Shelf<U>, ready: usize, task: Read
     laws_of::<U>();
     let last = shelf.len();
     let _ = shelf.insert(task);
-    shelf.swap_indices(last, ready);
+    swap_tasks::<U>(shelf, last, ready);
 }
 
 /// Takes out a task that is ready; these are one fewer then.
@@ -147,8 +179,8 @@ pub(crate) fn take_out<U: Universe>(
     ensures room { spare shelf.old ≤ spare shelf.new }
 {
     laws_of::<U>();
-    if let Some(index) = index_of::<U>(shelf, version, key) {
-        shelf.swap_indices(index, ready);
+    if let Some(index) = index_of::<U>(shelf, ready, version, key) {
+        swap_tasks::<U>(shelf, index, ready);
         shelf.swap_remove_index(ready);
     }
 }

@@ -164,9 +164,10 @@ module _ {K T : Type 0} (eq : K → K → Bool) (law : IsEquality eq) where
   pub ended_busy : (p : Share K T) → p.live ≡ false → is_idle p ≡ true → ⊥
   ended_busy p e i = let l = (and_parts p.live _ i).0 in let f : false ≡ true = sym e ∙ l in cc
 
-  -- a place keeps its key, and has no idle task that it did not have
-  pub kept_listed : {A : Type 0} (key : Arc K A) (es fs : List (Arc K A × Place K T)) (h w : Place K T) → IsWritten eq key es fs h w → (share_of w).name ≡ (share_of h).name → is_some w.task ≡ is_some h.task → (is_idle (share_of w) ≡ true → is_idle (share_of h) ≡ true) → (((share_of h).live ≡ true → is_some h.task ≡ true) → (share_of w).live ≡ true → is_some w.task ≡ true) → KeepsListed eq (shares_of es) (shares_of fs)
-  kept_listed key es fs h w i same task idle runs cs room l =
+  -- a place keeps its key, and has no idle task that it did not have; it gets a task at most if it has its key
+  pub put_listed : {A : Type 0} (key : Arc K A) (es fs : List (Arc K A × Place K T)) (h w : Place K T) → IsWritten eq key es fs h w → (share_of w).name ≡ (share_of h).name → (is_some h.task ≡ true → is_some w.task ≡ true) → ((share_of w).name ≡ None → is_some w.task ≡ true → is_some h.task ≡ true) → (is_idle (share_of w) ≡ true → is_idle (share_of h) ≡ true)
+      → (((share_of h).live ≡ true → is_some h.task ≡ true) → (share_of w).live ≡ true → is_some w.task ≡ true) → KeepsListed eq (shares_of es) (shares_of fs)
+  put_listed key es fs h w i same still there idle runs cs room l =
       let k = arc_value key in
       let known = lookup_shares (eq k) es ∙ ap (option_map share_of) i.known in
       let was = l.each k (share_of h) known in
@@ -175,7 +176,7 @@ module _ {K T : Type 0} (eq : K → K → Bool) (law : IsEquality eq) where
       let st = settled_same (share_of w) none in
       settled_listed (shares_of es) (shares_of fs) cs cs room k (share_of h) (share_of w) l known
       (ap shares_of i.set ∙ (set_shares (eq k) es w ∙ ap (set_value (eq k) (shares_of es)) st))
-      (lookup_shares (eq k) fs ∙ (ap (option_map share_of) i.here ∙ ap Some st)) c.others same (λ e. task ∙ e) (λ _ e. sym task ∙ e) (runs was.runs) (sym (ap (λ o. cs ++ option_to_list o) (released_none (share_of w) none) ∙ append-nil cs))
+      (lookup_shares (eq k) fs ∙ (ap (option_map share_of) i.here ∙ ap Some st)) c.others same still there (runs was.runs) (sym (ap (λ o. cs ++ option_to_list o) (released_none (share_of w) none) ∙ append-nil cs))
     where
       settled_same : (p : Share K T) → (is_idle p ≡ true → p.name ≡ None) → p ≡ settled p
       settled_same p n = by_idle (is_idle p) refl
@@ -190,6 +191,10 @@ module _ {K T : Type 0} (eq : K → K → Bool) (law : IsEquality eq) where
           by_idle : (b : Bool) → is_idle p ≡ b → cond b p.name None ≡ None
           by_idle true e = n e
           by_idle false e = refl
+
+  -- the same of a place whose task stays, or that has none
+  pub kept_listed : {A : Type 0} (key : Arc K A) (es fs : List (Arc K A × Place K T)) (h w : Place K T) → IsWritten eq key es fs h w → (share_of w).name ≡ (share_of h).name → is_some w.task ≡ is_some h.task → (is_idle (share_of w) ≡ true → is_idle (share_of h) ≡ true) → (((share_of h).live ≡ true → is_some h.task ≡ true) → (share_of w).live ≡ true → is_some w.task ≡ true) → KeepsListed eq (shares_of es) (shares_of fs)
+  kept_listed key es fs h w i same task idle runs = put_listed key es fs h w i same (λ e. task ∙ e) (λ _ e. sym task ∙ e) idle runs
 
   pub kept_none : {A : Type 0} (es fs : List (Arc K A × Place K T)) → fs ≡ es → KeepsListed eq (shares_of es) (shares_of fs)
   kept_none es fs same cs room l = subst (λ xs. IsListed eq (shares_of xs) cs room) (sym same) l

@@ -214,16 +214,16 @@ module _ {K T : Type 0} (eq : K → K → Bool) (law : IsEquality eq) where
       by_test true t = ap not (m q ∙ subst (λ x. asks eq ps q (Tasked x) ≡ true) (sym (law.same k j t)) e)
       by_test false t = refl
 
-  -- a task has ended: its waits are taken out, and then withdrawn
-  module _ (ps qs rs : List (K × Share K T)) (k : K) (W : List K) (c : IsChanged eq k (λ p r. Turns eq (λ t. t) (λ e. false) (λ x b. b) (λ d b. false) p r × UsesRoom 0 0 p.wait_room p r) ps qs) (waited : W ≡ waits_at eq ps k) (w : Withdraws eq k W qs rs) (m : IsMirrored eq ps) where
+  -- a task has ended, as it is or another one that is put: its waits are taken out, and then withdrawn
+  module _ {t : Option T → Option T} (ps qs rs : List (K × Share K T)) (k : K) (W : List K) (c : IsChanged eq k (λ p r. Turns eq t (λ e. false) (λ x b. b) (λ d b. false) p r × UsesRoom 0 0 p.wait_room p r) ps qs) (waited : W ≡ waits_at eq ps k) (w : Withdraws eq k W qs rs) (m : IsMirrored eq ps) where
     asks_now : (q : K) (a : By K) → asks eq qs q a ≡ asks eq ps q a
-    asks_now q a = asks_turned eq law ps qs k _ c (λ t. t) (λ e. false) (λ x b. b) (λ d b. false) (λ p r i. i.0) a (λ z. refl) q ∙ same_cond (eq k q) (asks eq ps q a)
+    asks_now q a = asks_turned eq law ps qs k _ c t (λ e. false) (λ x b. b) (λ d b. false) (λ p r i. i.0) a (λ z. refl) q ∙ same_cond (eq k q) (asks eq ps q a)
 
     pub ended_asks : (q : K) (a : By K) → asks eq rs q a ≡ (asks eq ps q a && not (is_by eq (Tasked k) a))
     ended_asks q a = w.asks q a ∙ (ap (λ b. b && not (is_by eq (Tasked k) a && list_any (eq q) W)) (asks_now q a) ∙ withdrawn_at ps k W (λ x. ap (list_any (eq x)) waited ∙ sym (m x k)) (asks eq ps q a) q a refl)
 
-    pub ended_tasks : (q : K) → task_at eq rs q ≡ task_at eq ps q
-    ended_tasks q = w.tasks.tasks q ∙ (task_turned eq law ps qs k _ c (λ t. t) (λ e. false) (λ x b. b) (λ d b. false) (λ p r i. i.0) (λ z. refl) q ∙ same_cond (eq k q) (task_at eq ps q))
+    pub ended_task : (lookup (eq k) ps ≡ None → t None ≡ None) → (q : K) → task_at eq rs q ≡ cond (eq k q) (t (task_at eq ps q)) (task_at eq ps q)
+    ended_task none q = w.tasks.tasks q ∙ task_turned eq law ps qs k _ c t (λ e. false) (λ x b. b) (λ d b. false) (λ p r i. i.0) none q
 
     pub ended_live : (q : K) → is_live eq rs q ≡ (is_live eq ps q && not (eq k q))
     ended_live q = w.tasks.live q ∙ (test_turned eq law ps qs k _ c has_live (λ b. false) (λ z. refl) (λ p r i. i.0.live) q ∙ by_bools (eq k q) (is_live eq ps q))
@@ -237,7 +237,7 @@ module _ {K T : Type 0} (eq : K → K → Bool) (law : IsEquality eq) where
     pub ended_count : live_count rs ≤ live_count ps
     ended_count = let a = w.tasks.count in let b = by_places (lookup (eq k) ps) (lookup (eq k) qs) c.here (c.sums (λ (p : Share K T). one_if p.live)) in omega arith
       where
-        by_places : (o r : Option (Share K T)) → AreIn (λ p r. Turns eq (λ t. t) (λ e. false) (λ x b. b) (λ d b. false) p r × UsesRoom 0 0 p.wait_room p r) o r → live_count qs + number_for (λ (p : Share K T). one_if p.live) o ≡ live_count ps + number_for (λ (p : Share K T). one_if p.live) r → live_count qs ≤ live_count ps
+        by_places : (o r : Option (Share K T)) → AreIn (λ p r. Turns eq t (λ e. false) (λ x b. b) (λ d b. false) p r × UsesRoom 0 0 p.wait_room p r) o r → live_count qs + number_for (λ (p : Share K T). one_if p.live) o ≡ live_count ps + number_for (λ (p : Share K T). one_if p.live) r → live_count qs ≤ live_count ps
         by_places None None i e = omega arith
         by_places None (Some r) i e = absurd i
         by_places (Some p) None i e = absurd i
@@ -245,7 +245,7 @@ module _ {K T : Type 0} (eq : K → K → Bool) (law : IsEquality eq) where
 
     pub ended_mirrored : IsMirrored eq rs
     ended_mirrored d i = ended_asks d (Tasked i) ∙ (ap (λ b. b && not (eq k i)) (m d i) ∙ (by_bools (eq k i) (list_any (eq d) (waits_at eq ps i))
-        ∙ sym (w.waits i d ∙ waits_turned eq law ps qs k _ c (λ t. t) (λ e. false) (λ x b. b) (λ d b. false) (λ p r i. i.0) d (λ z. refl) i)))
+        ∙ sym (w.waits i d ∙ waits_turned eq law ps qs k _ c t (λ e. false) (λ x b. b) (λ d b. false) (λ p r i. i.0) d (λ z. refl) i)))
       where
         by_bools : (b x : Bool) → (x && not b) ≡ cond b false x
         by_bools true true = refl
@@ -261,6 +261,16 @@ module _ {K T : Type 0} (eq : K → K → Bool) (law : IsEquality eq) where
       waits = λ q n. (let a = ap (number_for (room_in (λ (p : Share K T). p.wait_room))) (c.others q n) in let b = w.room.waits q in omega arith);
       count = (let a = count_kept eq law ps qs k _ c 0 (λ p r i. i.1.count) in let b = w.room.count in omega arith);
     }
+
+  -- a task has ended as it is
+  module _ (ps qs rs : List (K × Share K T)) (k : K) (W : List K) (c : IsChanged eq k (λ p r. Turns eq (λ t. t) (λ e. false) (λ x b. b) (λ d b. false) p r × UsesRoom 0 0 p.wait_room p r) ps qs) (waited : W ≡ waits_at eq ps k) (w : Withdraws eq k W qs rs) (m : IsMirrored eq ps) where
+    pub ended_tasks : (q : K) → task_at eq rs q ≡ task_at eq ps q
+    ended_tasks q = ended_task ps qs rs k W c waited w m (λ z. refl) q ∙ same_cond (eq k q) (task_at eq ps q)
+
+  -- a task that has ended is put to the place of k
+  module _ (ps qs rs : List (K × Share K T)) (k : K) (t : T) (W : List K) (c : IsChanged eq k (λ p r. Turns eq (λ o. Some t) (λ e. false) (λ x b. b) (λ d b. false) p r × UsesRoom 0 0 p.wait_room p r) ps qs) (waited : W ≡ waits_at eq ps k) (w : Withdraws eq k W qs rs) (m : IsMirrored eq ps) where
+    pub put_ended_tasks : has_place eq ps k ≡ true → (q : K) → task_at eq rs q ≡ cond (eq k q) (Some t) (task_at eq ps q)
+    put_ended_tasks h q = ended_task ps qs rs k W c waited w m (λ n. absurd (let f : true ≡ false = sym h ∙ ap (is_for takes_task) n in cc)) q
 
   -- an idle task is popped, and its asks are withdrawn
   module _ (ps qs rs : List (K × Share K T)) (k : K) (t : T) (W : List K) (p : IsPopped eq k t W ps qs) (w : Withdraws eq k W qs rs) (m : IsMirrored eq ps) where

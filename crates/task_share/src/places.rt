@@ -131,6 +131,37 @@ pub fn put_task<K: Eq + Hash + Drop, T: Drop>(
     settle(place, candidates);
 }
 
+/// Writes a task that has ended to the place of a key, which is given by number, and takes its waits
+/// out.
+pub fn put_ended<K: Eq + Hash + Drop, T: Drop>(
+    places: &mut IndexMap<Arc<K>, Place<K, T>, Seed>,
+    alloc: Global,
+    at: usize,
+    task: T,
+) -> SmallMap<K>
+    requires equality { IsEquality K.eq }
+    requires linked { IsLinked K.eq places.old.entries }
+    requires place { (k : K) → slice_get (names_of places.old.entries) at ≡ Some k
+        → has_place K.eq (shares_of places.old.entries) k ≡ true }
+    ensures listed { KeepsListed K.eq (shares_of places.old.entries)
+        (shares_of places.new.entries) }
+    ensures numbered { AreNumbered (names_of places.new.entries) result.entries }
+    ensures waits { (k : K) → slice_get (names_of places.old.entries) at ≡ Some k
+        → map arc_value (values_of result.entries)
+        ≡ waits_at K.eq (shares_of places.old.entries) k }
+    ensures changed { IsChangedAt K.eq at (λ p r. Turns K.eq (λ t. Some task) (λ e. false)
+        (λ x b. b) (λ d b. false) p r × UsesRoom 0 0 p.wait_room p r) places.old.entries
+        places.new.entries }
+{
+    let none = SmallMap::new(alloc);
+    let Some(free) = places.get_index_mut(at) else {
+        return none;
+    };
+    free.task = Some(task);
+    free.live = false;
+    mem::replace(&mut free.waits, none)
+}
+
 /// Notes that the task of a key has ended, and takes its waits out. The key is given by number.
 pub fn end_task<K: Eq + Hash + Drop, T: Drop>(
     places: &mut IndexMap<Arc<K>, Place<K, T>, Seed>,

@@ -19,7 +19,7 @@ use crate::idle::{pop_idle, withdraw};
 use crate::place::{Place, is_running};
 use crate::places::{
     add_asker, add_promise, add_wait, drop_wait, end_task, leave_promise, leave_task, pop_asker,
-    put_task,
+    put_ended, put_task,
 };
 use crate::room;
 use dice_key::{NoMemory, Seed};
@@ -125,6 +125,29 @@ impl<K: Eq + Hash + Drop, T: Drop> Table<K, T> {
         put_task(&mut self.places, &mut self.candidates, key, task);
     }
 
+    /// Puts a task that has ended to a key with room for it that has none or an ended one, and
+    /// withdraws the key's own asks. The askers stay. It takes no memory.
+    pub fn make_ended(&mut self, key: &Arc<K>, task: T)
+        requires room { has_place K.eq self.old (arc_value key.now) ≡ true }
+        requires free { is_live K.eq self.old (arc_value key.now) ≡ false }
+        ensures tasks { (q : K)
+            → task_at K.eq self.new q
+            ≡ (if K.eq (arc_value key.now) q then Some task else task_at K.eq self.old q) }
+        ensures live { (q : K)
+            → is_live K.eq self.new q
+            ≡ (is_live K.eq self.old q && not (K.eq (arc_value key.now) q)) }
+        ensures asks { (q : K) (a : By K)
+            → asks K.eq self.new q a
+            ≡ (asks K.eq self.old q a && not (is_by K.eq (Tasked (arc_value key.now)) a)) }
+        ensures room { KeepsOtherRoom K.eq (arc_value key.now) self.old self.new }
+    {
+        let Some(at) = self.places.get_index_of(key) else {
+            unreachable!();
+        };
+        let waits = put_ended(&mut self.places, self.alloc, at, task);
+        withdraw(&mut self.places, &mut self.candidates, at, waits);
+    }
+
     /// Puts a task, which has not ended, to a key that has none or an ended one. The askers stay.
     ///
     /// At an error all is as before, but for room, and the task is dropped.
@@ -173,6 +196,9 @@ impl<K: Eq + Hash + Drop, T: Drop> Table<K, T> {
         ensures room { KeepsRoom K.eq self.old self.new }
         ensures ok { OnOk result (additional ≤ wait_room K.eq self.new (arc_value key.now)) }
     {
+        if additional == 0 {
+            return Ok(());
+        }
         let at = room::reserve_place(&mut self.places, &mut self.candidates, self.alloc, key)?;
         room::reserve_waits(&mut self.places, at, additional)
     }

@@ -78,6 +78,16 @@ impl Tasks {
         Ok(made)
     }
 
+    /// Puts a task that has ended to key 1, unless it has one that runs; whether it did.
+    fn put_ended(&mut self, task: u64) -> Result<bool, NoMemory> {
+        self.table.reserve(&self.one)?;
+        if self.table.is_live(&self.one) {
+            return Ok(false);
+        }
+        self.table.make_ended(&self.one, task);
+        Ok(true)
+    }
+
     /// Whether just these promises ask for key 1.
     fn is_asked_by(&self, promises: &[u64]) -> bool {
         self.table.askers(&self.one).promises == promises
@@ -113,6 +123,16 @@ fn a_task_made_anew_keeps_its_askers(rt: HostRuntime) -> Result<(), Fail> {
     assert!(rt; tasks.end());
     assert!(rt; tasks.make_anew(30, 31)?);
     assert!(rt; tasks.has(31) && tasks.is_asked_by(&[8, 9]));
+    assert!(rt; tasks.next() == Some((2, 20)) && tasks.next() == None);
+    Ok(())
+}
+
+#[test]
+fn a_task_that_was_put_ended_keeps_its_askers(rt: HostRuntime) -> Result<(), Fail> {
+    let mut tasks = shared_tasks(rt.alloc())?;
+    assert!(rt; !tasks.put_ended(30)? && tasks.has(10));
+    assert!(rt; tasks.end() && tasks.put_ended(30)?);
+    assert!(rt; tasks.has(30) && tasks.is_asked_by(&[8, 9]));
     assert!(rt; tasks.next() == Some((2, 20)) && tasks.next() == None);
     Ok(())
 }

@@ -1,7 +1,7 @@
 use Rattle.std.proofs.Common.{◌≡◌, ◌≢◌, ◌+◌, ◌∙◌, ◌++◌, ◌∷◌, [], sym, ap, subst, arith, reverse, Some}
 use Rattle.std.specs.Arc.{arc_value}
 use Rattle.dice_key.specs.declared.universe.Kind.TheVariants.{Injected}
-use Rattle.dice_jobs.specs.Jobs.{Name, Assigned, AsksThese, checking, computing}
+use Rattle.dice_jobs.specs.Jobs.{Assigned, AsksThese, checking, computing}
 use Rattle.task_share.specs.Seen.{task_at}
 use Rattle.journal.specs.Tell.{told}
 use Rattle.journal.specs.declared.event.Told.TheVariants.{Start}
@@ -64,7 +64,7 @@ differ-requires-clause-known g c κs bounds =
     let ps = c.args.tasks.now in
     let r = c.requires.at_hand in
     let d = c.plan_anew.new.desk in
-    let there : c.version-version.result ≡ v = c.version-version.ensures ∙ ap (λ (n : Name g.row.U-Key.Denot). n.version) (c.name.ensures ∙ ap (λ (z : Assigned g.row.U-Key.Denot g.row.U-Value.Denot). z.name) c.in-Ok.ensures.own) in
+    let there : c.into_replay-job.result.name.version ≡ v = ap (λ (z : Assigned g.row.U-Key.Denot g.row.U-Value.Denot). z.name.version) (c.into_replay-job.ensures ∙ c.in-Ok.ensures.assignment) in
     let at = at_room eq m v r.0 c.args.owed ps c.args.desk.now d r.1 r.2 c.plan_anew.ensures.same c.plan_anew.ensures.room r.3 in
     subst (λ n. Knows eq n ps d) (sym there) (working_knows eq keys m v [] r.0 c.args.owed ps d at.working)
 
@@ -101,14 +101,14 @@ returns-clause-events g c dep x T b differs work =
     let d = c.plan_anew.new.desk in
     let e = c.differ.new.desk in
     let qs = c.differ.new.tasks in
-    let there : c.version-version.result ≡ v = c.version-version.ensures ∙ ap (λ (n : Name g.row.U-Key.Denot). n.version) (c.name.ensures ∙ ap (λ (z : Assigned g.row.U-Key.Denot g.row.U-Value.Denot). z.name) c.in-Ok.ensures.own) in
+    let there : c.into_replay-job.result.name.version ≡ v = ap (λ (z : Assigned g.row.U-Key.Denot g.row.U-Value.Denot). z.name.version) (c.into_replay-job.ensures ∙ c.in-Ok.ensures.assignment) in
     let key : arc_value c.in-Ok.begun.key ≡ k = c.in-Ok.ensures.key in
     let made = c.into_replay-job.result in
     let n = c.differ.ensures.begun in
     let was = held_of (checking made n.0 n.1 n.2) IsOut in
     let is = held_of made IsReady in
     let begins = subst (λ t. BeginsAnew eq v k was is t ps qs d e) (c.in-Ok.ensures.event dep x T b differs work)
-    (subst (λ u. BeginsAnew eq u k was is (told c.in-Ok.begun.event) ps qs d e) there (subst (λ q. BeginsAnew eq c.version-version.result q was is (told c.in-Ok.begun.event) ps qs d e) key n.3)) in
+    (subst (λ u. BeginsAnew eq u k was is (told c.in-Ok.begun.event) ps qs d e) there (subst (λ q. BeginsAnew eq c.into_replay-job.result.name.version q was is (told c.in-Ok.begun.event) ps qs d e) key n.3)) in
     begun_events eq keys m law v k ps qs d e _ _ (Differs b dep) begins ∙ ap (λ J. J ++ Start v k (Differs b dep) ∷ []) c.plan_anew.ensures.same.events
 
 pub returns-clause-kept : goal.returns-clause-kept
@@ -133,14 +133,14 @@ returns-clause-kept g c w es s at0 =
     let x = found.0 in
     let T = found.1 in
     let b = found.2 in
-    let there : c.version-version.result ≡ v = c.version-version.ensures ∙ ap (λ (n : Name g.row.U-Key.Denot). n.version) (c.name.ensures ∙ ap (λ (z : Assigned g.row.U-Key.Denot g.row.U-Value.Denot). z.name) c.in-Ok.ensures.own) in
+    let there : c.into_replay-job.result.name.version ≡ v = ap (λ (z : Assigned g.row.U-Key.Denot g.row.U-Value.Denot). z.name.version) (c.into_replay-job.ensures ∙ c.in-Ok.ensures.assignment) in
     let key : arc_value c.in-Ok.begun.key ≡ k = c.in-Ok.ensures.key in
     let made = c.into_replay-job.result in
     let anew : made ≡ computing job = c.into_replay-job.ensures ∙ c.in-Ok.ensures.assignment in
     let same : job ≡ checking made x T b = (λ i. record { name = ap (λ (z : Assigned g.row.U-Key.Denot g.row.U-Value.Denot). z.name) (sym anew) i; answered = ap (λ (z : Assigned g.row.U-Key.Denot g.row.U-Value.Denot). z.answered) (sym anew) i; work = found.3 i }) in
     let answered : made.answered ≡ job.answered = ap (λ (z : Assigned g.row.U-Key.Denot g.row.U-Value.Denot). z.answered) anew in
     let told_is : told c.in-Ok.begun.event ≡ Start v k (Differs b dep) = c.in-Ok.ensures.event dep x T b c.requires.differs.1 found.3 in
-    let moved : Start v k (Differs b dep) ≡ Start c.version-version.result (arc_value c.in-Ok.begun.key) (Differs b dep) = (λ i. Start (sym there i) (sym key i) (Differs b dep)) in
+    let moved : Start v k (Differs b dep) ≡ Start c.into_replay-job.result.name.version (arc_value c.in-Ok.begun.key) (Differs b dep) = (λ i. Start (sym there i) (sym key i) (Differs b dep)) in
     let work = c.differ.ensures.kept w [] c.args.owed x T b dep (subst (λ n. Working eq m n [] w (c.args.owed + 1) ps d) (sym there) more) (told_is ∙ moved)
     (ap (task_at eq ps) key ∙ (c.requires.out ∙ ap (λ (z : Assigned g.row.U-Key.Denot g.row.U-Value.Denot). Some (held_of z IsOut)) same))
     (subst (λ B. ChangesFirst T B dep) (sym answered) (changed_first m veq job step c.requires.step x T b found.3 dep c.requires.differs.1)) in
@@ -148,5 +148,5 @@ returns-clause-kept g c w es s at0 =
     let was = held_of (checking made n.0 n.1 n.2) IsOut in
     let is = held_of made IsReady in
     let begins = subst (λ t. BeginsAnew eq v k was is t ps qs d e) told_is
-    (subst (λ u. BeginsAnew eq u k was is (told c.in-Ok.begun.event) ps qs d e) there (subst (λ q. BeginsAnew eq c.version-version.result q was is (told c.in-Ok.begun.event) ps qs d e) key n.3)) in
+    (subst (λ u. BeginsAnew eq u k was is (told c.in-Ok.begun.event) ps qs d e) there (subst (λ q. BeginsAnew eq c.into_replay-job.result.name.version q was is (told c.in-Ok.begun.event) ps qs d e) key n.3)) in
     at_begun eq keys m law v k ps qs d e _ _ (Differs b dep) begins w c.args.owed es s at (subst (λ u. Working eq m u [] w c.args.owed qs e) there work) (c.differ.ensures.tasked at0.tasked)

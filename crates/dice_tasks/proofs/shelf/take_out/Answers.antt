@@ -9,8 +9,8 @@ use Rattle.dice_tasks.proofs.Parts.{distinct_places}
 use Rattle.dice_tasks.proofs.shelf.take_out.Goals as goal
 use Rattle.lists.specs.Lists.{AreDistinct}
 
-pub swap_indices-requires-clause-a_in_bounds : goal.swap_indices-requires-clause-a_in_bounds
-swap_indices-requires-clause-a_in_bounds g c =
+pub swap_tasks-requires-clause-first : goal.swap_tasks-requires-clause-first
+swap_tasks-requires-clause-first g c _ _ =
     let s = c.in-Some.ensures.some in
     (found_before place_of c.args.shelf.now.keys (c.args.ready + 1) c.in-Some.index s.0 (c.args.version, arc_value c.args.key.now) c.requires.distinct c.requires.ready s.1 s.2).1
 
@@ -21,25 +21,25 @@ returns-in-Some g c =
     let s = c.in-Some.ensures.some in
     let r = c.args.ready in
     let xs = c.args.shelf.now.keys in
-    let ys = c.swap_indices.new.self.keys in
+    let ys = c.swap_tasks.new.shelf.keys in
     let zs = c.swap_remove_index.new.self.keys in
     let p : ℕ × g.row.U-Key.Denot = (c.args.version, arc_value c.args.key.now) in
-    let m : length ys ≡ length xs = ap length c.swap_indices.ensures.keys ∙ length-swap xs c.in-Some.index r in
+    let m : length ys ≡ length xs = ap length c.swap_tasks.ensures.keys ∙ length-swap xs c.in-Some.index r in
     let long : r < length ys = omega (arith, m, c.requires.bound) in
     let y = get_or ys r s.0 in
     let e : slice_get ys r ≡ Some y = slice_get-get_or ys r s.0 long in
     let o : c.swap_remove_index.result ≡ Some y = c.swap_remove_index.ensures.key ∙ e in
     let k : zs ≡ swap_remove ys r y = at_some _ c.swap_remove_index.result y o c.swap_remove_index.ensures.keys in
     let n = at_some _ c.swap_remove_index.result y o c.swap_remove_index.ensures.updates in
-    let v : AreDistinct (map place_of ys) = distinct_places place_of (ready_eq eq law) (same_place eq law) ys c.swap_indices.ensures.unique in
+    let v : AreDistinct (map place_of ys) = c.swap_tasks.ensures.distinct in
     let w : AreDistinct (map place_of zs) = distinct_places place_of (ready_eq eq law) (same_place eq law) zs c.swap_remove_index.ensures.unique in
-    let b = take_out_is place_of (ready_eq eq law) (same_place eq law) xs ys zs r c.in-Some.index s.0 y p c.requires.bound c.requires.distinct c.requires.ready s.1 s.2 c.swap_indices.ensures.keys v e k n.1 w in
+    let b = take_out_is place_of (ready_eq eq law) (same_place eq law) xs ys zs r c.in-Some.index s.0 y p c.requires.bound c.requires.distinct c.requires.ready s.1 s.2 c.swap_tasks.ensures.keys v e k n.1 w in
     record {
       ready = b.0;
       out = b.1;
       len = one_fewer place_of ys zs r y e k ∙ m;
       distinct = w;
-      room = omega (arith, c.swap_indices.ensures.room.0, c.swap_remove_index.ensures.room.0);
+      room = omega (arith, c.swap_tasks.ensures.room, c.swap_remove_index.ensures.room.0);
     }
 
 pub returns-in_default : goal.returns-in_default
