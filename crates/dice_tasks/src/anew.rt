@@ -39,7 +39,8 @@ pub fn differ<U: Universe>(
     requires job { job.work ≡ Computes }
     ensures begun { (x : U.Value) × (T : List (Answered U.Key U.Value)) × (b : ℕ)
         × BeginsAnew U.Key.eq job.name.version (arc_value key.now)
-        (held_of (checking job x T b) IsOut) (held_of job IsReady) (told event) tasks.old tasks.new desk.old desk.new }
+        (held_of (checking job x T b) IsOut) (held_of job IsReady) (told event) tasks.old tasks.new
+        desk.old desk.new }
     ensures tasked { AreTasked U.Key.eq tasks.old → AreTasked U.Key.eq tasks.new }
     ensures kept { (w : World U.Key U.Value) (W : List U.Key) (owed : ℕ) (x : U.Value)
         (T : List (Answered U.Key U.Value)) (base : ℕ) (changed : U.Key)

@@ -218,9 +218,9 @@ fn prepare_check<U: Universe>(
     Ok(Making::Check { ready, task })
 }
 
-/// What is to be made of a key that has no task, or one that was given up, by what a look-up at the
-/// version says. The key is not injected, and the journal has `born` events. It takes the memory for
-/// it, and changes nothing.
+/// What is to be made of a key that has no task, or one that was given up, by what a look-up at
+/// the version says. The key is not injected, and the journal has `born` events. It takes the
+/// memory for it, and changes nothing.
 pub fn prepare_anew<U: Universe>(
     alloc: Global,
     graph: &Graph<U>,

@@ -131,8 +131,8 @@ pub fn put_task<K: Eq + Hash + Drop, T: Drop>(
     settle(place, candidates);
 }
 
-/// Writes a task that has ended to the place of a key, which is given by number, and takes its waits
-/// out.
+/// Writes a task that has ended to the place of a key, which is given by number, and takes the
+/// waits of the place out.
 pub fn put_ended<K: Eq + Hash + Drop, T: Drop>(
     places: &mut IndexMap<Arc<K>, Place<K, T>, Seed>,
     alloc: Global,

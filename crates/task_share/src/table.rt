@@ -72,7 +72,8 @@ impl<K: Eq + Hash + Drop, T: Drop> Model for Table<K, T> {
 }
 
 impl<K: Eq + Hash + Drop, T: Drop> Table<K, T> {
-    /// A table without tasks, which hashes keys by this seed. It takes no memory. Keys that are equal have to be the same.
+    /// A table without tasks, which hashes keys by this seed. It takes no memory. Keys that are
+    /// equal have to be the same.
     pub fn new(alloc: Global, seed: Seed) -> Table<K, T>
         requires { IsEquality K.eq }
         ensures { result ≡ [] }
@@ -84,8 +85,8 @@ impl<K: Eq + Hash + Drop, T: Drop> Table<K, T> {
         }
     }
 
-    /// Takes out all tasks, askers and room for them; the memory of the places stays, for others. It
-    /// takes no memory.
+    /// Takes out all tasks, askers and room for them; the memory of the places stays, for others.
+    /// It takes no memory.
     pub fn clear(&mut self)
         ensures { self.new ≡ [] }
     {
