@@ -5,12 +5,12 @@ ghost use Rattle.dice_run.specs.Run.{summary, Sums};
 ghost use Rattle.dice_run.specs.declared.kept.Kept.{Kept};
 
 use crate::append;
-use crate::carried::{Ending, carry_out};
+use crate::carried::{Ending, Options, carry_out, write_out};
 use crate::kept::{Kept, end};
 use crate::status::Status;
 use bulk_script::{bulk_is_script, bulk_script, request_count};
 use dice_engine::Gate;
-use dice_io::{Sink, write_all};
+use dice_io::Sink;
 use dice_key::NoMemory;
 use script::{ScriptRefusal, readings_are_one};
 use sha2::{Digest, Sha256};
@@ -18,7 +18,8 @@ use std::alloc::Global;
 use std::sync::Wait;
 use std::thread::Threads;
 
-/// Carries out the bulk script of so many targets, and writes its summary to the sink.
+/// Carries out the bulk script of so many targets, and writes its summary to the sink. With status
+/// 0 it answers what the run leaves.
 pub(crate) fn run_bulk<R: Threads + Wait + Sync, K: Sink, G: Gate>(
     rt: &R,
     alloc: Global,
@@ -26,36 +27,25 @@ pub(crate) fn run_bulk<R: Threads + Wait + Sync, K: Sink, G: Gate>(
     workers: u32,
     sink: &mut K,
     gate: &G,
-    kept: &mut Option<Kept>,
-) -> Status
+) -> (Status, Option<Kept>)
     requires targets { (1 ≤ targets) × (targets ≤ 10000) }
     requires workers { workers ≤ 64 }
-    requires empty { kept.old ≡ None }
-    ensures only { (result ≡ Status.Done)
-        ⊎ ((result ≡ Status.WriteFailed) ⊎ (result ≡ Status.NoMemory)) }
-    ensures done { result ≡ Status.Done
-        → (out : List ℕ) × Sums targets out kept.new
+    ensures only { (result.0 ≡ Status.Done)
+        ⊎ ((result.0 ≡ Status.WriteFailed) ⊎ (result.0 ≡ Status.NoMemory)) }
+    ensures done { result.0 ≡ Status.Done
+        → (out : List ℕ) × Sums targets out result.1
         × Gained (K.taken sink.old) (K.taken sink.new) out }
-    ensures write { result ≡ Status.WriteFailed
+    ensures write { result.0 ≡ Status.WriteFailed
         → Rose (K.faults sink.old) (K.faults sink.new)
         × ((out : List ℕ) × (k : Option Kept) × Sums targets out k
         × GainedPart (K.taken sink.old) (K.taken sink.new) out) }
-    ensures memory { result ≡ Status.NoMemory → Unchanged (K.taken sink.old) (K.taken sink.new) }
-    ensures empty { result ≢ Status.Done → kept.new ≡ None }
+    ensures memory { result.0 ≡ Status.NoMemory
+        → Unchanged (K.taken sink.old) (K.taken sink.new) }
+    ensures empty { result.0 ≢ Status.Done → result.1 ≡ None }
 {
-    let ending = match sum_up(rt, alloc, targets, workers, gate) {
-        Ok(ending) => ending,
-        Err(NoMemory) => return Status::NoMemory,
-    };
-    match write_all(sink, &ending.out) {
-        Ok(()) => {
-            *kept = ending.kept;
-            Status::Done
-        }
-        Err(_) => {
-            end(rt, ending.kept);
-            Status::WriteFailed
-        }
+    match sum_up(rt, alloc, targets, workers, gate) {
+        Ok(ending) => write_out(rt, sink, ending),
+        Err(NoMemory) => (Status::NoMemory, None),
     }
 }
 
@@ -69,7 +59,8 @@ fn sum_up<R: Threads + Wait + Sync, G: Gate>(
 ) -> Result<Ending, NoMemory>
     requires targets { (1 ≤ targets) × (targets ≤ 10000) }
     requires workers { workers ≤ 64 }
-    ensures { IfOk result (λ a. Sums targets a.out.items a.kept) }
+    ensures sums { IfOk result (λ a. Sums targets a.out.items a.kept) }
+    ensures status { IfOk result (λ a. a.status ≡ Status.Done) }
 {
     let bytes = bulk_script(alloc, targets)?;
     bulk_is_script();
@@ -85,7 +76,11 @@ fn sum_up<R: Threads + Wait + Sync, G: Gate>(
         ) => unreachable!(),
         Err(ScriptRefusal::NoMemory) => return Err(NoMemory),
     };
-    let ending = carry_out(rt, alloc, workers, false, gate, &script)?;
+    let options = Options {
+        workers,
+        trace: false,
+    };
+    let ending = carry_out(rt, alloc, options, gate, &script)?;
     match summary(alloc, targets, &ending.out) {
         Ok(out) => Ok(Ending {
             status: Status::Done,

@@ -21,24 +21,39 @@ use std::alloc::Global;
 use std::collections::HashMap;
 use std::sync::Wait;
 
+/// What a driver is given beside its seat: a reader, if there is one; the script; whether the trace
+/// is wanted; and how many jobs may be out that it leaves to others.
+#[derive(Drop)]
+pub(crate) struct Course<'a> {
+    pub(crate) alloc: Global,
+    pub(crate) reader: Option<Reader<Buck>>,
+    pub(crate) script: &'a Script,
+    pub(crate) trace: bool,
+    pub(crate) patience: u64,
+}
+
 /// Drives a script on this thread alone.
 pub(crate) fn drive_alone<R: Wait, G: Gate>(
     rt: &R,
-    alloc: Global,
     engine: &Engine<Buck>,
     seat: Seat<Buck>,
-    reader: Option<Reader<Buck>>,
-    script: &Script,
-    trace: bool,
-    patience: u64,
+    course: Course<'_>,
     gate: &G,
 ) -> (Seat<Buck>, Result<Vec<u8>, NoMemory>)
     requires ours { IsOurs engine.now seat }
     requires first { seat.mine ≡ [] }
     ensures ours { IsOurs engine.now result.0 }
-    ensures output { IfOk result.1 (λ out. IsPrintout trace script.now result.0.seen out.items) }
-    ensures journal { OnOk result.1 (IsJournalOf script.now result.0.seen) }
+    ensures output { IfOk result.1
+        (λ out. IsPrintout course.entry.trace course.entry.script.now result.0.seen out.items) }
+    ensures journal { OnOk result.1 (IsJournalOf course.entry.script.now result.0.seen) }
 {
+    let Course {
+        alloc,
+        reader,
+        script,
+        trace,
+        patience,
+    } = course;
     let requests = requests_in(script);
     let seed = script.seed();
     let mut driver = Driver {

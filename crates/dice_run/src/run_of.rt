@@ -8,11 +8,11 @@ ghost use Rattle.dice_run.specs.Run.{Answers, Refuses, IsWritten, ReadWhole, Doe
 ghost use Rattle.dice_run.specs.Given.{IsGiven};
 
 use crate::bulk::run_bulk;
-use crate::carried::answer;
-use crate::kept::{Kept, end};
+use crate::carried::{Options, answer, write_out};
+use crate::kept::Kept;
 use crate::status::Status;
 use dice_engine::Gate;
-use dice_io::{ReadFail, Sink, Source, read_all, write_all};
+use dice_io::{ReadFail, Sink, Source, read_all};
 use dice_key::NoMemory;
 use dice_words::{Command, WordsFail, read_words};
 use script::readings_are_one;
@@ -91,11 +91,16 @@ pub fn run<R: Threads + Wait + Sync, S: Source, K: Sink, G: Gate>(
 {
     readings_are_one();
     match read_words(alloc, words) {
-        Ok(Command::Run { workers, trace }) => run_script(
-            rt, alloc, workers, trace, source, sink, gate, kept,
-        ),
+        Ok(Command::Run { workers, trace }) => {
+            let options = Options { workers, trace };
+            let (status, left) = run_script(rt, alloc, options, source, sink, gate);
+            *kept = left;
+            status
+        }
         Ok(Command::Bulk { targets, workers }) => {
-            run_bulk(rt, alloc, targets, workers, sink, gate, kept)
+            let (status, left) = run_bulk(rt, alloc, targets, workers, sink, gate);
+            *kept = left;
+            status
         }
         Err(WordsFail::Refused) => Status::WordsRefused,
         Err(WordsFail::NoMemory) => Status::NoMemory,
@@ -103,56 +108,45 @@ pub fn run<R: Threads + Wait + Sync, S: Source, K: Sink, G: Gate>(
 }
 
 /// Reads a script from the source to its end, and writes its output, or its first fault, to the
-/// sink.
+/// sink. With status 0 it answers what the run leaves.
 fn run_script<R: Threads + Wait + Sync, S: Source, K: Sink, G: Gate>(
     rt: &R,
     alloc: Global,
-    workers: u32,
-    trace: bool,
+    options: Options,
     source: &mut S,
     sink: &mut K,
     gate: &G,
-    kept: &mut Option<Kept>,
-) -> Status
-    requires workers { workers ≤ 64 }
-    requires empty { kept.old ≡ None }
-    ensures accepted { result ≢ Status.WordsRefused }
+) -> (Status, Option<Kept>)
+    requires { options.workers ≤ 64 }
+    ensures accepted { result.0 ≢ Status.WordsRefused }
     ensures few { ReadPart (S.left source.old) (S.left source.new) 4194305 }
-    ensures read { result ≡ Status.ReadFailed
+    ensures read { result.0 ≡ Status.ReadFailed
         → Rose (S.faults source.old) (S.faults source.new)
         × Unchanged (K.taken sink.old) (K.taken sink.new) }
-    ensures write { result ≡ Status.WriteFailed
+    ensures write { result.0 ≡ Status.WriteFailed
         → Rose (K.faults sink.old) (K.faults sink.new)
         × ((read : List ℕ) × (out : List ℕ)
-        × ReadTo (S.left source.old) (S.left source.new) read 4194305 × IsWritten trace read out
-        × GainedPart (K.taken sink.old) (K.taken sink.new) out) }
-    ensures script { result ≡ Status.ScriptRefused
+        × ReadTo (S.left source.old) (S.left source.new) read 4194305
+        × IsWritten options.trace read out × GainedPart (K.taken sink.old) (K.taken sink.new) out) }
+    ensures script { result.0 ≡ Status.ScriptRefused
         → (read : List ℕ) × (out : List ℕ)
         × ReadTo (S.left source.old) (S.left source.new) read 4194305 × Refuses read out
         × Gained (K.taken sink.old) (K.taken sink.new) out }
-    ensures done { result ≡ Status.Done
+    ensures done { result.0 ≡ Status.Done
         → (read : List ℕ) × (out : List ℕ) × ReadWhole (S.left source.old) (S.left source.new) read
-        × Answers trace read out kept.new × Gained (K.taken sink.old) (K.taken sink.new) out }
-    ensures memory { result ≡ Status.NoMemory → Unchanged (K.taken sink.old) (K.taken sink.new) }
-    ensures empty { result ≢ Status.Done → kept.new ≡ None }
+        × Answers options.trace read out result.1
+        × Gained (K.taken sink.old) (K.taken sink.new) out }
+    ensures memory { result.0 ≡ Status.NoMemory
+        → Unchanged (K.taken sink.old) (K.taken sink.new) }
+    ensures empty { result.0 ≢ Status.Done → result.1 ≡ None }
 {
     let bytes = match read_all(alloc, source, MOST) {
         Ok(bytes) => bytes,
-        Err(ReadFail::Failed) => return Status::ReadFailed,
-        Err(ReadFail::NoMemory) => return Status::NoMemory,
+        Err(ReadFail::Failed) => return (Status::ReadFailed, None),
+        Err(ReadFail::NoMemory) => return (Status::NoMemory, None),
     };
-    let ending = match answer(rt, alloc, workers, trace, gate, &bytes) {
-        Ok(ending) => ending,
-        Err(NoMemory) => return Status::NoMemory,
-    };
-    match write_all(sink, &ending.out) {
-        Ok(()) => {
-            *kept = ending.kept;
-            ending.status
-        }
-        Err(_) => {
-            end(rt, ending.kept);
-            Status::WriteFailed
-        }
+    match answer(rt, alloc, options, gate, &bytes) {
+        Ok(ending) => write_out(rt, sink, ending),
+        Err(NoMemory) => (Status::NoMemory, None),
     }
 }

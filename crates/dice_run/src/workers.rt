@@ -6,7 +6,7 @@ ghost use Rattle.script_trace.specs.Tracing.{IsPrintout};
 ghost use Rattle.script_trace.specs.Events.{IsJournalOf};
 ghost use Rattle.dice_run.specs.Seats.{IsOurs};
 
-use crate::driven::drive_alone;
+use crate::driven::{Course, drive_alone};
 use action_digest::Buck;
 use dice_engine::{Engine, Gate, Place, Reader, Seat};
 use dice_key::NoMemory;
@@ -48,36 +48,50 @@ pub fn drive<R: Threads + Wait + Sync, G: Gate>(
     ensures output { IfOk result.1 (λ out. IsPrintout trace script.now result.0.seen out.items) }
     ensures journal { OnOk result.1 (IsJournalOf script.now result.0.seen) }
 {
+    let mut course = Course {
+        alloc,
+        reader,
+        script,
+        trace,
+        patience: 0,
+    };
     if workers == 0 {
-        return drive_alone(rt, alloc, engine, seat, reader, script, trace, 0, gate);
+        return drive_alone(rt, engine, seat, course, gate);
     }
     let mut seat = seat;
     match engine.split_seats(alloc, &mut seat, u64::from(workers)) {
-        Ok(seats) => drive_with(rt, alloc, engine, seat, reader, seats, script, trace, gate),
-        Err(NoMemory) => drive_alone(rt, alloc, engine, seat, reader, script, trace, 0, gate),
+        Ok(seats) => {
+            course.patience = PATIENCE.saturating_mul(u64::from(workers));
+            drive_with(rt, engine, seat, seats, course, gate)
+        }
+        Err(NoMemory) => drive_alone(rt, engine, seat, course, gate),
     }
 }
 
 /// The workers in threads, and the driver in this one.
 fn drive_with<R: Threads + Wait + Sync, G: Gate>(
     rt: &R,
-    alloc: Global,
     engine: &Engine<Buck>,
     seat: Seat<Buck>,
-    reader: Option<Reader<Buck>>,
     seats: Vec<Place<Buck>>,
-    script: &Script,
-    trace: bool,
+    course: Course<'_>,
     gate: &G,
 ) -> (Seat<Buck>, Result<Vec<u8>, NoMemory>)
     requires ours { IsOurs engine.now seat }
     requires first { seat.mine ≡ [] }
     requires seats { All (IsPlaceOf engine.now) seats.items }
     ensures ours { IsOurs engine.now result.0 }
-    ensures output { IfOk result.1 (λ out. IsPrintout trace script.now result.0.seen out.items) }
-    ensures journal { OnOk result.1 (IsJournalOf script.now result.0.seen) }
+    ensures output { IfOk result.1
+        (λ out. IsPrintout course.entry.trace course.entry.script.now result.0.seen out.items) }
+    ensures journal { OnOk result.1 (IsJournalOf course.entry.script.now result.0.seen) }
 {
-    let patience = PATIENCE.saturating_mul(seats.len() as u64);
+    let Course {
+        alloc,
+        reader,
+        script,
+        trace,
+        patience,
+    } = course;
     engine.with_workers(
         rt,
         seats,
@@ -88,9 +102,14 @@ fn drive_with<R: Threads + Wait + Sync, G: Gate>(
                 × IfOk result.1 (λ out. IsPrintout trace script.entry.now result.0.seen out.items)
                 × OnOk result.1 (IsJournalOf script.entry.now result.0.seen) }
         {
-            drive_alone(
-                rt, alloc, engine, seat, reader, script, trace, patience, gate,
-            )
+            let course = Course {
+                alloc,
+                reader,
+                script,
+                trace,
+                patience,
+            };
+            drive_alone(rt, engine, seat, course, gate)
         },
     )
 }

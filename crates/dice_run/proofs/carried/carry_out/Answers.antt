@@ -18,5 +18,5 @@ returns-in-Ok-clause-answers g c input s =
       lines = ls;
       script = s;
       left = kept_with ls _ c.drive-seat.ensures.ours (subst (λ r. OnOk r (IsJournalOf ls seat.seen)) c.in-Ok.is c.drive-seat.ensures.journal);
-      output = subst (λ r. IfOk r (λ o. IsPrintout c.args.trace ls seat.seen o.items)) c.in-Ok.is c.drive-seat.ensures.output;
+      output = subst (λ r. IfOk r (λ o. IsPrintout c.args.options.trace ls seat.seen o.items)) c.in-Ok.is c.drive-seat.ensures.output;
     }
