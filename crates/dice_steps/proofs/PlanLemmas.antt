@@ -2,7 +2,7 @@
 use Rattle.std.proofs.Common.{◌≡◌, inl, inr, ◌<◌, ◌≤◌, ◌+◌, ◌*◌, ℕ, Bool, true, false, ◌&&◌, ◌||◌, List, [], ◌∷◌, ◌++◌, length, map, reverse, Option, Some, None, refl, sym, ap, ◌∙◌, subst, arith}
 use Rattle.std.specs.List.{AllZip, list_any}
 use Rattle.std.specs.Option.{option_map}
-use Rattle.std.specs.Prelude.{◌==◌}
+use Rattle.std.specs.Prelude.{◌==◌, IfSome}
 use Rattle.std.proofs.lemmas.Bool.{eqb-true}
 use Rattle.std.proofs.lemmas.Option.{none-some, same_Some}
 use Rattle.dice_key.specs.Meaning.{Meaning}
@@ -14,8 +14,9 @@ use Rattle.injected.specs.Seen.{Seen}
 use Rattle.journal.specs.declared.event.Told.{Told}
 use Rattle.journal.specs.Events.{open_count}
 use Rattle.journal.specs.Law.{IsWanted}
-use Rattle.versioned_graph.specs.Entries.{Stored}
-use Rattle.core_laws.specs.Tasks.{is_going}
+use Rattle.versioned_graph.specs.Entries.{Stored, entry_at}
+use Rattle.versioned_graph.specs.Looks.{Matches, look}
+use Rattle.core_laws.specs.Tasks.{is_going, value_in, value_of}
 use Rattle.core_laws.specs.Stands.{VersionStands}
 use Rattle.core_laws.specs.Desk.{World, Stand, AreAll, IsCount, is_ready, is_out}
 use Rattle.core_laws.proofs.Shapes.{not_both}
@@ -27,7 +28,7 @@ use Rattle.dice_tasks.specs.Hands.{DeskSeen, KeepsHands, HasDeskRoom, desk_of, W
 use Rattle.dice_tasks.specs.Entries.{EntriesStand}
 use Rattle.dice_tasks.specs.Makings.{IsFree, IsMaking, task_by}
 use Rattle.dice_steps.specs.Orders.{AreLastFirst}
-use Rattle.dice_steps.specs.Plans.{key_in, wait_for, waits_of, is_awaited, HasNone, IsPart, AreParts, ArePlaced, IsAtHand, IsRoomy, GoesOnSo, WaitsSo, IsPlan, IsPlanDone, IfEnds}
+use Rattle.dice_steps.specs.Plans.{key_in, wait_for, waits_of, is_awaited, HasNone, IsPart, IsPartFor, MakesValue, IsMatchedBy, AreParts, ArePlaced, IsAtHand, IsRoomy, GoesOnSo, WaitsSo, IsPlan, IsPlanDone, IfEnds}
 use Rattle.dice_steps.specs.Taken.{says, told_of, NeedsTask, MakesTasks, WaitsFor, GoesOnWith, EndsByCycle, IsBatchDone}
 use Rattle.dice_steps.specs.Batches.{TakesUp}
 use Rattle.dice_tasks.specs.declared.making.Making.{Making}
@@ -248,3 +249,27 @@ module _ {K V : Type 0} (eq : K → K → Bool) (m : Meaning K V) (v v2 : ℕ) (
 
   pub hand_as : (w : World K V) (owed : ℕ) (ps : List (K × Share K (Held K V))) (d : DeskSeen K V) (es : List (K × Stored K V)) (s : Seen K V) → AtHand eq m v w owed ps d es s → AtHand eq m v2 w owed ps d es s
   hand_as w owed ps d es s h = subst (λ x. AtHand eq m x w owed ps d es s) same h
+
+-- a key whose task may be made anew has no value
+free_has_none : {K V : Type 0} (o : Option (Held K V)) → IsFree o → value_of (option_map task_of o) ≡ None
+free_has_none None f = refl
+free_has_none (Some h) f = ap value_in f
+
+-- the value with which the task of a part has ended is at hand
+pub matched_at_hand : {U K V R : Type 0} (eq : K → K → Bool) (m : Meaning K V) (v born : ℕ) (ps : List (K × Share K (Held K V))) (es : List (K × Stored K V)) (s : Seen K V) (k : K) (x : V) (p : Part U K V R) → IsPartFor eq m v born ps es k p → MakesValue p.making x → IsAtHand eq m v ps es s k x
+matched_at_hand {U} {K} {V} {R} eq m v born ps es s k x p part made =
+    let r = by_making p.making part.0.making made in
+    subst (λ q. IsAtHand eq m v ps es s q x) part.1 (inr (inr (r.0, r.1, part.0.computed, r.2)))
+  where
+    by_making : (g : Making U K V R) → IsMaking eq m v (key_in p) born ps es g → MakesValue g x → (b : ℕ) × (look m.is_transient (entry_at eq es (key_in p)) v ≡ Matches x b) × (value_of (tasks_of eq ps (key_in p)) ≡ None)
+    by_making Join i e = absurd e
+    by_making (Match event base task) i e =
+        let same : i.1.0 ≡ x = same_Some i.1.0 x (sym (ap (λ (h : Held K V). value_in h.standing) i.1.2) ∙ e) in
+        (base, i.1.1 ∙ ap (λ y. Matches y base) same, free_has_none (task_at eq ps (key_in p)) i.0)
+    by_making (Run event cause ready task) i e = absurd e
+    by_making (Check ready task) i e = absurd e
+
+-- the same, if there is a part that makes such a task
+pub matched_so : {U K V R : Type 0} (eq : K → K → Bool) (m : Meaning K V) (v : ℕ) (ps : List (K × Share K (Held K V))) (es : List (K × Stored K V)) (s : Seen K V) (k : K) (x : V) (o : Option (Part U K V R)) → IfSome o (λ p. (born : ℕ) × IsPartFor eq m v born ps es k p) → IsMatchedBy o x → IsAtHand eq m v ps es s k x
+matched_so eq m v ps es s k x None part made = absurd made
+matched_so eq m v ps es s k x (Some p) part made = matched_at_hand eq m v part.0 ps es s k x p part.1 made

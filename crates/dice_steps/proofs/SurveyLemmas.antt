@@ -24,7 +24,7 @@ use Rattle.lists.proofs.Members.{has_map, has_mapped}
 use Rattle.lists.specs.Lists.{Has}
 
 -- what stands at an index is in the list
-get_has : {X : Type 0} (xs : List X) (i : ℕ) (x : X) → i < length xs → x ≡ get_or xs i x → Has xs x
+pub get_has : {X : Type 0} (xs : List X) (i : ℕ) (x : X) → i < length xs → x ≡ get_or xs i x → Has xs x
 get_has [] i x l e = absurd (omega arith)
 get_has (y ∷ xs) zero x l e = inl (sym e)
 get_has (y ∷ xs) (suc i) x l e = inr (get_has xs i x (omega arith) e)

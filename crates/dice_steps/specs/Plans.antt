@@ -1,6 +1,6 @@
 -- What the batch that the task of a key asks comes to: what is made of each of its keys, which of them are waited for, and the answers if all have
 -- values at hand.
-use Rattle.std.specs.Prelude.{◌≡◌, ◌≢◌, ◌⊎◌, ◌<◌, ◌≤◌, ℕ, Bool, true, false, List, length, map, filter, Some, None}
+use Rattle.std.specs.Prelude.{◌≡◌, ◌≢◌, ◌⊎◌, ◌<◌, ◌≤◌, ℕ, Bool, true, false, List, length, map, filter, Option, Some, None}
 use Rattle.std.specs.Arc.{arc_value}
 use Rattle.std.specs.List.{AllZip}
 use Rattle.dice_key.specs.Meaning.{Meaning}
@@ -12,7 +12,7 @@ use Rattle.task_share.specs.Seen.{Share, is_live, asked_of, has_place, asker_roo
 use Rattle.injected.specs.Seen.{Seen, cell_at}
 use Rattle.versioned_graph.specs.Entries.{Stored, entry_at}
 use Rattle.versioned_graph.specs.Looks.{Matches, look}
-use Rattle.core_laws.specs.Tasks.{value_of}
+use Rattle.core_laws.specs.Tasks.{value_in, value_of}
 use Rattle.dice_tasks.specs.Helds.{Held, Ahead}
 use Rattle.dice_tasks.specs.Hands.{DeskSeen, HasDeskRoom, tasks_of}
 use Rattle.dice_tasks.specs.Makings.{IsMaking, IsOfKey}
@@ -69,6 +69,14 @@ module _ {U K V R : Type 0} (eq : K → K → Bool) (m : Meaning K V) (v born : 
     pub own : IsOfKey v (key_in p) p.making
     pub awaited : p.awaited ≡ is_awaited eq ps (key_in p) p.making
 
+  -- each of these is to be made of its key
+  abbrev pub AreMakings : List (Part U K V R) → Type 0
+  AreMakings xs = (p : Part U K V R) → Has xs p → IsPart p
+
+  -- this is to be made of the key k
+  abbrev pub IsPartFor : K → Part U K V R → Type 0
+  IsPartFor k p = IsPart p × (key_in p ≡ k)
+
   -- these are the parts of the batch ks, which the task of k asks: one for each of its keys that is not injected; and no wait for one of them would
   -- close a cycle
   pub record AreParts (k : K) (ks : List K) (xs : List (Part U K V R)) : Type 0 where
@@ -87,6 +95,19 @@ module _ {U K V R : Type 0} (eq : K → K → Bool) (m : Meaning K V) (v born : 
   abbrev pub IsSurvey : K → List K → Survey U K V R → Type 0
   IsSurvey k ks (survey.Cycle path) = IsPathOf eq ps m k ks (arc_value path)
   IsSurvey k ks (survey.Parts xs) = AreParts k ks xs.items × AreLastFirst ks (map key_in xs.items)
+
+module _ {U K V R : Type 0} where
+  -- a task is made that has ended with this value
+  abbrev pub MakesValue : Making U K V R → V → Type 0
+  MakesValue Join x = ⊥
+  MakesValue (Match event base task) x = value_in task.standing ≡ Some x
+  MakesValue (Run event cause ready task) x = ⊥
+  MakesValue (Check ready task) x = ⊥
+
+  -- there is a part, and it makes a task that has ended with this value
+  abbrev pub IsMatchedBy : Option (Part U K V R) → V → Type 0
+  IsMatchedBy None x = ⊥
+  IsMatchedBy (Some p) x = MakesValue p.making x
 
 module _ {U K V R : Type 0} (eq : K → K → Bool) (xs : List (Part U K V R)) (ps : List (K × Share K (Held K V))) where
   -- there is room in the table to make these and to wait for those that are waited for

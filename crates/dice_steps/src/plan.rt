@@ -2,7 +2,7 @@
 ghost use Rattle.std.specs.Prelude.{◌≡◌, ◌≢◌, ◌<◌, ◌≤◌, ◌⊎◌, ◌&&◌, ◌||◌, ◌++◌, ◌∷◌, [], ℕ, true, false, Some, length, map, MatchBool, IfOk, IfSome, IfNone, OnOk};
 ghost use Rattle.std.specs.Arc.{arc_value};
 ghost use Rattle.std.specs.List.{list_any, AllZip};
-ghost use Rattle.std.specs.Option.{option_map};
+ghost use Rattle.std.specs.Option.{option_copied, option_map};
 ghost use Rattle.dice_key.specs.declared.universe.Kind.TheVariants.{Injected};
 ghost use Rattle.task_share.specs.Asked.{Leads};
 ghost use Rattle.task_share.specs.Seen.{task_at, asked_of, has_place, asker_room, wait_room, KeepsTasks, KeepsAsks, KeepsRoom};
@@ -15,7 +15,7 @@ ghost use Rattle.dice_steps.specs.AtHand.{AtHand};
 ghost use Rattle.dice_tasks.specs.CyclePaths.{path_with};
 ghost use Rattle.dice_tasks.specs.Helds.{held_of};
 ghost use Rattle.dice_tasks.specs.Hands.{KeepsHands, KeepsDeskRoom, tasks_of};
-ghost use Rattle.dice_steps.specs.Plans.{key_in, waits_of, is_awaited, IsAtHand, HasNone, IsMet, IsSurvey, ArePlaced, IsPlan, IfEnds};
+ghost use Rattle.dice_steps.specs.Plans.{key_in, waits_of, is_awaited, AreMakings, IsPartFor, IsMatchedBy, IsAtHand, HasNone, IsMet, IsSurvey, ArePlaced, IsPlan, IfEnds};
 ghost use Rattle.dice_tasks.specs.Makings.{IsFree};
 ghost use Rattle.dice_steps.specs.Taken.{HasNoPath, IsPathAt, MayWaitFor};
 ghost use Rattle.lists.specs.Lists.{Has};
@@ -123,7 +123,7 @@ pub(crate) fn plan_batch<U: Universe>(
     if !waits.is_empty() {
         return Ok(Plan::Waits(parts, waits));
     }
-    let Some(answers) = answers_of::<U>(shared, tasks, version, batch)? else {
+    let Some(answers) = answers_of::<U>(shared, tasks, version, batch, &parts)? else {
         return Ok(Plan::Waits(parts, waits));
     };
     let agreed = holds_at_both::<U>(shared, version, assignment, batch);
@@ -437,13 +437,17 @@ fn reserve_part<U: Universe>(
     tasks.reserve_asker(&part.key)
 }
 
-/// The answers to a batch, if each of its keys has a value at hand.
+/// The answers to a batch, if each of its keys has a value at hand. These are its parts, the last
+/// first.
 fn answers_of<U: Universe>(
     shared: &Shared<U>,
     tasks: &Tasks<U>,
     version: u64,
     batch: &Batch<U::Key>,
+    parts: &[Part<U>],
 ) -> Result<Option<Answers<U::Value>>, NoMemory>
+    requires { (born : ℕ)
+        × AreMakings U.Key.eq U.meaning version born tasks.now shared.now.graph parts.now }
     ensures some { IfOk result (λ o. IfSome o (AllZip (IsAtHand U.Key.eq U.meaning version tasks.now
         shared.now.graph shared.now.cells) batch.now)) }
     ensures none { IfOk result (λ o. IfNone o ((q : U.Key) × Has batch.now q
@@ -451,9 +455,14 @@ fn answers_of<U: Universe>(
 {
     laws_of::<U>();
     let mut answers = Answers::new(shared.alloc);
+    let mut left = parts.len();
     let keys = batch.keys();
     for key in keys {
-        let Some(value) = value_at_hand::<U>(shared, tasks, version, key) else {
+        let part = part_of::<U>(parts, left, key);
+        if part.is_some() {
+            left -= 1;
+        }
+        let Some(value) = value_at_hand::<U>(shared, tasks, version, key, part) else {
             return Ok(None);
         };
         answers.push(Arc::try_clone(value)?)?;
@@ -461,24 +470,66 @@ fn answers_of<U: Universe>(
     Ok(Some(answers))
 }
 
-/// The value of a key at a version, if it is at hand.
+/// The last of the first parts, so many, if it is that of a key.
+fn part_of<'a, U: Universe>(
+    parts: &'a [Part<U>],
+    left: usize,
+    key: &KeyRef<U>,
+) -> Option<&'a Part<U>>
+    ensures some { IfSome (option_copied result)
+        (λ p. Has parts.now p × (key_in p ≡ arc_value key.now)) }
+    ensures left { IfSome result (λ p. 0 < left) }
+{
+    laws_of::<U>();
+    if left == 0 {
+        return None;
+    }
+    match parts.get(left - 1) {
+        Some(part) if is_for::<U>(part, key) => Some(part),
+        _ => None,
+    }
+}
+
+/// The value of a key at a version, if it is at hand. If its part is given, and makes a task that
+/// has ended with a value, it is that.
 fn value_at_hand<'a, U: Universe>(
     shared: &'a Shared<U>,
     tasks: &'a Tasks<U>,
     version: u64,
     key: &KeyRef<U>,
+    part: Option<&'a Part<U>>,
 ) -> Option<&'a ValueRef<U>>
+    requires { IfSome (option_copied part) (λ p. (born : ℕ) × IsPartFor U.Key.eq U.meaning version
+        born tasks.now shared.now.graph (arc_value key.now) p) }
     ensures some { IfSome result (λ x. IsAtHand U.Key.eq U.meaning version tasks.now
         shared.now.graph shared.now.cells (arc_value key.now) (arc_value x.now)) }
     ensures none { IfNone result (HasNone U.Key.eq U.meaning version tasks.now shared.now.graph
         (arc_value key.now)) }
 {
+    if let Some(value) = matched_value::<U>(part) {
+        return Some(value);
+    }
     match shared.universe.kind(key) {
         Kind::Injected => Some(shared.cells.at(version, key)),
         _ => match ended_value::<U>(tasks, key) {
             Some(value) => Some(value),
             None => kept_value::<U>(&shared.graph, key, version),
         },
+    }
+}
+
+/// The value with which the task has ended that a part makes, if it makes such a task.
+fn matched_value<'a, U: Universe>(part: Option<&'a Part<U>>) -> Option<&'a ValueRef<U>>
+    ensures { IfSome result (λ x. IsMatchedBy (option_copied part.entry) (arc_value x.now)) }
+{
+    match part {
+        Some(
+            Part {
+                making: Making::Match { task, .. },
+                ..
+            },
+        ) => task.value(),
+        _ => None,
     }
 }
 

@@ -1,15 +1,27 @@
-use Rattle.std.proofs.Common.{◌≡◌, ◌<◌, ◌≤◌, ◌∙◌, length, ap, subst, arith}
+use Rattle.std.proofs.Common.{◌≡◌, ◌<◌, ◌≤◌, ◌∙◌, length, ap, sym, subst, arith}
 use Rattle.std.specs.Arc.{arc_value}
 use Rattle.std.specs.List.{AllZip}
 use Rattle.dice_jobs.specs.Jobs.{Name}
 use Rattle.task_share.specs.Seen.{wait_room}
-use Rattle.dice_steps.specs.Plans.{waits_of, ArePlaced, IsAtHand, HasNone}
+use Rattle.dice_steps.specs.Plans.{waits_of, AreMakings, ArePlaced, IsAtHand, HasNone}
 use Rattle.dice_steps.specs.Agreements.{HoldsAtBoth}
 use Rattle.dice_steps.proofs.AgreedLemmas.{at_hand_agrees}
 use Rattle.dice_steps.proofs.NotedLemmas.{not_empty}
+use Rattle.dice_steps.proofs.PartLemmas.{parts_same}
 use Rattle.dice_steps.proofs.PlanLemmas.{none_there, parts_as, goes_so, waits_some, waits_none}
 use Rattle.dice_steps.proofs.plan.plan_batch.Goals as goal
 use Rattle.lists.proofs.Each.{zip_length}
+
+pub answers_of-requires-after_bounds : goal.answers_of-requires-after_bounds
+answers_of-requires-after_bounds g c κs within =
+    let eq = g.U.Key.PartialEq.eq in
+    let m = g.U.Universe.meaning in
+    let xs = c.in-Parts.parts.items in
+    let v = c.version-version.result in
+    let born = c.told_so_far-born.result in
+    let found = rw c.in-Parts.is at c.in_ok-path.ensures in
+    let parts = parts_same eq c.args.tasks.now c.reserve_parts.new.tasks c.reserve_parts.ensures.tasks m v born c.args.shared.now.graph c.reserve_parts.ensures.asks (arc_value c.key-own.result.now) c.args.batch.now xs found.0 in
+    (born, subst (AreMakings eq m v born c.reserve_parts.new.tasks c.args.shared.now.graph) (sym c.deref-2.ensures.value) parts.each)
 
 pub of_batch-requires-clause-count : goal.of_batch-requires-clause-count
 of_batch-requires-clause-count g c κs within =
