@@ -43,12 +43,12 @@ module _ {K V : Type 0} where
 
 module _ {K V : Type 0} (eq : K → K → Bool) (equality : IsEquality eq) where
   -- the task was written as ready after its ask was taken away
-  pub wakes_so : (k : K) (y : Wakes K V) (h : Held K V) (ps rs qs : List (K × Share K (Held K V))) (d e : DeskSeen K V) → KeepsTasks eq ps rs → (b : By K) → b ≡ Tasked y.place.1 → ((q : K) (a : By K) → asks eq rs q a ≡ (asks eq ps q a && not (eq k q && is_by eq b a)))
+  pub wakes_so : (k : K) (y : Wakes K V) (h : Held K V) (ps rs qs : List (K × Share K (Held K V))) (d e : DeskSeen K V) → KeepsTasks eq ps rs → ((q : K) (a : By K) → asks eq rs q a ≡ (asks eq ps q a && not (eq k q && is_by eq (Tasked y.place.1) a)))
       → IsTurned eq y.place.1 h (held_of y.ahead.job IsReady) rs qs → Readies y.place d e → WakesOne eq k y ps qs d e
-  wakes_so k y h ps rs qs d e kept b own left turned readies = record {
+  wakes_so k y h ps rs qs d e kept left turned readies = record {
     tasks = λ q. turned.tasks q ∙ ap (λ (z : Option (Held K V)). cond (eq y.place.1 q) (Some (held_of y.ahead.job IsReady)) z) (kept.tasks q);
     live = λ q. turned.live q ∙ kept.live q;
-    asks = λ q a. turned.asks q a ∙ (left q a ∙ ap (λ (x : By K). asks eq ps q a && not (eq k q && is_by eq x a)) own);
+    asks = λ q a. turned.asks q a ∙ left q a;
     desk = readies;
   }
 

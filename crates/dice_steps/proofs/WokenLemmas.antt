@@ -1,7 +1,7 @@
 -- Who waits for one key alone, and that they may be woken when its task has ended with a value.
-use Rattle.std.proofs.Common.{◌≡◌, ◌<◌, ◌≤◌, ◌+◌, ◌⊎◌, inl, inr, ℕ, suc, Bool, true, false, cond, not, ◌&&◌, ◌||◌, List, [], ◌∷◌, ◌++◌, length, map, take, drop, get_or, Option, Some, None, refl, sym, ap, ◌∙◌, subst, drop-cons}
-use Rattle.std.proofs.lemmas.Option.{same_Some, none-some}
-use Rattle.std.proofs.lemmas.List.{take-append-drop, map-append, take_more, take_all}
+use Rattle.std.proofs.Common.{◌≡◌, ◌<◌, ◌≤◌, ◌+◌, ◌⊎◌, inl, inr, ℕ, suc, Bool, true, false, cond, not, ◌&&◌, ◌||◌, List, [], ◌∷◌, ◌++◌, length, map, take, drop, get_or, slice_get, Option, Some, None, refl, sym, ap, ◌∙◌, subst, drop-cons}
+use Rattle.std.proofs.lemmas.Option.{same_Some, none-some, slice_get-map, slice_get-get_or}
+use Rattle.std.proofs.lemmas.List.{take-append-drop, map-append, length-map, take_more, take_all}
 use Rattle.std.specs.List.{list_any, AllByRecursion, AllZip}
 use Rattle.std.specs.Option.{option_map}
 use Rattle.dice_key.specs.Lawful.{IsEquality}
@@ -49,6 +49,18 @@ module _ {X Y : Type 0} (f : X → Y) (xs : List X) (i : ℕ) (x : X) (within : 
   -- it is none of the first
   pub is_new : AreDistinct (map f xs) → Has (map f (take i xs)) (f x) → ⊥
   is_new d h = apart (map f (take i xs)) (f x ∷ map f (drop (suc i) xs)) (f x) (subst AreDistinct split d) h (inl refl)
+
+-- two lists side by side, of numbers and of what they are the numbers of: as many, and one of each
+module _ {N A K : Type 0} (f : N → Option K) (g : A → K) (ns : List N) (ks : List A) (named : map f ns ≡ map Some (map g ks)) where
+  pub as_many : length ns ≡ length ks
+  as_many = sym (length-map ns f) ∙ (ap length named ∙ (length-map (map g ks) Some ∙ length-map ks g))
+
+  pub named_at : (i : ℕ) (n : N) (k : A) → i < length ns → i < length ks → n ≡ get_or ns i n → k ≡ get_or ks i k → f n ≡ Some (g k)
+  named_at i n k within among is there =
+      let a : slice_get (map f ns) i ≡ Some (f n) = slice_get-map f ns i ∙ ap (option_map f) (slice_get-get_or ns i n within ∙ ap Some (sym is)) in
+      let b : slice_get (map g ks) i ≡ Some (g k) = slice_get-map g ks i ∙ ap (option_map g) (slice_get-get_or ks i k among ∙ ap Some (sym there)) in
+      let c : slice_get (map Some (map g ks)) i ≡ Some (Some (g k)) = slice_get-map Some (map g ks) i ∙ ap (option_map Some) b in
+      same_Some (f n) (Some (g k)) (sym a ∙ (ap (λ os. slice_get os i) named ∙ c))
 
 -- one answer more
 pub zip_next : {A B X : Type 0} (R : A → B → Type 0) (f : X → A) (xs : List X) (i : ℕ) (x : X) (ys zs : List B) (y : B) → i < length xs → x ≡ get_or xs i x → AllZip R (map f (take i xs)) ys → R (f x) y → zs ≡ ys ++ y ∷ [] → AllZip R (map f (take (i + 1) xs)) zs

@@ -2,6 +2,7 @@
 ghost use Rattle.std.specs.Prelude.{◌≡◌, ◌<◌, ◌≤◌, ◌∷◌, ℕ, List, length, reverse, false, Some, IfOk};
 ghost use Rattle.std.specs.Arc.{arc_value};
 ghost use Rattle.task_share.specs.Asked.{Tasked};
+ghost use Rattle.task_share.specs.Numbers.{key_at, KeepsNumbers};
 ghost use Rattle.task_share.specs.Seen.{task_at, asks};
 ghost use Rattle.core_laws.specs.Tasks.{IsReady};
 ghost use Rattle.core_laws.specs.Desk.{World};
@@ -17,30 +18,22 @@ use dice_tasks::{Desk, Next, ReadyTask, Tasks};
 use std::marker::Model;
 use std::mem;
 use std::sync::Arc;
-use task_share::Asker;
 
 /// A task that goes on, since the last key that it waited for has a value: its key, and what it
 /// goes on with, made ahead.
 #[derive(Drop)]
 pub(crate) struct Woken<U: Universe> {
-    asker: Asker<U::Key>,
     ready: ReadyTask<U::Key>,
     next: Next<U>,
 }
 
 impl<U: Universe> Model for Woken<U> {
-    ghost use Rattle.std.specs.Prelude.{◌≡◌};
-    ghost use Rattle.std.specs.Arc.{arc_value};
-    ghost use Rattle.task_share.specs.Asked.{Tasked};
-    ghost use Rattle.task_share.specs.Askers.{by_of};
     ghost use Rattle.dice_tasks.specs.Shelves.{place_of};
     ghost use Rattle.dice_tasks.specs.Waitings.{Wakes};
 
     ghost Value = { Wakes U.Key U.Value };
 
     ghost view = { λ w. record { place = place_of w.ready; ahead = w.next } };
-
-    ghost invariant = { λ w. by_of w.asker ≡ Tasked (arc_value w.ready.key) };
 }
 
 impl<U: Universe> Woken<U> {
@@ -49,10 +42,9 @@ impl<U: Universe> Woken<U> {
         ensures { IfOk result
             (λ w. w ≡ record { place = (version, arc_value key.now); ahead = next }) }
     {
-        let asker = Asker::Task(Arc::try_clone(key)?);
         let key = Arc::try_clone(key)?;
         let ready = ReadyTask { version, key };
-        Ok(Woken { asker, ready, next })
+        Ok(Woken { ready, next })
     }
 }
 
@@ -82,41 +74,52 @@ pub(crate) fn wake<U: Universe>(
         tasks.old → Working U.Key.eq U.meaning v W w owed tasks.new desk.new }
 {
     laws_of::<U>();
+    let Some(number) = tasks.number(key) else {
+        unreachable!();
+    };
     let mut rest = woken;
     'ready: while let Some(woken) = rest.pop() {
-        wake_one::<U>(desk, tasks, key, woken);
+        wake_one::<U>(desk, tasks, number, woken);
     }
-    'others: while let Some(asker) = tasks.take_asker(key) {
+    'others: while let Some(asker) = tasks.take_asker_numbered(number) {
         mem::drop(asker);
     }
 }
 
-/// Wakes one task that waited for a key. It takes no memory.
-fn wake_one<U: Universe>(desk: &mut Desk<U>, tasks: &mut Tasks<U>, key: &KeyRef<U>, woken: Woken<U>)
+/// Wakes one task that waited for a key, which is given by its number in the table. It takes no
+/// memory.
+fn wake_one<U: Universe>(desk: &mut Desk<U>, tasks: &mut Tasks<U>, asked: usize, woken: Woken<U>)
+    requires asked { (k : U.Key) × (key_at tasks.old asked ≡ Some k) }
     requires waits { (h : Held U.Key U.Value) × (task_at U.Key.eq tasks.old woken.place.1 ≡ Some h)
         × FollowsOn h woken.ahead }
     requires ready { Has desk.old.ready woken.place → ⊥ }
     requires out { Has desk.old.out woken.place → ⊥ }
     requires room { 0 < desk.old.ready_room }
-    ensures { WakesOne U.Key.eq (arc_value key.now) woken tasks.old tasks.new desk.old desk.new }
+    ensures woken { (k : U.Key) → key_at tasks.old asked ≡ Some k
+        → WakesOne U.Key.eq k woken tasks.old tasks.new desk.old desk.new }
+    ensures numbers { KeepsNumbers tasks.old tasks.new }
 {
     laws_of::<U>();
-    let Woken { asker, ready, next } = woken;
-    tasks.leave(key, &asker);
-    resume::<U>(tasks, &ready.key, next);
+    let Woken { ready, next } = woken;
+    let Some(number) = tasks.number(&ready.key) else {
+        unreachable!();
+    };
+    tasks.leave_numbered(asked, number);
+    resume::<U>(tasks, number, next);
     desk.readied(ready);
 }
 
-/// The task of a key goes on. It takes no memory.
-fn resume<U: Universe>(tasks: &mut Tasks<U>, key: &KeyRef<U>, next: Next<U>)
-    requires { (h : Held U.Key U.Value) × (task_at U.Key.eq tasks.old (arc_value key.now) ≡ Some h)
-        × FollowsOn h next }
-    ensures { (h : Held U.Key U.Value)
-        × IsTurned U.Key.eq (arc_value key.now) h (held_of next.job IsReady) tasks.old tasks.new }
+/// The task of the key of a number goes on. It takes no memory.
+fn resume<U: Universe>(tasks: &mut Tasks<U>, number: usize, next: Next<U>)
+    requires { (k : U.Key) × (h : Held U.Key U.Value) × (key_at tasks.old number ≡ Some k)
+        × (task_at U.Key.eq tasks.old k ≡ Some h) × FollowsOn h next }
+    ensures turned { (k : U.Key) → key_at tasks.old number ≡ Some k → (h : Held U.Key U.Value)
+        × IsTurned U.Key.eq k h (held_of next.job IsReady) tasks.old tasks.new }
+    ensures numbers { KeepsNumbers tasks.old tasks.new }
 {
     laws_of::<U>();
-    let Some(task) = tasks.task_mut(key) else {
-        return;
+    let Some(task) = tasks.task_mut_numbered(number) else {
+        unreachable!();
     };
     task.resume(next);
 }

@@ -1,7 +1,8 @@
 //! The tasks that wait for one key alone, and what they go on with.
-ghost use Rattle.std.specs.Prelude.{◌≡◌, List, true, false, IfOk, IfSome, IsSome};
+ghost use Rattle.std.specs.Prelude.{◌≡◌, List, true, false, Some, IfOk, IfSome, IsSome};
 ghost use Rattle.std.specs.Arc.{arc_value};
 ghost use Rattle.std.specs.Option.{option_copied};
+ghost use Rattle.task_share.specs.Numbers.{key_at};
 ghost use Rattle.versioned_graph.specs.Entries.{Stored, kept_of};
 ghost use Rattle.dice_steps.specs.Agreements.{IsEntryOf, AgreesIfKept, AllAgreeIfKept};
 ghost use Rattle.dice_steps.specs.Wokens.{AsksAlone, AsksMore, HasAnswer, IsAnswer, WaitsAlone, HasAnswers, IsAnswered, AreWoken};
@@ -12,7 +13,7 @@ use crate::wake::Woken;
 use dice_key::{Answers, KeyRef, Kind, NoMemory, Universe, ValueRef, laws_of};
 use dice_tasks::{Next, Tasks};
 use std::sync::Arc;
-use task_share::table_in_order;
+use task_share::{Askers, table_in_order};
 use versioned_graph::{Entry, Graph};
 
 /// A key whose task ends, its value, and what the graph keeps of it with that value, if more than
@@ -44,13 +45,17 @@ pub(crate) fn woken_by<U: Universe>(
         key.now) (arc_value value.now) tasks.now ws.items) }
 {
     laws_of::<U>();
-    let askers = tasks.askers(key).tasks;
+    let Askers {
+        tasks: askers,
+        numbers,
+        ..
+    } = tasks.askers(key);
     let kept = entry_of::<U>(&shared.graph, key, value, askers.len());
     let ended = Ended { key, value, kept };
     let mut woken = Vec::new(shared.alloc);
-    for asker in askers {
-        if asks_alone::<U>(tasks, asker, key) {
-            let next = next_of::<U>(shared, tasks, version, &ended, asker)?;
+    for (asker, number) in askers.iter().zip(numbers) {
+        if asks_alone::<U>(tasks, *number, key) {
+            let next = next_of::<U>(shared, tasks, version, &ended, *number)?;
             let one = Woken::new(version, asker, next)?;
             woken.push(one)?;
         }
@@ -58,16 +63,17 @@ pub(crate) fn woken_by<U: Universe>(
     Ok(woken)
 }
 
-/// Whether a task that asks for a key asks for no other. It looks at two keys at most.
-fn asks_alone<U: Universe>(tasks: &Tasks<U>, asker: &KeyRef<U>, key: &KeyRef<U>) -> bool
-    ensures alone { result ≡ true
-        → AsksAlone U.Key.eq (arc_value key.now) tasks.now (arc_value asker.now) }
-    ensures more { result ≡ false
-        → AsksMore U.Key.eq (arc_value key.now) tasks.now (arc_value asker.now) }
+/// Whether a task that asks for a key, and is given by number, asks for no other. It looks at two
+/// keys at most.
+fn asks_alone<U: Universe>(tasks: &Tasks<U>, asker: usize, key: &KeyRef<U>) -> bool
+    ensures alone { (j : U.Key) → key_at tasks.now asker ≡ Some j → result ≡ true
+        → AsksAlone U.Key.eq (arc_value key.now) tasks.now j }
+    ensures more { (j : U.Key) → key_at tasks.now asker ≡ Some j → result ≡ false
+        → AsksMore U.Key.eq (arc_value key.now) tasks.now j }
 {
     laws_of::<U>();
     table_in_order(tasks);
-    let waits = tasks.waits(asker);
+    let waits = tasks.waits_numbered(asker);
     for asked in waits {
         if **asked != **key {
             return false;
@@ -76,25 +82,27 @@ fn asks_alone<U: Universe>(tasks: &Tasks<U>, asker: &KeyRef<U>, key: &KeyRef<U>)
     true
 }
 
-/// What a task that waits for a key alone goes on with when the key's task ends with this value.
+/// What a task that waits for a key alone, and is given by number, goes on with when the key's task
+/// ends with this value.
 fn next_of<U: Universe>(
     shared: &Shared<U>,
     tasks: &Tasks<U>,
     version: u64,
     ended: &Ended<'_, U>,
-    asker: &KeyRef<U>,
+    asker: usize,
 ) -> Result<Next<U>, NoMemory>
-    requires waits { WaitsAlone U.Key.eq U.meaning (arc_value ended.now.key.now) tasks.now
-        (arc_value asker.now) }
-    requires agrees { (es : List (U.Key × Stored U.Key U.Value))
+    requires { (j : U.Key) × (key_at tasks.now asker ≡ Some j)
+        × WaitsAlone U.Key.eq U.meaning (arc_value ended.now.key.now) tasks.now j
+        × (es : List (U.Key × Stored U.Key U.Value))
         × IfSome (option_copied ended.now.kept) (λ e. IsEntryOf U.Key.eq es (arc_value
         ended.now.key.now) (arc_value ended.now.value.now) (kept_of e))
         × AgreesIfKept U.Key.eq U.meaning shared.now.cells version (arc_value ended.now.key.now)
-        (arc_value ended.now.value.now) tasks.now es (arc_value asker.now) }
-    ensures { IfOk result (IsAnswered U.Key.eq U.meaning shared.now.cells version (arc_value
-        ended.now.key.now) (arc_value ended.now.value.now) tasks.now (arc_value asker.now)) }
+        (arc_value ended.now.value.now) tasks.now es j }
+    ensures { (j : U.Key) → key_at tasks.now asker ≡ Some j
+        → IfOk result (IsAnswered U.Key.eq U.meaning shared.now.cells version (arc_value
+        ended.now.key.now) (arc_value ended.now.value.now) tasks.now j) }
 {
-    let Some(task) = tasks.task(asker) else {
+    let Some(task) = tasks.task_numbered(asker) else {
         unreachable!();
     };
     let Some(batch) = task.batch() else {
@@ -148,7 +156,8 @@ fn answer_of<'a, U: Universe>(
     asked: &KeyRef<U>,
 ) -> Option<&'a ValueRef<U>>
     ensures answer { IfSome result (λ x. IsAnswer U.Key.eq U.meaning shared.now.cells version
-        (arc_value key.now) (arc_value value.now) tasks.now (arc_value asked.now) (arc_value x.now)) }
+        (arc_value key.now) (arc_value value.now) tasks.now (arc_value asked.now)
+        (arc_value x.now)) }
     ensures some { HasAnswer U.Key.eq U.meaning (arc_value key.now) tasks.now (arc_value asked.now)
         → IsSome result }
 {

@@ -29,7 +29,7 @@ use Rattle.dice_tasks.specs.Hands.{DeskSeen, desk_of, Stays, Readies, Working, A
 use Rattle.versioned_graph.specs.Entries.{Stored}
 use Rattle.dice_tasks.specs.Entries.{EntriesStand, IsMatched}
 use Rattle.dice_tasks.proofs.EntriesLemmas.{stand_start}
-use Rattle.dice_tasks.specs.Makings.{IsFree, HasMakeRoom, MayMake, Makes, MakesEnded, held_run, held_check}
+use Rattle.dice_tasks.specs.Makings.{IsFree, MayMake, Makes, MakesEnded, held_run, held_check}
 use Rattle.lists.specs.Lists.{Has}
 
 -- the same things pass the test, in another order
@@ -213,18 +213,6 @@ module _ {K V : Type 0} (eq : K → K → Bool) (equality : IsEquality eq) (m : 
 -- ---- what a make does, by the calls that it makes
 
 module _ {K V : Type 0} (eq : K → K → Bool) (v : ℕ) (k : K) where
-  -- a task that is made ready finds its place free, if the desk z has the same tasks at hand as before
-  pub ready_fits : (ps : List (K × Share K (Held K V))) (d z q : DeskSeen K V) (p : ℕ × K) → HasMakeRoom eq v k ps d → z.ready ≡ d.ready → z.out ≡ d.out → z.ready_room ≡ d.ready_room → q ≡ z → p ≡ (v, k)
-      → (Has q.ready p → ⊥) × (Has q.out p → ⊥) × (0 < q.ready_room)
-  ready_fits ps d z q p h r o n e i =
-      let a : q.ready ≡ d.ready = ap (λ (x : DeskSeen K V). x.ready) e ∙ r in
-      let b : q.out ≡ d.out = ap (λ (x : DeskSeen K V). x.out) e ∙ o in
-      let c : q.ready_room ≡ d.ready_room = ap (λ (x : DeskSeen K V). x.ready_room) e ∙ n in (
-        λ f. h.unready (subst (λ x. Has d.ready x) i (subst (λ xs. Has xs p) a f)),
-        λ f. h.home (subst (λ x. Has d.out x) i (subst (λ xs. Has xs p) b f)),
-        subst (λ x. 0 < x) (sym c) h.ready_room,
-      )
-
   -- a Start, or nothing, was told, and the task was made and is ready
   pub readies_of : (z q e : DeskSeen K V) (p : ℕ × K) → q ≡ z → p ≡ (v, k) → Readies p q e → Readies (v, k) z e
   readies_of z q e p i j r = subst (λ x. Readies (v, k) x e) i (subst (λ x. Readies x q e) j r)

@@ -117,10 +117,11 @@ fn end_task<U: Universe>(
     ensures some { IfNone result ⊥ }
 {
     laws_of::<U>();
-    let task = tasks.task_mut(key)?;
+    let number = tasks.number(key)?;
+    let task = tasks.task_mut_numbered(number)?;
     quit(desk, task, version, key);
     let spare = task.end(outcome);
-    tasks.ended(key);
+    tasks.ended_numbered(number);
     desk.ended();
     spare
 }

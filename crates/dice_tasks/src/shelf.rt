@@ -24,7 +24,8 @@ pub struct ReadyTask<K> {
 }
 
 impl<K: Eq + Hash> Equivalent<ReadyTask<K>> for (u64, &Arc<K>) {
-    ghost equivalent = { λ q x. nat_eq q.0 x.version && K.eq (arc_value q.1.now) (arc_value x.key) };
+    ghost equivalent = { λ q x. nat_eq q.0 x.version
+        && K.eq (arc_value q.1.now) (arc_value x.key) };
 
     ghost respects_hash = { λ q x h i. fed.u64 ((unsigned_Decides q.0 x.version).0
         (first_so (nat_eq q.0 x.version) (K.eq (arc_value q.1.now) (arc_value x.key)) h) i)

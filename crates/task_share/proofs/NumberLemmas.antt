@@ -5,7 +5,7 @@ use Rattle.std.specs.Map.{lookup, set_value, keys_of, values_of}
 use Rattle.std.specs.List.{list_any, sum_by, position, position_or_len, IsDistinct, AllByRecursion}
 use Rattle.std.proofs.lemmas.List.Sums.{position_or_len_is}
 use Rattle.dice_key.proofs.KeySets.{has_any}
-use Rattle.task_share.specs.Numbers.{key_at, number_of, waits_by}
+use Rattle.task_share.specs.Numbers.{key_at, number_of, waits_by, KeepsNumbers}
 use Rattle.task_share.proofs.TableLemmas.{distinct_values}
 use Rattle.std.specs.Option.{option_map}
 use Rattle.std.specs.declared.sync.Arc.{Arc}
@@ -406,3 +406,16 @@ empty_whole eq ps cs room e f = record {
   };
   mirrored = λ d k. ap (λ xs. is_for (λ p. has_by eq p (Tasked k)) (lookup (eq d) xs)) e ∙ sym (ap (λ xs. list_any (eq d) (list_for (λ p. p.waits) (lookup (eq k) xs))) e);
 }
+
+-- the key of a number, for a table that is seen as ps
+pub number_names : {K A T : Type 0} (es : List (Arc K A × Place K T)) (ps : List (K × Share K T)) (n : ℕ) (k : K) → shares_of es ≡ ps → key_at ps n ≡ Some k → slice_get (names_of es) n ≡ Some k
+number_names es ps n k view e = sym (key_found es n) ∙ (ap (λ qs. key_at qs n) view ∙ e)
+
+pub numbers_kept : {K A T : Type 0} (es fs : List (Arc K A × Place K T)) → names_of fs ≡ names_of es → KeepsNumbers (shares_of es) (shares_of fs)
+numbers_kept es fs same n = key_found fs n ∙ (ap (λ ns. slice_get ns n) same ∙ sym (key_found es n))
+
+-- what stands at a number is written there
+pub set_at_same : {K X : Type 0} (es : List (K × X)) (n : ℕ) (e : K × X) → slice_get es n ≡ Some e → set_value_at es n e.1 ≡ es
+set_at_same [] n e g = refl
+set_at_same (f ∷ es) zero e g = ap (λ x. (f.0, x.1) ∷ es) (sym (same_Some f e g))
+set_at_same (f ∷ es) (suc n) e g = ap (λ xs. f ∷ xs) (set_at_same es n e g)

@@ -1,5 +1,5 @@
 -- Keys by number: the number of a key is where its place stands in the list.
-use Rattle.std.specs.Prelude.{ℕ, Bool, List, [], ◌∷◌, map, Option, Some, None, slice_get}
+use Rattle.std.specs.Prelude.{◌≡◌, ℕ, Bool, List, [], ◌∷◌, map, Option, Some, None, slice_get}
 use Rattle.std.specs.List.{position_or_len}
 pub use Rattle.std.specs.Map.{keys_of}
 use Rattle.task_share.specs.Seen.{Share, list_for}
@@ -7,6 +7,10 @@ use Rattle.task_share.specs.Seen.{Share, list_for}
 -- the key of a number
 abbrev pub key_at : {K T : Type 0} → List (K × Share K T) → ℕ → Option K
 key_at ps n = slice_get (keys_of ps) n
+
+-- each number has the key that it had
+abbrev pub KeepsNumbers : {K T : Type 0} → List (K × Share K T) → List (K × Share K T) → Type 0
+KeepsNumbers ps qs = (n : ℕ) → key_at qs n ≡ key_at ps n
 
 -- the number of a key: where its place stands, or how many places there are, if it has none
 abbrev pub number_of : {K T : Type 0} → (K → K → Bool) → List (K × Share K T) → K → ℕ

@@ -9,9 +9,9 @@ ghost use Rattle.dice_key.specs.Lawful.{IsEquality};
 ghost use Rattle.task_share.specs.Above.{askers_by};
 ghost use Rattle.task_share.specs.Asked.{By, Promised, Tasked, is_by, IsDone, Takes};
 ghost use Rattle.task_share.specs.Askers.{by_of};
-ghost use Rattle.task_share.specs.Lent.{LendsTask};
+ghost use Rattle.task_share.specs.Lent.{LendsTask, LendsNumbered};
 ghost use Rattle.task_share.specs.Seen.{task_at, is_live, asks, waits_at, asked_of, ask_count, live_count, IsMirrored, has_place, promise_room, asker_room, wait_room, KeepsTasks, KeepsAsks, KeepsRoom, KeepsOtherRoom, UsesRoomOf};
-ghost use Rattle.task_share.specs.Numbers.{key_at, number_of, keys_of};
+ghost use Rattle.task_share.specs.Numbers.{key_at, number_of, keys_of, KeepsNumbers};
 ghost use Rattle.lists.specs.Lists.{AreDistinct};
 
 use crate::asker::{Asker, Askers, Wait};
@@ -326,14 +326,31 @@ impl<K: Eq + Hash + Drop, T: Drop> Table<K, T> {
             && not (K.eq (arc_value key.now) q && is_by K.eq (Tasked (arc_value asker.now)) a)) }
         ensures room { KeepsRoom K.eq self.old self.new }
     {
-        let Some(at) = self.places.get_index_of(key) else {
+        table_in_order(self);
+        let Some(number) = self.number(key) else {
             return;
         };
-        let Some(from) = self.places.get_index_of(asker) else {
+        let Some(from) = self.number(asker) else {
             return;
         };
-        leave_task(&mut self.places, &mut self.candidates, at, from);
-        drop_wait(&mut self.places, from, at);
+        self.leave_numbered(number, from);
+    }
+
+    /// Takes an asking task away from a key, both by number. All keys keep their numbers. It takes
+    /// no memory.
+    pub fn leave_numbered(&mut self, number: usize, asker: usize)
+        requires key { (k : K) × (key_at self.old number ≡ Some k) }
+        requires asker { (j : K) × (key_at self.old asker ≡ Some j) }
+        ensures tasks { KeepsTasks K.eq self.old self.new }
+        ensures asks { (k j : K) → key_at self.old number ≡ Some k → key_at self.old asker ≡ Some j
+            → (q : K) (a : By K)
+            → asks K.eq self.new q a
+            ≡ (asks K.eq self.old q a && not (K.eq k q && is_by K.eq (Tasked j) a)) }
+        ensures room { KeepsRoom K.eq self.old self.new }
+        ensures numbers { KeepsNumbers self.old self.new }
+    {
+        leave_task(&mut self.places, &mut self.candidates, number, asker);
+        drop_wait(&mut self.places, asker, number);
     }
 
     /// Takes one asking task away from a key, and gives its key; `None` exactly if no task asks for
@@ -354,13 +371,35 @@ impl<K: Eq + Hash + Drop, T: Drop> Table<K, T> {
             × KeepsAsks K.eq self.old self.new) }
         ensures room { KeepsRoom K.eq self.old self.new }
     {
-        let Some(at) = self.places.get_index_of(key) else {
+        table_in_order(self);
+        let Some(number) = self.number(key) else {
             return None;
         };
-        let Some((from, asker)) = pop_asker(&mut self.places, &mut self.candidates, at) else {
+        self.take_asker_numbered(number)
+    }
+
+    /// The same of the key of a number. All keys keep their numbers.
+    pub fn take_asker_numbered(&mut self, number: usize) -> Option<Arc<K>>
+        requires { (k : K) × (key_at self.old number ≡ Some k) }
+        ensures tasks { KeepsTasks K.eq self.old self.new }
+        ensures asked { (k : K) → key_at self.old number ≡ Some k → IfSome result
+            (λ j. asks K.eq self.old k (Tasked (arc_value j)) ≡ true) }
+        ensures asks { (k : K) → key_at self.old number ≡ Some k → IfSome result
+            (λ j. (q : K) (a : By K)
+            → asks K.eq self.new q a
+            ≡ (asks K.eq self.old q a
+            && not (K.eq k q && is_by K.eq (Tasked (arc_value j)) a))) }
+        ensures fewer { IfSome result (λ j. ask_count self.new < ask_count self.old) }
+        ensures none { (k : K) → key_at self.old number ≡ Some k → IfNone result
+            (((j : K) → asks K.eq self.old k (Tasked j) ≡ false)
+            × KeepsAsks K.eq self.old self.new) }
+        ensures room { KeepsRoom K.eq self.old self.new }
+        ensures numbers { KeepsNumbers self.old self.new }
+    {
+        let Some((from, asker)) = pop_asker(&mut self.places, &mut self.candidates, number) else {
             return None;
         };
-        drop_wait(&mut self.places, from, at);
+        drop_wait(&mut self.places, from, number);
         Some(asker)
     }
 
@@ -376,11 +415,28 @@ impl<K: Eq + Hash + Drop, T: Drop> Table<K, T> {
         ensures room { KeepsOtherRoom K.eq (arc_value key.now) self.old self.new }
         ensures count { live_count self.new ≤ live_count self.old }
     {
-        let Some(at) = self.places.get_index_of(key) else {
+        table_in_order(self);
+        let Some(number) = self.number(key) else {
             return;
         };
-        let waits = end_task(&mut self.places, self.alloc, at);
-        withdraw(&mut self.places, &mut self.candidates, at, waits);
+        self.ended_numbered(number);
+    }
+
+    /// The same of the task of the key of a number.
+    pub fn ended_numbered(&mut self, number: usize)
+        requires { (k : K) × (key_at self.old number ≡ Some k) }
+        ensures tasks { (q : K) → task_at K.eq self.new q ≡ task_at K.eq self.old q }
+        ensures live { (k : K) → key_at self.old number ≡ Some k → (q : K)
+            → is_live K.eq self.new q ≡ (is_live K.eq self.old q && not (K.eq k q)) }
+        ensures asks { (k : K) → key_at self.old number ≡ Some k → (q : K) (a : By K)
+            → asks K.eq self.new q a
+            ≡ (asks K.eq self.old q a && not (is_by K.eq (Tasked k) a)) }
+        ensures room { (k : K) → key_at self.old number ≡ Some k
+            → KeepsOtherRoom K.eq k self.old self.new }
+        ensures count { live_count self.new ≤ live_count self.old }
+    {
+        let waits = end_task(&mut self.places, self.alloc, number);
+        withdraw(&mut self.places, &mut self.candidates, number, waits);
     }
 
     /// Takes one task out that has not ended and has no asker, and withdraws its own asks; `None`
@@ -435,6 +491,32 @@ impl<K: Eq + Hash + Drop, T: Drop> Table<K, T> {
         place.task.as_mut()
     }
 
+    /// The task of the key of a number, ended or not.
+    pub fn task_numbered(&self, number: usize) -> Option<&T>
+        ensures { (k : K) → key_at self.now number ≡ Some k
+            → option_copied result ≡ task_at K.eq self.now k }
+    {
+        match self.places.get_index(number) {
+            Some((_, place)) => place.task.as_ref(),
+            None => None,
+        }
+    }
+
+    /// The task of the key of a number, ended or not, to be changed. What is written changes this
+    /// task alone, and all keys keep their numbers.
+    pub fn task_mut_numbered(&mut self, number: usize) -> Option<&mut T>
+        ensures* writes_back { sem 𝓛
+            (LendsNumbered K.row T.row K.eq K.hash_input self.entry number result) }
+        ensures value { (k : K) → key_at self.old number ≡ Some k
+            → option_copied_mut result ≡ task_at K.eq self.old k }
+    {
+        let place = self.places.get_index_mut(number)?;
+        if !place.task.is_some() {
+            return None;
+        }
+        place.task.as_mut()
+    }
+
     /// Whether the key has a task that has not ended.
     pub fn is_live(&self, key: &Arc<K>) -> bool
         ensures { result ≡ is_live K.eq self.now (arc_value key.now) }
@@ -472,13 +554,14 @@ impl<K: Eq + Hash + Drop, T: Drop> Table<K, T> {
         }
     }
 
-    /// The keys that the task of the key waits for, in no order. They are those that it asks for
-    /// (`table_in_order`).
-    pub fn waits(&self, key: &Arc<K>) -> &[Arc<K>]
-        ensures { map arc_value result.now ≡ waits_at K.eq self.now (arc_value key.now) }
+    /// The keys that the task of the key of a number waits for, in no order. They are those that it
+    /// asks for (`table_in_order`).
+    pub fn waits_numbered(&self, number: usize) -> &[Arc<K>]
+        ensures { (k : K) → key_at self.now number ≡ Some k
+            → map arc_value result.now ≡ waits_at K.eq self.now k }
     {
-        match self.places.get(key) {
-            Some(place) => place.waits.values(),
+        match self.places.get_index(number) {
+            Some((_, place)) => place.waits.values(),
             None => &[],
         }
     }

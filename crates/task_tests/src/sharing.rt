@@ -66,16 +66,33 @@ impl Tasks {
     /// waits.
     fn end(&mut self) -> bool {
         self.table.ended(&self.one);
-        self.has(10) && !self.table.is_live(&self.one) && self.table.waits(&self.one).is_empty()
+        self.has(10) && !self.table.is_live(&self.one) && self.waits() == 0
     }
 
-    /// Makes a task of key 1 and changes it to another; whether it was made.
+    /// How many keys key 1 waits for.
+    fn waits(&self) -> usize {
+        match self.table.number(&self.one) {
+            Some(number) => self.table.waits_numbered(number).len(),
+            None => 0,
+        }
+    }
+
+    /// Changes the task of key 1, found by its number, and gives it as it is then.
+    fn change(&mut self, other: u64) -> Option<u64> {
+        let number = self.table.number(&self.one)?;
+        let task = self.table.task_mut_numbered(number)?;
+        *task = other;
+        self.table.task_numbered(number).copied()
+    }
+
+    /// Makes a task of key 1, changes it to another, and by its number to the next one; whether
+    /// that was done.
     fn make_anew(&mut self, task: u64, other: u64) -> Result<bool, NoMemory> {
         let made = make(&mut self.table, &self.one, task)?;
         if let Some(task) = self.table.task_mut(&self.one) {
             *task = other;
         }
-        Ok(made)
+        Ok(made && self.change(other + 1) == Some(other + 1))
     }
 
     /// Puts a task that has ended to key 1, unless it has one that runs; whether it did.
@@ -96,7 +113,7 @@ impl Tasks {
     /// How many tasks ask for key 2, and how many keys key 1 waits for.
     fn counts(&self) -> (usize, usize) {
         let askers = self.table.askers(&self.two).tasks.len();
-        (askers, self.table.waits(&self.one).len())
+        (askers, self.waits())
     }
 
     /// Takes a task away that asks for key 2.
@@ -122,7 +139,7 @@ fn a_task_made_anew_keeps_its_askers(rt: HostRuntime) -> Result<(), Fail> {
     let mut tasks = shared_tasks(rt.alloc())?;
     assert!(rt; tasks.end());
     assert!(rt; tasks.make_anew(30, 31)?);
-    assert!(rt; tasks.has(31) && tasks.is_asked_by(&[8, 9]));
+    assert!(rt; tasks.has(32) && tasks.is_asked_by(&[8, 9]));
     assert!(rt; tasks.next() == Some((2, 20)) && tasks.next() == None);
     Ok(())
 }

@@ -1,5 +1,6 @@
-use Rattle.std.proofs.Common.{◌≡◌, ◌≤◌, ◌∷◌, ◌++◌, ℕ, List, length, reverse}
+use Rattle.std.proofs.Common.{◌≡◌, ◌≤◌, ◌∷◌, ◌++◌, ℕ, List, length, reverse, Some}
 use Rattle.std.specs.Arc.{arc_value}
+use Rattle.task_share.specs.Numbers.{key_at}
 use Rattle.task_share.specs.Seen.{ask_count}
 use Rattle.core_laws.specs.Desk.{World}
 use Rattle.dice_tasks.specs.Endings.{AreTasked}
@@ -17,6 +18,7 @@ invariant-ready g l = record {
   events : l.desk.events ≡ l.fn.desk.events;
   woken : (ys : List (Wakes g.row.U-Key.Denot g.row.U-Value.Denot)) × (l.fn.woken.items ≡ l.rest.items ++ ys) × WakesSo g.U.Key.PartialEq.eq (arc_value l.key) ys l.fn.tasks l.tasks l.fn.desk l.desk;
   tasked : AreTasked g.U.Key.PartialEq.eq l.fn.tasks → AreTasked g.U.Key.PartialEq.eq l.tasks;
+  named : key_at l.tasks l.number ≡ Some (arc_value l.key);
 }
 
 abbrev pub decreases-ready : goal.decreases-ready
@@ -29,6 +31,7 @@ invariant-others g l = record {
       → Working g.U.Key.PartialEq.eq g.U.Universe.meaning v (arc_value l.key ∷ W) w owed l.tasks l.desk × WaitsOn g.U.Key.PartialEq.eq (arc_value l.key) l.tasks;
   woken : WakesSo g.U.Key.PartialEq.eq (arc_value l.key) l.fn.woken.items l.fn.tasks l.tasks l.fn.desk l.desk;
   tasked : AreTasked g.U.Key.PartialEq.eq l.fn.tasks → AreTasked g.U.Key.PartialEq.eq l.tasks;
+  named : key_at l.tasks l.number ≡ Some (arc_value l.key);
 }
 
 abbrev pub decreases-others : goal.decreases-others

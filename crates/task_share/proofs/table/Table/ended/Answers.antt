@@ -1,48 +1,9 @@
-use Rattle.std.proofs.Common.{◌≡◌, ◌≤◌, ◌&&◌, not, List, map, is_some, sym, ap, ◌∙◌, subst, slice_get}
 use Rattle.std.specs.Arc.{arc_value}
-use Rattle.std.specs.Map.{values_of}
-use Rattle.std.specs.Option.{option_map}
-use Rattle.task_share.specs.Asked.{By, Tasked, is_by}
-use Rattle.task_share.specs.Seen.{Share, task_at, is_live, asks, live_count, KeepsOtherRoom}
-use Rattle.task_share.specs.Listed.{share_of, shares_of}
-use Rattle.task_share.proofs.PlaceLemmas.{lookup_shares}
-use Rattle.lists.proofs.Options.{is_missing}
-use Rattle.task_share.proofs.TableLemmas.{ended_asks, ended_tasks, ended_live, ended_mirrored, ended_room, ended_count, none_lives, none_asks}
-use Rattle.task_share.proofs.NumberLemmas.{found_number}
+use Rattle.task_share.proofs.TableLemmas.{none_lives, none_asks}
 use Rattle.task_share.proofs.table.Table.ended.Goals as goal
 
-pub withdraw-requires-clause-listed : goal.withdraw-requires-clause-listed
-withdraw-requires-clause-listed g c = c.end_task-waits.ensures.listed _ _ c.self.invariant.1.listed
-
-pub invariant_of-self : goal.invariant_of-self
-invariant_of-self g c = (c.self.invariant.0, record { listed = c.withdraw.ensures.listed; mirrored = ended_mirrored g.K.PartialEq.eq c.self.invariant.0 (shares_of c.self.inside.places.entries) (shares_of c.end_task-waits.new.places.entries) (shares_of c.withdraw.new.places.entries) (arc_value c.args.key.now) (map arc_value (values_of c.end_task-waits.result.entries)) (c.end_task-waits.ensures.changed.changed (arc_value c.args.key.now) (found_number g.K.PartialEq.eq c.self.invariant.0 c.self.inside.places.entries c.args.key.now c.in-Some.at c.in-Some.ensures.index)) (c.end_task-waits.ensures.waits (arc_value c.args.key.now) (found_number g.K.PartialEq.eq c.self.invariant.0 c.self.inside.places.entries c.args.key.now c.in-Some.at c.in-Some.ensures.index)) (c.withdraw.ensures.withdrawn (arc_value c.args.key.now) (ap (λ ns. slice_get ns c.in-Some.at) c.end_task-waits.ensures.changed.names ∙ (found_number g.K.PartialEq.eq c.self.invariant.0 c.self.inside.places.entries c.args.key.now c.in-Some.at c.in-Some.ensures.index))) c.self.invariant.1.mirrored }, c.withdraw.ensures.linked)
-
-pub returns-clause-tasks : goal.returns-clause-tasks
-returns-clause-tasks g c = subst (λ (ps : List (g.row.K.Denot × Share g.row.K.Denot g.row.T.Denot)). (q : g.row.K.Denot) → task_at g.K.PartialEq.eq (shares_of c.withdraw.new.places.entries) q ≡ task_at g.K.PartialEq.eq ps q) c.self.view_is
-    (ended_tasks g.K.PartialEq.eq c.self.invariant.0 (shares_of c.self.inside.places.entries) (shares_of c.end_task-waits.new.places.entries) (shares_of c.withdraw.new.places.entries) (arc_value c.args.key.now) (map arc_value (values_of c.end_task-waits.result.entries)) (c.end_task-waits.ensures.changed.changed (arc_value c.args.key.now) (found_number g.K.PartialEq.eq c.self.invariant.0 c.self.inside.places.entries c.args.key.now c.in-Some.at c.in-Some.ensures.index)) (c.end_task-waits.ensures.waits (arc_value c.args.key.now) (found_number g.K.PartialEq.eq c.self.invariant.0 c.self.inside.places.entries c.args.key.now c.in-Some.at c.in-Some.ensures.index)) (c.withdraw.ensures.withdrawn (arc_value c.args.key.now) (ap (λ ns. slice_get ns c.in-Some.at) c.end_task-waits.ensures.changed.names ∙ (found_number g.K.PartialEq.eq c.self.invariant.0 c.self.inside.places.entries c.args.key.now c.in-Some.at c.in-Some.ensures.index))) c.self.invariant.1.mirrored)
-
-pub returns-clause-live : goal.returns-clause-live
-returns-clause-live g c = subst (λ (ps : List (g.row.K.Denot × Share g.row.K.Denot g.row.T.Denot)). (q : g.row.K.Denot) → is_live g.K.PartialEq.eq (shares_of c.withdraw.new.places.entries) q ≡ (is_live g.K.PartialEq.eq ps q && not (g.K.PartialEq.eq (arc_value c.args.key.now) q))) c.self.view_is
-    (ended_live g.K.PartialEq.eq c.self.invariant.0 (shares_of c.self.inside.places.entries) (shares_of c.end_task-waits.new.places.entries) (shares_of c.withdraw.new.places.entries) (arc_value c.args.key.now) (map arc_value (values_of c.end_task-waits.result.entries)) (c.end_task-waits.ensures.changed.changed (arc_value c.args.key.now) (found_number g.K.PartialEq.eq c.self.invariant.0 c.self.inside.places.entries c.args.key.now c.in-Some.at c.in-Some.ensures.index)) (c.end_task-waits.ensures.waits (arc_value c.args.key.now) (found_number g.K.PartialEq.eq c.self.invariant.0 c.self.inside.places.entries c.args.key.now c.in-Some.at c.in-Some.ensures.index)) (c.withdraw.ensures.withdrawn (arc_value c.args.key.now) (ap (λ ns. slice_get ns c.in-Some.at) c.end_task-waits.ensures.changed.names ∙ (found_number g.K.PartialEq.eq c.self.invariant.0 c.self.inside.places.entries c.args.key.now c.in-Some.at c.in-Some.ensures.index))) c.self.invariant.1.mirrored)
-
-pub returns-clause-asks : goal.returns-clause-asks
-returns-clause-asks g c = subst (λ (ps : List (g.row.K.Denot × Share g.row.K.Denot g.row.T.Denot)). (q : g.row.K.Denot) (a : By g.row.K.Denot) → asks g.K.PartialEq.eq (shares_of c.withdraw.new.places.entries) q a ≡ (asks g.K.PartialEq.eq ps q a && not (is_by g.K.PartialEq.eq (Tasked (arc_value c.args.key.now)) a))) c.self.view_is
-    (ended_asks g.K.PartialEq.eq c.self.invariant.0 (shares_of c.self.inside.places.entries) (shares_of c.end_task-waits.new.places.entries) (shares_of c.withdraw.new.places.entries) (arc_value c.args.key.now) (map arc_value (values_of c.end_task-waits.result.entries)) (c.end_task-waits.ensures.changed.changed (arc_value c.args.key.now) (found_number g.K.PartialEq.eq c.self.invariant.0 c.self.inside.places.entries c.args.key.now c.in-Some.at c.in-Some.ensures.index)) (c.end_task-waits.ensures.waits (arc_value c.args.key.now) (found_number g.K.PartialEq.eq c.self.invariant.0 c.self.inside.places.entries c.args.key.now c.in-Some.at c.in-Some.ensures.index)) (c.withdraw.ensures.withdrawn (arc_value c.args.key.now) (ap (λ ns. slice_get ns c.in-Some.at) c.end_task-waits.ensures.changed.names ∙ (found_number g.K.PartialEq.eq c.self.invariant.0 c.self.inside.places.entries c.args.key.now c.in-Some.at c.in-Some.ensures.index))) c.self.invariant.1.mirrored)
-
-pub returns-clause-room : goal.returns-clause-room
-returns-clause-room g c = subst (λ (ps : List (g.row.K.Denot × Share g.row.K.Denot g.row.T.Denot)). KeepsOtherRoom g.K.PartialEq.eq (arc_value c.args.key.now) ps (shares_of c.withdraw.new.places.entries)) c.self.view_is
-    (ended_room g.K.PartialEq.eq c.self.invariant.0 (shares_of c.self.inside.places.entries) (shares_of c.end_task-waits.new.places.entries) (shares_of c.withdraw.new.places.entries) (arc_value c.args.key.now) (map arc_value (values_of c.end_task-waits.result.entries)) (c.end_task-waits.ensures.changed.changed (arc_value c.args.key.now) (found_number g.K.PartialEq.eq c.self.invariant.0 c.self.inside.places.entries c.args.key.now c.in-Some.at c.in-Some.ensures.index)) (c.end_task-waits.ensures.waits (arc_value c.args.key.now) (found_number g.K.PartialEq.eq c.self.invariant.0 c.self.inside.places.entries c.args.key.now c.in-Some.at c.in-Some.ensures.index)) (c.withdraw.ensures.withdrawn (arc_value c.args.key.now) (ap (λ ns. slice_get ns c.in-Some.at) c.end_task-waits.ensures.changed.names ∙ (found_number g.K.PartialEq.eq c.self.invariant.0 c.self.inside.places.entries c.args.key.now c.in-Some.at c.in-Some.ensures.index))) c.self.invariant.1.mirrored)
-
-pub returns-clause-count : goal.returns-clause-count
-returns-clause-count g c = subst (λ (ps : List (g.row.K.Denot × Share g.row.K.Denot g.row.T.Denot)). live_count (shares_of c.withdraw.new.places.entries) ≤ live_count ps) c.self.view_is
-    (ended_count g.K.PartialEq.eq c.self.invariant.0 (shares_of c.self.inside.places.entries) (shares_of c.end_task-waits.new.places.entries) (shares_of c.withdraw.new.places.entries) (arc_value c.args.key.now) (map arc_value (values_of c.end_task-waits.result.entries)) (c.end_task-waits.ensures.changed.changed (arc_value c.args.key.now) (found_number g.K.PartialEq.eq c.self.invariant.0 c.self.inside.places.entries c.args.key.now c.in-Some.at c.in-Some.ensures.index)) (c.end_task-waits.ensures.waits (arc_value c.args.key.now) (found_number g.K.PartialEq.eq c.self.invariant.0 c.self.inside.places.entries c.args.key.now c.in-Some.at c.in-Some.ensures.index)) (c.withdraw.ensures.withdrawn (arc_value c.args.key.now) (ap (λ ns. slice_get ns c.in-Some.at) c.end_task-waits.ensures.changed.names ∙ (found_number g.K.PartialEq.eq c.self.invariant.0 c.self.inside.places.entries c.args.key.now c.in-Some.at c.in-Some.ensures.index))) c.self.invariant.1.mirrored)
-
 pub returns-in_default-clause-live : goal.returns-in_default-clause-live
-returns-in_default-clause-live g c =
-    subst (λ (ps : List (g.row.K.Denot × Share g.row.K.Denot g.row.T.Denot)). (q : g.row.K.Denot) → is_live g.K.PartialEq.eq ps q ≡ (is_live g.K.PartialEq.eq ps q && not (g.K.PartialEq.eq (arc_value c.args.key.now) q))) c.self.view_is
-    (none_lives g.K.PartialEq.eq c.self.invariant.0 (shares_of c.self.inside.places.entries) (arc_value c.args.key.now) (lookup_shares (g.K.PartialEq.eq (arc_value c.args.key.now)) c.self.inside.places.entries ∙ ap (option_map share_of) (is_missing _ (sym c.get_index_of.ensures.found ∙ ap is_some c.in_default.is))))
+returns-in_default-clause-live g c = none_lives g.K.PartialEq.eq c.table_in_order.ensures.equality _ (arc_value c.args.key.now) (rw c.in_default.is at c.number.ensures.none)
 
 pub returns-in_default-clause-asks : goal.returns-in_default-clause-asks
-returns-in_default-clause-asks g c =
-    subst (λ (ps : List (g.row.K.Denot × Share g.row.K.Denot g.row.T.Denot)). (q : g.row.K.Denot) (a : By g.row.K.Denot) → asks g.K.PartialEq.eq ps q a ≡ (asks g.K.PartialEq.eq ps q a && not (is_by g.K.PartialEq.eq (Tasked (arc_value c.args.key.now)) a))) c.self.view_is
-    (none_asks g.K.PartialEq.eq c.self.invariant.0 (shares_of c.self.inside.places.entries) (arc_value c.args.key.now) (lookup_shares (g.K.PartialEq.eq (arc_value c.args.key.now)) c.self.inside.places.entries ∙ ap (option_map share_of) (is_missing _ (sym c.get_index_of.ensures.found ∙ ap is_some c.in_default.is))) c.self.invariant.1.mirrored)
+returns-in_default-clause-asks g c = none_asks g.K.PartialEq.eq c.table_in_order.ensures.equality _ (arc_value c.args.key.now) (rw c.in_default.is at c.number.ensures.none) c.table_in_order.ensures.waits
