@@ -85,14 +85,13 @@ impl Tasks {
         self.table.task_numbered(number).copied()
     }
 
-    /// Makes a task of key 1, changes it to another, and by its number to the next one; whether
-    /// that was done.
+    /// Makes a task of key 1 and changes it to another; whether it was made.
     fn make_anew(&mut self, task: u64, other: u64) -> Result<bool, NoMemory> {
         let made = make(&mut self.table, &self.one, task)?;
         if let Some(task) = self.table.task_mut(&self.one) {
             *task = other;
         }
-        Ok(made && self.change(other + 1) == Some(other + 1))
+        Ok(made)
     }
 
     /// Puts a task that has ended to key 1, unless it has one that runs; whether it did.
@@ -138,7 +137,7 @@ fn a_shared_task_stays_until_its_last_asker_leaves(rt: HostRuntime) -> Result<()
 fn a_task_made_anew_keeps_its_askers(rt: HostRuntime) -> Result<(), Fail> {
     let mut tasks = shared_tasks(rt.alloc())?;
     assert!(rt; tasks.end());
-    assert!(rt; tasks.make_anew(30, 31)?);
+    assert!(rt; tasks.make_anew(30, 31)? && tasks.change(32) == Some(32));
     assert!(rt; tasks.has(32) && tasks.is_asked_by(&[8, 9]));
     assert!(rt; tasks.next() == Some((2, 20)) && tasks.next() == None);
     Ok(())
