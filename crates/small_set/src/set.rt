@@ -143,15 +143,14 @@ impl<T: Eq + Hash + Drop> SmallSet<T> {
         }
     }
 
-    /// Takes all members away. It takes no memory.
+    /// Takes all members away. It takes no memory, and what a hash set took is given back.
     #[tactic(auto, using(crate::proofs::Distinct::distinct_none))]
     pub fn clear(&mut self)
         ensures { self.new ≡ [] }
     {
         match &mut self.members {
-            Members::Single(_) => self.members = Members::Few(Vec::new(self.alloc)),
             Members::Few(list) => list.clear(),
-            Members::Many(set) => set.clear(),
+            _ => self.members = Members::Few(Vec::new(self.alloc)),
         }
     }
 }

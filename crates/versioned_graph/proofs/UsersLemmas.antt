@@ -86,6 +86,14 @@ module _ {K : Type 0} (eq : K → K → Bool) (same : AreSame eq) where
       by_test true e = absurd (subst (λ l. Has l q) none (subst (λ n. Has (users_of eq us n) q) (sym (same k j e)) h))
       by_test false e = others j q e h
 
+  -- to forget the users of a key that has none changes nothing
+  pub none_forgot : (k : K) (us : List (K × List K)) → users_of eq us k ≡ [] → (j : K) → users_of eq us j ≡ cond (eq k j) [] (users_of eq us j)
+  none_forgot k us none j = by_test (eq k j) refl
+    where
+      by_test : (b : Bool) → eq k j ≡ b → users_of eq us j ≡ cond b [] (users_of eq us j)
+      by_test true e = subst (λ n. users_of eq us n ≡ []) (same k j e) none
+      by_test false e = refl
+
 -- what was found, or that there is none
 pub of_found : {K B : Type 0} (r : Option (Bor (List (Arc K B)))) (ks : List K) → or_none (option_map keys_in (option_copied r)) ≡ ks → MatchOption r (ks ≡ []) (λ s. map arc_value s.now ≡ ks)
 of_found None ks e = sym e

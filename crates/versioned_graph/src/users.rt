@@ -83,12 +83,15 @@ impl<U: Universe> Users<U> {
         Ok(())
     }
 
-    /// Forgets the users of a key. It takes no memory.
+    /// Forgets the users of a key. Its set stays, for those that use it next. It takes no memory.
     pub(crate) fn forget(&mut self, key: &Arc<U::Key>)
         ensures { (j : U.Key)
             → users_of U.Key.eq self.new j
             ≡ (if U.Key.eq (arc_value key.now) j then [] else users_of U.Key.eq self.old j) }
     {
-        self.sets.remove(key);
+        laws_of::<U>();
+        if let Some(set) = self.sets.get_mut(key) {
+            set.clear();
+        }
     }
 }
