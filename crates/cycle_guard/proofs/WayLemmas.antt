@@ -13,7 +13,7 @@ use Rattle.number_walk.specs.Reach.{Reaches, stays, waits_on, AreBelow, IsChain,
 use Rattle.task_share.specs.Asked as asked
 use Rattle.task_share.specs.Asked.{Asked, Tasked, Leads, asks_on}
 use Rattle.task_share.specs.Seen.{Share, is_for, has_by, list_for, asks, waits_at, asked_of, IsMirrored}
-use Rattle.task_share.specs.Numbers.{key_at, number_of, waits_by, names_at, with_name}
+use Rattle.task_share.specs.Numbers.{key_at, number_of, waits_by, names_at, with_name, IsPlaceOf}
 use Rattle.cycle_guard.specs.WaitCycle.{WouldWait, IsRound, IsSecond, IsWaitCycle}
 
 module _ {K : Type 0} where
@@ -199,3 +199,7 @@ module _ {K T : Type 0} (eq : K → K → Bool) (law : IsEquality eq) where
             by_step : (k j : K) → Leads (asked_of eq ps) k j → lookup (eq j) ps ≡ None → (k ≡ j → ⊥) → ⊥
             by_step k j asked.stays e f = f refl
             by_step k j (asks_on {i = d} a l) e f = ends d j k a l e
+
+-- the number of a key that has a place
+pub number_in : {K T : Type 0} (eq : K → K → Bool) (ps : List (K × Share K T)) (k : K) (place : Option ℕ) (n : ℕ) → place ≡ Some n → IsPlaceOf eq ps k place → key_at ps n ≡ Some k
+number_in eq ps k place n is at = subst (IsPlaceOf eq ps k) is at

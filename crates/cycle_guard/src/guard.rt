@@ -3,7 +3,7 @@ ghost use Rattle.std.specs.Prelude.{◌≡◌, [], ◌∷◌, IfOk, IfSome, IfNo
 ghost use Rattle.std.specs.Arc.{arc_value};
 ghost use Rattle.task_share.specs.Asked.{Leads};
 ghost use Rattle.task_share.specs.Seen.{asked_of};
-ghost use Rattle.task_share.specs.Numbers.{keys_of, names_at};
+ghost use Rattle.task_share.specs.Numbers.{keys_of, names_at, IsPlaceOf};
 ghost use Rattle.cycle_guard.specs.WaitCycle.{IsWaitCycle};
 
 use dice_key::{NoMemory, Path};
@@ -32,11 +32,31 @@ pub fn would_close<K: Eq + Hash + Drop, T: Drop>(
     ensures none { IfOk result (λ o. IfNone o
         (Leads (asked_of K.eq table.now) (arc_value to.now) (arc_value from.now) → ⊥)) }
 {
+    would_close_placed(alloc, table, from, to, table.number(to))
+}
+
+/// What `would_close` answers, if `to` was looked up before: it has this number in the table, or no
+/// place there.
+pub fn would_close_placed<K: Eq + Hash + Drop, T: Drop>(
+    alloc: Global,
+    table: &Table<K, T>,
+    from: &Arc<K>,
+    to: &Arc<K>,
+    place: Option<usize>,
+) -> Result<Option<Path<K>>, NoMemory>
+    requires { IsPlaceOf K.eq table.now (arc_value to.now) place }
+    ensures path { IfOk result (λ o. IfSome o
+        (λ p. IsWaitCycle (asked_of K.eq table.now) (arc_value from.now) (arc_value to.now) p)) }
+    ensures some { IfOk result (λ o. IfSome o
+        (λ p. Leads (asked_of K.eq table.now) (arc_value to.now) (arc_value from.now))) }
+    ensures none { IfOk result (λ o. IfNone o
+        (Leads (asked_of K.eq table.now) (arc_value to.now) (arc_value from.now) → ⊥)) }
+{
     table_in_order(table);
     if from == to {
         return Ok(Some(path_of(alloc, table, from, &[])?));
     }
-    let Some(start) = table.number(to) else {
+    let Some(start) = place else {
         return Ok(None);
     };
     if table.waits_of(start).is_empty() {

@@ -6,5 +6,5 @@ mod guard;
 mod laws;
 
 pub use above::count_above;
-pub use guard::would_close;
+pub use guard::{would_close, would_close_placed};
 pub use laws::no_cycle_stays;

@@ -56,7 +56,8 @@ pub(crate) fn ask_key<U: Universe>(
         return Ok(index);
     }
     tasks.reserve_promise(key)?;
-    let making = prepare(shared.alloc, &shared.graph, tasks, version, key, index + 1)?;
+    let task = tasks.task(key);
+    let making = prepare(shared.alloc, &shared.graph, task, version, key, index + 1)?;
     shared.desk.push(told);
     tasks.add_promise(key, index);
     make(

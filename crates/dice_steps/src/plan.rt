@@ -5,7 +5,8 @@ ghost use Rattle.std.specs.List.{list_any, AllZip};
 ghost use Rattle.std.specs.Option.{option_copied, option_map};
 ghost use Rattle.dice_key.specs.declared.universe.Kind.TheVariants.{Injected};
 ghost use Rattle.task_share.specs.Asked.{Leads};
-ghost use Rattle.task_share.specs.Seen.{task_at, asked_of, has_place, asker_room, wait_room, KeepsTasks, KeepsAsks, KeepsRoom};
+ghost use Rattle.task_share.specs.Numbers.{IsPlaceOf};
+ghost use Rattle.task_share.specs.Seen.{task_at, asked_of, is_live, has_place, asker_room, wait_room, KeepsTasks, KeepsAsks, KeepsRoom};
 ghost use Rattle.versioned_graph.specs.Entries.{entry_at};
 ghost use Rattle.versioned_graph.specs.Looks.{Matches, look};
 ghost use Rattle.core_laws.specs.Tasks.{IsOut, IsWaiting, value_of};
@@ -16,21 +17,20 @@ ghost use Rattle.dice_tasks.specs.CyclePaths.{path_with};
 ghost use Rattle.dice_tasks.specs.Helds.{held_of};
 ghost use Rattle.dice_tasks.specs.Hands.{KeepsHands, KeepsDeskRoom, tasks_of};
 ghost use Rattle.dice_steps.specs.Plans.{key_in, waits_of, is_awaited, AreMakings, IsPartFor, IsMatchedBy, IsAtHand, HasNone, IsMet, IsSurvey, ArePlaced, IsPlan, IfEnds};
-ghost use Rattle.dice_tasks.specs.Makings.{IsFree};
-ghost use Rattle.dice_steps.specs.Taken.{HasNoPath, IsPathAt, MayWaitFor};
+ghost use Rattle.dice_steps.specs.Taken.{HasNoPath, IsPathAt};
 ghost use Rattle.lists.specs.Lists.{Has};
 
 use crate::agreed::holds_at_both;
 use crate::noted::note;
 use crate::shared::Shared;
-use cycle_guard::{count_above, would_close};
+use cycle_guard::{count_above, would_close_placed};
 use dice_jobs::Assignment;
 use dice_key::{Answers, Batch, KeyRef, Kind, NoMemory, Path, Universe, ValueRef, laws_of};
-use dice_tasks::{Desk, Making, Next, Owners, Tasks, looked, prepare, prepare_anew};
+use dice_tasks::{Desk, Making, Next, Owners, Task, Tasks, looked, prepare};
 use small_set::SmallSet;
 use std::alloc::Global;
 use std::sync::Arc;
-use task_share::{Wait, table_in_order};
+use task_share::Wait;
 use versioned_graph::{Found, Graph};
 
 /// Up to so many keys are compared each with each; of more a set is made.
@@ -298,8 +298,8 @@ fn is_new<U: Universe>(
     }
 }
 
-/// What a key that is not injected comes to, if the task of `own` asks for it. One that has no
-/// place in the table is looked up there once.
+/// What a key that is not injected comes to, if the task of `own` asks for it. It is looked up in
+/// the table once.
 fn meet<U: Universe>(
     shared: &Shared<U>,
     tasks: &Tasks<U>,
@@ -313,15 +313,13 @@ fn meet<U: Universe>(
         (arc_value own.now) (arc_value key.now)) }
 {
     let name = Arc::try_clone(key)?;
-    let making = if is_unplaced::<U>(tasks, own, key) {
-        prepare_anew::<U>(shared.alloc, &shared.graph, version, key, born)?
-    } else {
-        if let Some(path) = cycle_at::<U>(shared.alloc, tasks, own, key)? {
-            return Ok(Met::Cycle(path));
-        }
-        prepare::<U>(shared.alloc, &shared.graph, tasks, version, key, born)?
-    };
-    let awaited = is_awaited::<U>(tasks, key, &making);
+    let place = place_of::<U>(tasks, key);
+    if let Some(path) = cycle_at::<U>(shared.alloc, tasks, own, key, place)? {
+        return Ok(Met::Cycle(path));
+    }
+    let task = task_in::<U>(tasks, place);
+    let making = prepare::<U>(shared.alloc, &shared.graph, task, version, key, born)?;
+    let awaited = is_awaited::<U>(tasks, place, &making);
     Ok(Met::Part(Part {
         key: name,
         making,
@@ -329,62 +327,77 @@ fn meet<U: Universe>(
     }))
 }
 
-/// Whether a key is another than `own`, and has no place in the table. Then it has no task, and
-/// waits for nothing.
-fn is_unplaced<U: Universe>(tasks: &Tasks<U>, own: &KeyRef<U>, key: &KeyRef<U>) -> bool
-    ensures free { result ≡ true → IsFree (task_at U.Key.eq tasks.now (arc_value key.now)) }
-    ensures waits { result ≡ true
-        → MayWaitFor U.Key.eq tasks.now (arc_value own.now) (arc_value key.now) }
+/// Where a key stands in the table: its number, if it has a place.
+fn place_of<U: Universe>(tasks: &Tasks<U>, key: &KeyRef<U>) -> Option<usize>
+    ensures { IsPlaceOf U.Key.eq tasks.now (arc_value key.now) result }
 {
-    table_in_order(tasks);
-    match tasks.number(key) {
-        Some(_) => false,
-        None => **own != **key,
+    tasks.number(key)
+}
+
+/// The task of the key that stands there, if it has one.
+fn task_in<U: Universe>(tasks: &Tasks<U>, place: Option<usize>) -> Option<&Task<U>>
+    ensures { (k : U.Key) → IsPlaceOf U.Key.eq tasks.now k place
+        → task_at U.Key.eq tasks.now k ≡ option_copied result }
+{
+    match place {
+        Some(number) => tasks.task_numbered(number),
+        None => None,
     }
 }
 
-/// The cycle to which a wait of the task of `own` for a key comes: the one that it would close, or
-/// the one with which the key's task has ended.
+/// The cycle to which a wait of the task of `own` for a key comes, which stands there: the one that
+/// it would close, or the one with which the key's task has ended.
 fn cycle_at<U: Universe>(
     alloc: Global,
     tasks: &Tasks<U>,
     own: &KeyRef<U>,
     key: &KeyRef<U>,
+    place: Option<usize>,
 ) -> Result<Option<Arc<Path<U::Key>>>, NoMemory>
+    requires { IsPlaceOf U.Key.eq tasks.now (arc_value key.now) place }
     ensures some { IfOk result (λ o. IfSome o
         (λ p. IsPathAt U.Key.eq tasks.now (arc_value own.now) (arc_value key.now) (arc_value p))) }
     ensures apart { IfOk result (λ o. IfNone o
         (Leads (asked_of U.Key.eq tasks.now) (arc_value key.now) (arc_value own.now) → ⊥)) }
     ensures whole { IfOk result (λ o. IfNone o (HasNoPath U.Key.eq tasks.now (arc_value key.now))) }
 {
-    if let Some(path) = would_close(alloc, tasks, own, key)? {
+    if let Some(path) = would_close_placed(alloc, tasks, own, key, place)? {
         return Ok(Some(Arc::new(alloc, path)?));
     }
-    match ended_by_cycle::<U>(tasks, key) {
+    match ended_by_cycle::<U>(tasks, place) {
         Some(path) => Ok(Some(Arc::try_clone(path)?)),
         None => Ok(None),
     }
 }
 
-/// The cycle with which the task of a key has ended, if any.
-fn ended_by_cycle<'a, U: Universe>(
-    tasks: &'a Tasks<U>,
-    key: &KeyRef<U>,
-) -> Option<&'a Arc<Path<U::Key>>>
-    ensures { option_map (λ p. arc_value p.now) result
-        ≡ path_with (task_at U.Key.eq tasks.now (arc_value key.now)) }
+/// The cycle with which the task of the key that stands there has ended, if any.
+fn ended_by_cycle<U: Universe>(tasks: &Tasks<U>, place: Option<usize>) -> Option<&Arc<Path<U::Key>>>
+    ensures { (k : U.Key) → IsPlaceOf U.Key.eq tasks.now k place
+        → option_map (λ p. arc_value p.now) result ≡ path_with (task_at U.Key.eq tasks.now k) }
 {
-    tasks.task(key)?.cycle()
+    task_in::<U>(tasks, place)?.cycle()
 }
 
-/// Whether a key is waited for if this is made of it.
-fn is_awaited<U: Universe>(tasks: &Tasks<U>, key: &KeyRef<U>, making: &Making<U>) -> bool
-    ensures { result ≡ is_awaited U.Key.eq tasks.now (arc_value key.now) making.now }
+/// Whether the key that stands there is waited for if this is made of it.
+fn is_awaited<U: Universe>(tasks: &Tasks<U>, place: Option<usize>, making: &Making<U>) -> bool
+    ensures { (k : U.Key) → IsPlaceOf U.Key.eq tasks.now k place
+        → result ≡ is_awaited U.Key.eq tasks.now k making.now }
 {
     match making {
-        Making::Join => tasks.is_live(key),
+        Making::Join => is_live_in::<U>(tasks, place),
         Making::Match { .. } => false,
         Making::Run { .. } | Making::Check { .. } => true,
+    }
+}
+
+/// Whether the key that stands there has a task that has not ended.
+fn is_live_in<U: Universe>(tasks: &Tasks<U>, place: Option<usize>) -> bool
+    ensures { (k : U.Key) → IsPlaceOf U.Key.eq tasks.now k place
+        → result ≡ is_live U.Key.eq tasks.now k }
+{
+    match place {
+        Some(number) => tasks.is_live_numbered(number),
+        None => false,
     }
 }
 

@@ -16,7 +16,7 @@ mod wait;
 pub use anew::differ;
 pub use desk::Desk;
 pub use end::{How, cascade, end_all, end_value};
-pub use making::{Making, make, prepare, prepare_anew};
+pub use making::{Making, make, prepare};
 pub use owners::Owners;
 pub use shelf::ReadyTask;
 pub use task::{Next, Task};

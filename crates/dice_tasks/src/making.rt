@@ -2,7 +2,9 @@
 ghost use Rattle.std.specs.Prelude.{◌≡◌, ◌≢◌, ◌<◌, ◌+◌, ℕ, List, reverse, true, false, IfOk, MatchBool};
 ghost use Rattle.std.specs.Arc.{arc_value};
 ghost use Rattle.dice_jobs.specs.Jobs.{Name};
-ghost use Rattle.task_share.specs.Seen.{task_at, is_live, has_place};
+ghost use Rattle.std.specs.Option.{option_copied};
+ghost use Rattle.task_share.specs.Seen.{Share, task_at, is_live, has_place};
+ghost use Rattle.dice_tasks.specs.Helds.{Held};
 ghost use Rattle.versioned_graph.specs.Entries.{entry_at};
 ghost use Rattle.core_laws.specs.Desk.{World};
 ghost use Rattle.dice_key.specs.declared.universe.Kind.TheVariants.{Injected};
@@ -118,12 +120,12 @@ fn begin<U: Universe>(
     tasks.make_reserved(key, task);
 }
 
-/// Whether the key has a task that was not given up.
-fn has_task<U: Universe>(tasks: &Tasks<U>, key: &KeyRef<U>) -> bool
-    ensures { MatchBool result (HasTask (task_at U.Key.eq tasks.now (arc_value key.now)))
-        (IsFree (task_at U.Key.eq tasks.now (arc_value key.now))) }
+/// Whether there is a task, and it was not given up.
+fn has_task<U: Universe>(task: Option<&Task<U>>) -> bool
+    ensures { MatchBool result (HasTask (option_copied task.entry))
+        (IsFree (option_copied task.entry)) }
 {
-    match tasks.task(key) {
+    match task {
         Some(task) => !task.is_lost(),
         None => false,
     }
@@ -221,7 +223,7 @@ fn prepare_check<U: Universe>(
 /// What is to be made of a key that has no task, or one that was given up, by what a look-up at
 /// the version says. The key is not injected, and the journal has `born` events. It takes the
 /// memory for it, and changes nothing.
-pub fn prepare_anew<U: Universe>(
+fn prepare_anew<U: Universe>(
     alloc: Global,
     graph: &Graph<U>,
     version: u64,
@@ -246,22 +248,23 @@ pub fn prepare_anew<U: Universe>(
 }
 
 /// What is to be made of a key, which is not injected, at a version, when the journal has `born`
-/// events: nothing if it has a task that was not given up, otherwise what a look-up says. It takes
-/// the memory for it, and changes nothing.
+/// events, if this is its task, or it has none: nothing if the task was not given up, otherwise what
+/// a look-up says. It takes the memory for it, and changes nothing.
 pub fn prepare<U: Universe>(
     alloc: Global,
     graph: &Graph<U>,
-    tasks: &Tasks<U>,
+    task: Option<&Task<U>>,
     version: u64,
     key: &KeyRef<U>,
     born: u64,
 ) -> Result<Making<U>, NoMemory>
     requires { U.meaning.kind (arc_value key.now) ≢ Injected }
-    ensures making { IfOk result
-        (IsMaking U.Key.eq U.meaning version (arc_value key.now) born tasks.now graph.now) }
+    ensures making { IfOk result (λ m. (ps : List (U.Key × Share U.Key (Held U.Key U.Value)))
+        → task_at U.Key.eq ps (arc_value key.now) ≡ option_copied task.entry
+        → IsMaking U.Key.eq U.meaning version (arc_value key.now) born ps graph.now m) }
     ensures own { IfOk result (IsOfKey version (arc_value key.now)) }
 {
-    if has_task::<U>(tasks, key) {
+    if has_task::<U>(task) {
         return Ok(Making::Join);
     }
     prepare_anew::<U>(alloc, graph, version, key, born)

@@ -411,6 +411,13 @@ empty_whole eq ps cs room e f = record {
 pub number_names : {K A T : Type 0} (es : List (Arc K A × Place K T)) (ps : List (K × Share K T)) (n : ℕ) (k : K) → shares_of es ≡ ps → key_at ps n ≡ Some k → slice_get (names_of es) n ≡ Some k
 number_names es ps n k view e = sym (key_found es n) ∙ (ap (λ qs. key_at qs n) view ∙ e)
 
+-- a number at which nothing stands has no key, and one at which a place stands has one
+pub no_key : {K A T : Type 0} (es : List (Arc K A × Place K T)) (ps : List (K × Share K T)) (n : ℕ) (k : K) → shares_of es ≡ ps → slice_get es n ≡ None → key_at ps n ≡ Some k → ⊥
+no_key es ps n k view g at = none-some k (sym (slice_get-map (λ (e : Arc _ _ × Place _ _). arc_value e.0) es n ∙ ap (option_map (λ (e : Arc _ _ × Place _ _). arc_value e.0)) g) ∙ number_names es ps n k view at)
+
+pub some_key : {K A T : Type 0} (es : List (Arc K A × Place K T)) (ps : List (K × Share K T)) (n : ℕ) (e : Arc K A × Place K T) → shares_of es ≡ ps → slice_get es n ≡ Some e → key_at ps n ≡ None → ⊥
+some_key es ps n e view g none = none-some (arc_value e.0) (sym none ∙ (ap (λ qs. key_at qs n) (sym view) ∙ (key_found es n ∙ (slice_get-map (λ (f : Arc _ _ × Place _ _). arc_value f.0) es n ∙ ap (option_map (λ (f : Arc _ _ × Place _ _). arc_value f.0)) g))))
+
 pub numbers_kept : {K A T : Type 0} (es fs : List (Arc K A × Place K T)) → names_of fs ≡ names_of es → KeepsNumbers (shares_of es) (shares_of fs)
 numbers_kept es fs same n = key_found fs n ∙ (ap (λ ns. slice_get ns n) same ∙ sym (key_found es n))
 

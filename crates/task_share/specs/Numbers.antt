@@ -2,11 +2,17 @@
 use Rattle.std.specs.Prelude.{◌≡◌, ℕ, Bool, List, [], ◌∷◌, map, Option, Some, None, slice_get}
 use Rattle.std.specs.List.{position_or_len}
 pub use Rattle.std.specs.Map.{keys_of}
+use Rattle.std.specs.Map.{lookup}
 use Rattle.task_share.specs.Seen.{Share, list_for}
 
 -- the key of a number
 abbrev pub key_at : {K T : Type 0} → List (K × Share K T) → ℕ → Option K
 key_at ps n = slice_get (keys_of ps) n
+
+-- where a key stands: it has this number, or no place
+abbrev pub IsPlaceOf : {K T : Type 0} → (K → K → Bool) → List (K × Share K T) → K → Option ℕ → Type 0
+IsPlaceOf eq ps k None = lookup (eq k) ps ≡ None
+IsPlaceOf eq ps k (Some n) = key_at ps n ≡ Some k
 
 -- each number has the key that it had
 abbrev pub KeepsNumbers : {K T : Type 0} → List (K × Share K T) → List (K × Share K T) → Type 0

@@ -378,7 +378,8 @@ impl<K: Eq + Hash + Drop, T: Drop> Table<K, T> {
         self.take_asker_numbered(number)
     }
 
-    /// The same of the key of a number. All keys keep their numbers.
+    /// Takes one asking task away from the key of a number, and gives its key; `None` exactly if no
+    /// task asks for the key. All keys keep their numbers. It takes no memory.
     pub fn take_asker_numbered(&mut self, number: usize) -> Option<Arc<K>>
         requires { (k : K) × (key_at self.old number ≡ Some k) }
         ensures tasks { KeepsTasks K.eq self.old self.new }
@@ -422,7 +423,8 @@ impl<K: Eq + Hash + Drop, T: Drop> Table<K, T> {
         self.ended_numbered(number);
     }
 
-    /// The same of the task of the key of a number.
+    /// Notes that the task of the key of a number has ended, and withdraws its own asks. It takes no
+    /// memory.
     pub fn ended_numbered(&mut self, number: usize)
         requires { (k : K) × (key_at self.old number ≡ Some k) }
         ensures tasks { (q : K) → task_at K.eq self.new q ≡ task_at K.eq self.old q }
@@ -491,10 +493,11 @@ impl<K: Eq + Hash + Drop, T: Drop> Table<K, T> {
         place.task.as_mut()
     }
 
-    /// The task of the key of a number, ended or not.
+    /// The task of the key of a number, ended or not; `None` if no key has the number.
     pub fn task_numbered(&self, number: usize) -> Option<&T>
-        ensures { (k : K) → key_at self.now number ≡ Some k
+        ensures task { (k : K) → key_at self.now number ≡ Some k
             → option_copied result ≡ task_at K.eq self.now k }
+        ensures none { key_at self.now number ≡ None → result ≡ None }
     {
         match self.places.get_index(number) {
             Some((_, place)) => place.task.as_ref(),
@@ -527,6 +530,18 @@ impl<K: Eq + Hash + Drop, T: Drop> Table<K, T> {
         }
     }
 
+    /// Whether the key of a number has a task that has not ended; `false` if no key has the number.
+    pub fn is_live_numbered(&self, number: usize) -> bool
+        ensures live { (k : K) → key_at self.now number ≡ Some k
+            → result ≡ is_live K.eq self.now k }
+        ensures none { key_at self.now number ≡ None → result ≡ false }
+    {
+        match self.places.get_index(number) {
+            Some((_, place)) => is_running(place),
+            None => false,
+        }
+    }
+
     /// The askers of the key, which may be none. No promise and no task stands there twice.
     pub fn askers(&self, key: &Arc<K>) -> Askers<'_, K>
         ensures promises { (n : ℕ)
@@ -554,11 +569,12 @@ impl<K: Eq + Hash + Drop, T: Drop> Table<K, T> {
         }
     }
 
-    /// The keys that the task of the key of a number waits for, in no order. They are those that it
-    /// asks for (`table_in_order`).
+    /// The keys that the task of the key of a number waits for, in no order; none if no key has the
+    /// number. They are those that it asks for (`table_in_order`).
     pub fn waits_numbered(&self, number: usize) -> &[Arc<K>]
-        ensures { (k : K) → key_at self.now number ≡ Some k
+        ensures waits { (k : K) → key_at self.now number ≡ Some k
             → map arc_value result.now ≡ waits_at K.eq self.now k }
+        ensures none { key_at self.now number ≡ None → result.now ≡ [] }
     {
         match self.places.get_index(number) {
             Some((_, place)) => place.waits.values(),

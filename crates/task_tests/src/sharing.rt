@@ -66,7 +66,15 @@ impl Tasks {
     /// waits.
     fn end(&mut self) -> bool {
         self.table.ended(&self.one);
-        self.has(10) && !self.table.is_live(&self.one) && self.waits() == 0
+        self.has(10) && !self.table.is_live(&self.one) && !self.runs() && self.waits() == 0
+    }
+
+    /// Whether the task of key 1, found by its number, has not ended.
+    fn runs(&self) -> bool {
+        match self.table.number(&self.one) {
+            Some(number) => self.table.is_live_numbered(number),
+            None => false,
+        }
     }
 
     /// How many keys key 1 waits for.
@@ -178,7 +186,7 @@ fn reserved_tasks(alloc: Global) -> Result<Tasks, NoMemory> {
 #[test]
 fn room_made_ahead_is_filled(rt: HostRuntime) -> Result<(), Fail> {
     let mut tasks = reserved_tasks(rt.alloc())?;
-    assert!(rt; tasks.has(10) && tasks.is_asked_by(&[8]));
+    assert!(rt; tasks.has(10) && tasks.runs() && tasks.is_asked_by(&[8]));
     assert!(rt; tasks.counts() == (1, 1));
     assert!(rt; tasks.take_asker() == Some(1) && tasks.take_asker() == None);
     assert!(rt; tasks.counts() == (0, 0));

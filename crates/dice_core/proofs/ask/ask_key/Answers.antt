@@ -34,7 +34,7 @@ make-requires-clause-room g c κs within =
     let h = c.requires.hand in
     can_make_there eq c.laws_of.ensures.keys m c.laws_of.ensures.lawful c.args.version c.args.asking.now.by c.args.asking.now.opened k c.in_ok-index.index ps os qs qs c.args.shared.now.desk d d es es c.in_ok-making.making c.in_ok-index.ensures.0
     (kept_room eq ps os c.args.shared.now.desk d c.reserve_promise.ensures.tasks c.reserve_promise.ensures.asks c.reserve.ensures.same c.reserve.ensures.room) (keeps_on eq ps os qs c.reserve_promise.ensures.tasks c.add_promise.ensures.tasks)
-    c.add_promise.ensures.room c.add_promise.ensures.asks c.in_ok-reserve_promise.ensures.ok c.requires.opened (c.is_injected.ensures.no c.if-is_injected.false) c.in_ok-making.ensures.making
+    c.add_promise.ensures.room c.add_promise.ensures.asks c.in_ok-reserve_promise.ensures.ok c.requires.opened (c.is_injected.ensures.no c.if-is_injected.false) (c.in_ok-making.ensures.making os (sym c.task-task.ensures))
     c.push-2.new.self (c.push-2.ensures ∙ ap (with_event d) (c.in_ok-told.ensures ∙ ap (Ask c.args.asking.now.by c.args.asking.now.opened) (sym c.key-key.ensures))) h.0 c.args.owed c.in_ok-reserve.ensures.ok h.2.working
 
 pub returns-clause-asked : goal.returns-clause-asked
@@ -51,7 +51,7 @@ returns-clause-asked g c =
     subst (λ z. AsksForKey eq m c.args.version c.args.asking.now.by c.args.asking.now.opened z ps c.make.new.tasks es c.make.new.graph c.args.shared.now.desk c.make.new.desk) c.key-key.ensures
     (asks_made eq c.laws_of.ensures.keys m c.laws_of.ensures.lawful c.args.version c.args.asking.now.by c.args.asking.now.opened k c.in_ok-index.index ps os qs c.make.new.tasks c.args.shared.now.desk d c.make.new.desk es c.make.new.graph c.in_ok-making.making c.in_ok-index.ensures.0
     (kept_room eq ps os c.args.shared.now.desk d c.reserve_promise.ensures.tasks c.reserve_promise.ensures.asks c.reserve.ensures.same c.reserve.ensures.room) (keeps_on eq ps os qs c.reserve_promise.ensures.tasks c.add_promise.ensures.tasks)
-    c.add_promise.ensures.room c.add_promise.ensures.asks c.in_ok-reserve_promise.ensures.ok c.requires.opened (c.is_injected.ensures.no c.if-is_injected.false) c.in_ok-making.ensures.making
+    c.add_promise.ensures.room c.add_promise.ensures.asks c.in_ok-reserve_promise.ensures.ok c.requires.opened (c.is_injected.ensures.no c.if-is_injected.false) (c.in_ok-making.ensures.making os (sym c.task-task.ensures))
     c.push-2.new.self (c.push-2.ensures ∙ ap (with_event d) (c.in_ok-told.ensures ∙ ap (Ask c.args.asking.now.by c.args.asking.now.opened) (sym c.key-key.ensures))) c.make.ensures.made c.make.ensures.alone h.0 c.args.owed h.2.working)
 
 pub returns-clause-kept : goal.returns-clause-kept
@@ -66,5 +66,5 @@ returns-clause-kept g c w s h =
     let es = c.args.shared.now.graph in
     hand_made eq c.laws_of.ensures.keys m c.laws_of.ensures.lawful c.args.version c.args.asking.now.by c.args.asking.now.opened k c.in_ok-index.index ps os qs c.make.new.tasks c.args.shared.now.desk d c.make.new.desk es c.make.new.graph c.in_ok-making.making c.in_ok-index.ensures.0
     (kept_room eq ps os c.args.shared.now.desk d c.reserve_promise.ensures.tasks c.reserve_promise.ensures.asks c.reserve.ensures.same c.reserve.ensures.room) (keeps_on eq ps os qs c.reserve_promise.ensures.tasks c.add_promise.ensures.tasks)
-    c.add_promise.ensures.room c.add_promise.ensures.asks c.in_ok-reserve_promise.ensures.ok c.requires.opened (c.is_injected.ensures.no c.if-is_injected.false) c.in_ok-making.ensures.making
+    c.add_promise.ensures.room c.add_promise.ensures.asks c.in_ok-reserve_promise.ensures.ok c.requires.opened (c.is_injected.ensures.no c.if-is_injected.false) (c.in_ok-making.ensures.making os (sym c.task-task.ensures))
     c.push-2.new.self (c.push-2.ensures ∙ ap (with_event d) (c.in_ok-told.ensures ∙ ap (Ask c.args.asking.now.by c.args.asking.now.opened) (sym c.key-key.ensures))) c.make.ensures.made c.make.ensures.alone w c.args.owed s c.in_ok-reserve.ensures.ok (λ x W owed born. c.make.ensures.kept x W owed born) h

@@ -25,7 +25,7 @@ pub unreachable-requires-in_default-answer_of : goal.unreachable-requires-in_def
 unreachable-requires-in_default-answer_of g c =
     let w = c.requires.2.waits in
     let q = arc_value c.asked-item.result in
-    let is : c.in-Some.task.now ≡ held_of w.job (IsWaiting w.keys) = same_Some _ _ (c.in-Some.ensures c.requires.0 c.requires.1 ∙ c.requires.2.held) in
+    let is : c.in-Some.task.now ≡ held_of w.job (IsWaiting w.keys) = same_Some _ _ (c.in-Some.ensures.task c.requires.0 c.requires.1 ∙ c.requires.2.held) in
     let keys = same_Some _ _ (c.in-Some-batch.ensures ∙ ap (λ (z : Held g.row.U-Key.Denot g.row.U-Value.Denot). waits_for z.standing) is) in
     let among_keys = subst (λ ks. Has ks q) (c.keys-keys.ensures ∙ keys) (among arc_value c.keys-keys.result.now c.loop-asked.asked-index c.asked-item.result c.loop-asked-test.true c.asked-item.is) in
     let none : false ≡ true = c.in_default-answer_of.ensures.some (c.requires.2.answers q among_keys) in
@@ -38,7 +38,7 @@ next-requires-after_bounds g c κs within =
     let k = arc_value c.args.ended.now.key.now in
     let x = arc_value c.args.ended.now.value.now in
     let w = c.requires.2.waits in
-    let is : c.in-Some.task.now ≡ held_of w.job (IsWaiting w.keys) = same_Some _ _ (c.in-Some.ensures c.requires.0 c.requires.1 ∙ c.requires.2.held) in
+    let is : c.in-Some.task.now ≡ held_of w.job (IsWaiting w.keys) = same_Some _ _ (c.in-Some.ensures.task c.requires.0 c.requires.1 ∙ c.requires.2.held) in
     let keys = same_Some _ _ (c.in-Some-batch.ensures ∙ ap (λ (z : Held g.row.U-Key.Denot g.row.U-Value.Denot). waits_for z.standing) is) in
     let R = IsAnswer eq m c.args.shared.now.cells c.args.version k x c.args.tasks.now in
     let z : AllZip R w.keys c.loop-asked.answers = subst (λ ks. AllZip R ks c.loop-asked.answers) (all_taken arc_value c.keys-keys.result.now c.loop-asked.asked-index c.loop-asked-test.false ∙ (c.keys-keys.ensures ∙ keys)) c.loop-asked.invariant in
@@ -61,9 +61,9 @@ returns g c q at =
     let j = c.requires.0 in
     let w = c.requires.2.waits in
     let R = IsAnswer eq m c.args.shared.now.cells c.args.version k x c.args.tasks.now in
-    let is : c.in-Some.task.now ≡ held_of w.job (IsWaiting w.keys) = same_Some _ _ (c.in-Some.ensures c.requires.0 c.requires.1 ∙ c.requires.2.held) in
+    let is : c.in-Some.task.now ≡ held_of w.job (IsWaiting w.keys) = same_Some _ _ (c.in-Some.ensures.task c.requires.0 c.requires.1 ∙ c.requires.2.held) in
     let keys = same_Some _ _ (c.in-Some-batch.ensures ∙ ap (λ (z : Held g.row.U-Key.Denot g.row.U-Value.Denot). waits_for z.standing) is) in
     let z : AllZip R w.keys c.loop-asked.answers = subst (λ ks. AllZip R ks c.loop-asked.answers) (all_taken arc_value c.keys-keys.result.now c.loop-asked.asked-index c.loop-asked-test.false ∙ (c.keys-keys.ensures ∙ keys)) c.loop-asked.invariant in
     subst (λ a. IfOk c.next.result (IsAnswered eq m c.args.shared.now.cells c.args.version k x c.args.tasks.now a)) (same_Some j q (sym c.requires.1 ∙ at))
     (IfOk-weaker c.next.result (λ n. FollowsOn c.in-Some.task.now n × (n.values ≡ c.loop-asked.answers)) (IsAnswered eq m c.args.shared.now.cells c.args.version k x c.args.tasks.now j)
-    (λ n h. answered_so eq m c.args.shared.now.cells c.args.version k x c.args.tasks.now j c.in-Some.task.now w n c.loop-asked.answers (sym (c.in-Some.ensures c.requires.0 c.requires.1)) is h.0 h.1 z) c.next.ensures)
+    (λ n h. answered_so eq m c.args.shared.now.cells c.args.version k x c.args.tasks.now j c.in-Some.task.now w n c.loop-asked.answers (sym (c.in-Some.ensures.task c.requires.0 c.requires.1)) is h.0 h.1 z) c.next.ensures)
