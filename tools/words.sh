@@ -1,6 +1,7 @@
 #!/bin/sh
 # Tries how the script `dice` reads words and tells of faults. It needs no rt and builds nothing; not a part of the gate.
-#   tools/words.sh            stand-ins for the program and for rt show what the script hands on
+#   tools/words.sh            stand-ins for the program and for rt show what the script hands on; there is no program at first, and rt
+#                             builds none, so that words end with their own status only if nothing is built
 #   tools/words.sh PROGRAM    also compares some 6,000 lists of words with the verdict of PROGRAM, a build of `dice`, and tries each fault
 here=$(cd "$(dirname "$0")/.." && pwd) || exit 1
 work=$(mktemp -d) || exit 1
@@ -11,14 +12,18 @@ usage='usage: ./dice [--try] run [--workers W] [--trace] < SCRIPT'
 tried=0
 wrong=0
 
-# A copy of the script, where a stand-in for the program writes the words that it gets.
+# A copy of the script, with a stand-in for rt.
 mkdir -p "$work/bin" "$work/docs" "$work/crates/dice_cli/out" || exit 1
-cp "$here/dice" "$work/dice" && cp "$here/docs/faults.tsv" "$work/docs" || exit 1
-# shellcheck disable=SC2016
-printf '#!/bin/sh\necho "program: $*"\n' >"$program"
-# shellcheck disable=SC2016
-printf '#!/bin/sh\ncase $1 in\n    version) echo "the kit" ;;\n    try) echo "rt: $*"; echo "run=ended status=0 " >&2 ;;\n    *) exit 1 ;;\nesac\n' >"$work/bin/rt"
-chmod +x "$program" "$work/bin/rt"
+cp "$here/dice" "$work/dice" && cp "$here/docs/faults.tsv" "$work/docs" && cp "$here/crates.txt" "$work" || exit 1
+cat >"$work/bin/rt" <<'TEXT'
+#!/bin/sh
+case $1 in
+    version) echo "the kit" ;;
+    try) echo "rt: $*"; echo "run=ended status=0 " >&2 ;;
+    *) exit 1 ;;
+esac
+TEXT
+chmod +x "$work/bin/rt"
 PATH="$work/bin:$PATH"
 
 fail() {
@@ -65,7 +70,11 @@ answered() {
     [ "$(sed -n 2p "$work/output")" = "the kit" ] || fail "no line of the kit"
 }
 
+# The stand-in for the program writes the words that it gets.
 handed_on() {
+    # shellcheck disable=SC2016
+    printf '#!/bin/sh\necho "program: $*"\n' >"$program"
+    chmod +x "$program"
     answers 'program: run' run
     answers 'program: run --' run --
     answers 'program: run --workers 0' run --workers 0
@@ -194,9 +203,18 @@ faults() {
     faulty 'script too long' "%04194305d"
 }
 
+# Without a program other words want a build, and a usage that cannot be written does not.
+unbuilt() {
+    "$work/dice" --help >/dev/full 2>/dev/null
+    if [ $? -ne 1 ]; then fail "a usage that cannot be written"; fi
+    run bulk 7 </dev/null
+    if [ "$status" -ne 70 ]; then fail "status $status without a program"; fi
+}
+
 answered
-handed_on
 refused
+unbuilt
+handed_on
 words_of_faults
 if [ -n "$real" ]; then
     compared
